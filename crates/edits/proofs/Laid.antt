@@ -1,0 +1,354 @@
+-- The edits in place: what the moved bytes are, and that they are the slots of the edited list.
+use Prim.Native.Nat.{ℕ, zero, suc, _+_, _-_, _*_, _/_, _%_, _≤_, _<_}
+use mathlib.Core.Path.{_≡_, refl, sym, ap, ap₂, _∙_, subst}
+use mathlib.Core.List.{List, [], _∷_, _++_, append-assoc}
+use native.Mathlib.Omega.{arith}
+use native.Mathlib.Numerals.{add-one}
+use lib.ListN.{length, getD, take, drop, length-append, length-take, length-drop, take-append-drop}
+use lib.Seq.{paste, take-paste, drop-paste, take-at, drop-at, take-take, take-add, drop-drop, take-append-le, drop-append-le, take-append-add, drop-append-add, length-take-le, getD-drop}
+use Rattle.rules.specs.declared.Rule.{Rule}
+use Rattle.rules.specs.declared.Numbered.{Numbered}
+use Rattle.image.specs.State.{Ledger, noNumbered}
+use Rattle.edits.specs.Ledger.{Edit, insertAt, removeAt, relocated, placeOf, applied}
+use Rattle.edits.specs.Ledger.Edit.{Add, Drop, Move}
+use Rattle.image.specs.Image.{slotSize, imageSize, two, slotOf, bytesOf, slotStart, listed, flat, headOf, ledgerOf, laid}
+use Rattle.image.proofs.Scan.{length-listed, slot-get, rulesIn, slotIn}
+
+-- each element is a byte
+abbrev pub Small : List ℕ → Type 0
+Small s = (k : ℕ) → getD s k 0 < 256
+
+small-drop : (n : ℕ) (s : List ℕ) → Small s → Small (drop n s)
+small-drop n s h k = subst (λ (x : ℕ). x < 256) (sym (getD-drop n s k 0)) (h (n + k))
+
+twenty : (t : List ℕ) → take 20 t ≡ take 6 t ++ (take 4 (drop 6 t) ++ (take 6 (drop 10 t) ++ take 4 (drop 16 t)))
+twenty t =
+    take-add 6 14 t
+    ∙ ap (λ (q : List ℕ). take 6 t ++ q)
+    (take-add 4 10 (drop 6 t)
+    ∙ ap (λ (q : List ℕ). take 4 (drop 6 t) ++ q)
+    (ap (take 10) (drop-drop 4 6 t) ∙ (take-add 6 4 (drop 10 t) ∙ ap (λ (q : List ℕ). take 6 (drop 10 t) ++ take 4 q) (drop-drop 6 10 t))))
+
+-- a slot read and written again is the same bytes
+bytes-slot : (s : List ℕ) → 26 ≤ length s → getD s 1 0 < 256 → bytesOf (slotOf s) ≡ take 26 s
+unfolding bytesOf slotOf
+bytes-slot [] h u = absurd (omega arith)
+bytes-slot (a ∷ []) h u = absurd (omega arith)
+bytes-slot (a ∷ b ∷ []) h u = absurd (omega arith)
+bytes-slot (a ∷ b ∷ c ∷ []) h u = absurd (omega arith)
+bytes-slot (a ∷ b ∷ c ∷ d ∷ []) h u = absurd (omega arith)
+bytes-slot (a ∷ b ∷ c ∷ d ∷ e ∷ []) h u = absurd (omega arith)
+bytes-slot (a ∷ b ∷ c ∷ d ∷ e ∷ f ∷ t) h u =
+    let x : (256 * a + b) / 256 ≡ a = omega arith in
+    let y : (256 * a + b) % 256 ≡ b = omega arith in
+    rw (x, y, twenty t)
+
+flat-append : (l m : List Numbered) → flat (l ++ m) ≡ flat l ++ flat m
+flat-append [] m = refl
+flat-append (x ∷ l) m = ap (λ (q : List ℕ). bytesOf x ++ q) (flat-append l m) ∙ sym (append-assoc (bytesOf x) (flat l) (flat m))
+
+flat-listed : (n : ℕ) (s : List ℕ) → Small s → slotSize * n ≤ length s → flat (listed n s) ≡ take (slotSize * n) s
+flat-listed zero s h u = refl
+flat-listed (suc n) s h u =
+    let e : 26 + slotSize * n ≡ slotSize * suc n = omega arith in
+    ap₂ _++_ (bytes-slot s (omega arith) (h 1)) (flat-listed n (drop slotSize s) (small-drop slotSize s h) (simp length-drop (omega arith)))
+    ∙ (sym (take-add 26 (slotSize * n) s) ∙ ap (λ (k : ℕ). take k s) e)
+
+take-listed : (p n : ℕ) (s : List ℕ) → p ≤ n → take p (listed n s) ≡ listed p s
+take-listed zero n s h = refl
+take-listed (suc p) zero s h = absurd (omega arith)
+take-listed (suc p) (suc n) s h = ap (λ (q : List Numbered). slotOf s ∷ q) (take-listed p n (drop slotSize s) (omega arith))
+
+drop-listed : (p m : ℕ) (s : List ℕ) → drop p (listed (p + m) s) ≡ listed m (drop (slotSize * p) s)
+drop-listed zero m s = let e : 0 + m ≡ m = omega arith in ap (λ (k : ℕ). listed k s) e
+drop-listed (suc p) m s =
+    let e : suc p + m ≡ suc (p + m) = omega arith in
+    let f : 26 + slotSize * p ≡ slotSize * suc p = omega arith in
+    ap (λ (k : ℕ). drop (suc p) (listed k s)) e
+    ∙ (drop-listed p m (drop slotSize s) ∙ ap (listed m) (drop-drop (slotSize * p) 26 s ∙ ap (λ (k : ℕ). drop k s) f))
+
+module _ {ℓ} {A : Type ℓ} where
+  insert-split : (p : ℕ) (x : A) (l : List A) → p ≤ length l → insertAt p x l ≡ take p l ++ (x ∷ drop p l)
+  insert-split zero x l h = refl
+  insert-split (suc p) x [] h = absurd (omega arith)
+  insert-split (suc p) x (y ∷ l) h = ap (λ (m : List A). y ∷ m) (insert-split p x l (omega arith))
+
+  remove-split : (k : ℕ) (l : List A) → k < length l → removeAt k l ≡ take k l ++ drop (suc k) l
+  remove-split k [] h = absurd (omega arith)
+  remove-split zero (y ∷ l) h = refl
+  remove-split (suc k) (y ∷ l) h = ap (λ (m : List A). y ∷ m) (remove-split k l (omega arith))
+
+  pub length-removeAt : (k : ℕ) (l : List A) → k < length l → length (removeAt k l) ≡ length l - 1
+  length-removeAt k [] h = absurd (omega arith)
+  length-removeAt zero (y ∷ l) h = omega arith
+  length-removeAt (suc k) (y ∷ l) h = omega (arith, length-removeAt k l (omega arith))
+
+  pub length-insertAt : (p : ℕ) (x : A) (l : List A) → p ≤ length l → length (insertAt p x l) ≡ length l + 1
+  length-insertAt zero x l h = omega arith
+  length-insertAt (suc p) x [] h = absurd (omega arith)
+  length-insertAt (suc p) x (y ∷ l) h = omega (arith, length-insertAt p x l (omega arith))
+
+  -- an element moved up, and moved down
+  move-up : (k q : ℕ) (x : A) (l : List A) → k + q < length l
+      → insertAt (k + q) x (removeAt k l) ≡ take k l ++ (take q (drop (suc k) l) ++ (x ∷ drop (suc (k + q)) l))
+  move-up k q x l h =
+      let a : length (take k l) ≡ k = length-take-le k l (omega arith) in
+      let r : removeAt k l ≡ take k l ++ drop (suc k) l = remove-split k l (omega arith) in
+      let e : length (take k l) + q ≡ k + q = omega arith in
+      let f : suc k + q ≡ suc (k + q) = omega arith in
+      insert-split (k + q) x (removeAt k l) (omega (arith, length-removeAt k l (omega arith)))
+      ∙ (ap₂ (λ (u v : List A). u ++ (x ∷ v))
+      (ap (take (k + q)) r ∙ (ap (λ (n : ℕ). take n (take k l ++ drop (suc k) l)) (sym e) ∙ take-append-add (take k l) (drop (suc k) l) q))
+      (ap (drop (k + q)) r ∙ (ap (λ (n : ℕ). drop n (take k l ++ drop (suc k) l)) (sym e) ∙ (drop-append-add (take k l) (drop (suc k) l) q
+      ∙ (drop-drop q (suc k) l ∙ ap (λ (n : ℕ). drop n l) f))))
+      ∙ append-assoc (take k l) (take q (drop (suc k) l)) (x ∷ drop (suc (k + q)) l))
+
+  move-down : (p q : ℕ) (x : A) (l : List A) → p + q < length l
+      → insertAt p x (removeAt (p + q) l) ≡ take p l ++ (x ∷ (take q (drop p l) ++ drop (suc (p + q)) l))
+  move-down p q x l h =
+      let a : length (take (p + q) l) ≡ p + q = length-take-le (p + q) l (omega arith) in
+      let b : length (take p l) ≡ p = length-take-le p l (omega arith) in
+      let r : removeAt (p + q) l ≡ take (p + q) l ++ drop (suc (p + q)) l = remove-split (p + q) l h in
+      let s : take (p + q) l ≡ take p l ++ take q (drop p l) = take-add p q l in
+      let t : removeAt (p + q) l ≡ take p l ++ (take q (drop p l) ++ drop (suc (p + q)) l) =
+      r ∙ (ap (λ (u : List A). u ++ drop (suc (p + q)) l) s ∙ append-assoc (take p l) (take q (drop p l)) (drop (suc (p + q)) l)) in
+      insert-split p x (removeAt (p + q) l) (omega (arith, length-removeAt (p + q) l h))
+      ∙ ap₂ (λ (u v : List A). u ++ (x ∷ v))
+      (ap (take p) t ∙ take-at (take p l) (take q (drop p l) ++ drop (suc (p + q)) l) p b)
+      (ap (drop p) t ∙ drop-at (take p l) (take q (drop p l) ++ drop (suc (p + q)) l) p b)
+
+-- the slots of the rules from a on, m of them, as bytes of the image
+abbrev run : List ℕ → ℕ → ℕ → List ℕ
+run img a m = take (slotSize * m) (drop (slotStart a) img)
+
+module _ (img : List ℕ) (small : Small img) (n : ℕ) (fits : slotStart n ≤ length img) where
+  -- the slots of the first p rules
+  front : (p : ℕ) → p ≤ n → flat (take p (rulesIn n img)) ≡ take (slotSize * p) (drop 4 img)
+  front p h =
+      ap flat (take-listed p n (drop 4 img) h)
+      ∙ flat-listed p (drop 4 img) (small-drop 4 img small) (simp length-drop (omega arith))
+
+  back-at : (a m : ℕ) → a + m ≡ n → drop a (rulesIn n img) ≡ listed m (drop (slotStart a) img)
+  back-at a m e =
+      ap (λ (k : ℕ). drop a (listed k (drop 4 img))) (sym e)
+      ∙ (drop-listed a m (drop 4 img) ∙ ap (listed m) (drop-drop (slotSize * a) 4 img))
+
+  middle : (a q m : ℕ) → a + m ≡ n → q ≤ m → flat (take q (drop a (rulesIn n img))) ≡ run img a q
+  middle a q m e h =
+      ap (λ (l : List Numbered). flat (take q l)) (back-at a m e)
+      ∙ (ap flat (take-listed q m (drop (slotStart a) img) h)
+      ∙ flat-listed q (drop (slotStart a) img) (small-drop (slotStart a) img small) (simp length-drop (omega arith)))
+
+  -- the slots from a on and what lies past the slots in use
+  rest : (a m : ℕ) → a + m ≡ n → flat (drop a (rulesIn n img)) ++ drop (slotStart n) img ≡ drop (slotStart a) img
+  rest a m e =
+      let f : slotStart a + slotSize * m ≡ slotStart n = omega arith in
+      ap₂ _++_
+      (ap flat (back-at a m e) ∙ flat-listed m (drop (slotStart a) img) (small-drop (slotStart a) img small) (simp length-drop (omega arith)))
+      (ap (λ (k : ℕ). drop k img) (sym f) ∙ sym (drop-drop (slotSize * m) (slotStart a) img))
+      ∙ take-append-drop (slotSize * m) (drop (slotStart a) img)
+
+  -- the body of the image once a rule was put in, was taken out, or was moved
+  pub insert-body : (p m : ℕ) (x : Numbered) → p + m ≡ n
+      → flat (insertAt p x (rulesIn n img)) ≡ take (slotSize * p) (drop 4 img) ++ (bytesOf x ++ run img p m)
+  insert-body p m x e =
+      ap flat (insert-split p x (rulesIn n img) (omega (arith, length-listed n (drop 4 img))))
+      ∙ (flat-append (take p (rulesIn n img)) (x ∷ drop p (rulesIn n img))
+      ∙ ap₂ (λ (u v : List ℕ). u ++ (bytesOf x ++ v)) (front p (omega arith))
+      (ap flat (back-at p m e) ∙ flat-listed m (drop (slotStart p) img) (small-drop (slotStart p) img small) (simp length-drop (omega arith))))
+
+  pub remove-body : (k m : ℕ) → suc k + m ≡ n
+      → flat (removeAt k (rulesIn n img)) ≡ take (slotSize * k) (drop 4 img) ++ run img (suc k) m
+  remove-body k m e =
+      ap flat (remove-split k (rulesIn n img) (omega (arith, length-listed n (drop 4 img))))
+      ∙ (flat-append (take k (rulesIn n img)) (drop (suc k) (rulesIn n img))
+      ∙ ap₂ _++_ (front k (omega arith))
+      (ap flat (back-at (suc k) m e) ∙ flat-listed m (drop (slotStart (suc k)) img) (small-drop (slotStart (suc k)) img small) (simp length-drop (omega arith))))
+
+  pub up-body : (k q : ℕ) (x : Numbered) → k + q < n
+      → flat (insertAt (k + q) x (removeAt k (rulesIn n img))) ++ drop (slotStart n) img
+      ≡ take (slotSize * k) (drop 4 img) ++ (run img (suc k) q ++ (bytesOf x ++ drop (slotStart (suc (k + q))) img))
+  up-body k q x h =
+      let l : List Numbered = rulesIn n img in
+      ap (λ (t : List Numbered). flat t ++ drop (slotStart n) img) (move-up k q x l (omega (arith, length-listed n (drop 4 img))))
+      ∙ (ap (λ (t : List ℕ). t ++ drop (slotStart n) img)
+      (flat-append (take k l) (take q (drop (suc k) l) ++ (x ∷ drop (suc (k + q)) l))
+      ∙ ap₂ _++_ (front k (omega arith))
+      (flat-append (take q (drop (suc k) l)) (x ∷ drop (suc (k + q)) l)
+      ∙ ap (λ (t : List ℕ). t ++ (bytesOf x ++ flat (drop (suc (k + q)) l))) (middle (suc k) q (n - suc k) (omega arith) (omega arith))))
+      ∙ (simp append-assoc
+      (ap (λ (t : List ℕ). take (slotSize * k) (drop 4 img) ++ (run img (suc k) q ++ (bytesOf x ++ t))) (rest (suc (k + q)) (n - suc (k + q)) (omega arith)))))
+
+  pub down-body : (p q : ℕ) (x : Numbered) → p + q < n
+      → flat (insertAt p x (removeAt (p + q) (rulesIn n img))) ++ drop (slotStart n) img
+      ≡ take (slotSize * p) (drop 4 img) ++ (bytesOf x ++ (run img p q ++ drop (slotStart (suc (p + q))) img))
+  down-body p q x h =
+      let l : List Numbered = rulesIn n img in
+      ap (λ (t : List Numbered). flat t ++ drop (slotStart n) img) (move-down p q x l (omega (arith, length-listed n (drop 4 img))))
+      ∙ (ap (λ (t : List ℕ). t ++ drop (slotStart n) img)
+      (flat-append (take p l) (x ∷ (take q (drop p l) ++ drop (suc (p + q)) l))
+      ∙ ap₂ (λ (u v : List ℕ). u ++ (bytesOf x ++ v)) (front p (omega arith))
+      (flat-append (take q (drop p l)) (drop (suc (p + q)) l)
+      ∙ ap (λ (t : List ℕ). t ++ flat (drop (suc (p + q)) l)) (middle p q (n - p) (omega arith) (omega arith))))
+      ∙ (simp append-assoc
+      (ap (λ (t : List ℕ). take (slotSize * p) (drop 4 img) ++ (bytesOf x ++ (run img p q ++ t))) (rest (suc (p + q)) (n - suc (p + q)) (omega arith)))))
+
+-- ---- the bytes after the copies
+
+take-before : (d : List ℕ) (a at : ℕ) (t : List ℕ) (n : ℕ) → a ≤ at → at ≤ length d → take a (paste d at t n) ≡ take a d
+take-before d a at t n h u =
+    let l : length (take at d) ≡ at = length-take-le at d u in
+    ap (take a) (append-assoc (take at d) (take n t) (drop (at + n) d))
+    ∙ (take-append-le a (take at d) (take n t ++ drop (at + n) d) (omega arith) ∙ take-take a at d h)
+
+drop-from : (d : List ℕ) (at : ℕ) (t : List ℕ) (n : ℕ) → at ≤ length d → drop at (paste d at t n) ≡ take n t ++ drop (at + n) d
+drop-from d at t n u =
+    ap (drop at) (append-assoc (take at d) (take n t) (drop (at + n) d))
+    ∙ drop-at (take at d) (take n t ++ drop (at + n) d) at (length-take-le at d u)
+
+-- the head goes
+headless : (d : List ℕ) (q : ℕ) (r : List ℕ) → 4 + q ≤ length d → drop 4 (take (4 + q) d ++ r) ≡ take q (drop 4 d) ++ r
+headless d q r h =
+    let l : length (take 4 d) ≡ 4 = length-take-le 4 d (omega arith) in
+    ap (λ (t : List ℕ). drop 4 (t ++ r)) (take-add 4 q d)
+    ∙ (ap (drop 4) (append-assoc (take 4 d) (take q (drop 4 d)) r) ∙ drop-at (take 4 d) (take q (drop 4 d) ++ r) 4 l)
+
+-- q slots from place p on are moved up by one, and y is put at p
+pub opened : (d e f : List ℕ) (p q m : ℕ) (y : List ℕ) → slotStart (suc (p + q)) ≤ length d → m ≡ slotSize * q
+    → e ≡ paste d (slotStart p + 26) (drop (slotStart p) d) m
+    → f ≡ take (slotStart p) e ++ (y ++ drop (slotStart p + 26) e)
+    → drop 4 f ≡ take (slotSize * p) (drop 4 d) ++ (y ++ (run d p q ++ drop (slotStart (suc (p + q))) d))
+opened d e f p q m y h z u v =
+    let w : slotStart p + 26 + m ≡ slotStart (suc (p + q)) = omega arith in
+    let a : take (slotStart p) e ≡ take (slotStart p) d =
+    ap (take (slotStart p)) u ∙ take-before d (slotStart p) (slotStart p + 26) (drop (slotStart p) d) m (omega arith) (omega arith) in
+    let b : drop (slotStart p + 26) e ≡ run d p q ++ drop (slotStart (suc (p + q))) d =
+    ap (drop (slotStart p + 26)) u ∙ (drop-from d (slotStart p + 26) (drop (slotStart p) d) m (omega arith)
+    ∙ ap₂ (λ (i j : ℕ). take i (drop (slotStart p) d) ++ drop j d) z w) in
+    ap (drop 4) (v ∙ ap₂ (λ (s t : List ℕ). s ++ (y ++ t)) a b)
+    ∙ headless d (slotSize * p) (y ++ (run d p q ++ drop (slotStart (suc (p + q))) d)) (omega arith)
+
+-- q slots after place k are moved down by one
+pub closed : (d e : List ℕ) (k q m : ℕ) → slotStart (suc (k + q)) ≤ length d → m ≡ slotSize * q
+    → e ≡ paste d (slotStart k) (drop (slotStart k + 26) d) m
+    → drop 4 e ≡ take (slotSize * k) (drop 4 d) ++ (run d (suc k) q ++ drop (slotStart (k + q)) d)
+closed d e k q m h z u =
+    let w : slotStart k + m ≡ slotStart (k + q) = omega arith in
+    let s : slotStart k + 26 ≡ slotStart (suc k) = omega arith in
+    ap (drop 4) (u ∙ (append-assoc (take (slotStart k) d) (take m (drop (slotStart k + 26) d)) (drop (slotStart k + m) d)
+    ∙ ap₂ (λ (i j : ℕ). take (slotStart k) d ++ (take m (drop i d) ++ drop j d)) s w))
+    ∙ (headless d (slotSize * k) (take m (drop (slotStart (suc k)) d) ++ drop (slotStart (k + q)) d) (omega arith)
+    ∙ ap (λ (i : ℕ). take (slotSize * k) (drop 4 d) ++ (take i (drop (slotStart (suc k)) d) ++ drop (slotStart (k + q)) d)) z)
+
+-- the same, with y then put where they end
+pub closed-put : (d e f : List ℕ) (k q m : ℕ) (y : List ℕ) → slotStart (suc (k + q)) ≤ length d → m ≡ slotSize * q
+    → e ≡ paste d (slotStart k) (drop (slotStart k + 26) d) m
+    → f ≡ take (slotStart (k + q)) e ++ (y ++ drop (slotStart (k + q) + 26) e)
+    → drop 4 f ≡ take (slotSize * k) (drop 4 d) ++ (run d (suc k) q ++ (y ++ drop (slotStart (suc (k + q))) d))
+closed-put d e f k q m y h z u v =
+    let w : slotStart k + m ≡ slotStart (k + q) = omega arith in
+    let s : slotStart k + 26 ≡ slotStart (suc k) = omega arith in
+    let o : slotStart (k + q) + 26 ≡ slotStart (suc (k + q)) = omega arith in
+    let g : m ≤ length (drop (slotStart k + 26) d) = simp length-drop (omega arith) in
+    let a : take (slotStart (k + q)) e ≡ take (slotStart k) d ++ run d (suc k) q =
+    ap₂ take (sym w) u ∙ (take-paste d (slotStart k) (drop (slotStart k + 26) d) m (omega arith) g
+    ∙ ap₂ (λ (i j : ℕ). take (slotStart k) d ++ take i (drop j d)) z s) in
+    let b : drop (slotStart (k + q)) e ≡ drop (slotStart (k + q)) d =
+    ap₂ drop (sym w) u ∙ (drop-paste d (slotStart k) (drop (slotStart k + 26) d) m (omega arith) g ∙ ap (λ (i : ℕ). drop i d) w) in
+    let b′ : drop (slotStart (k + q) + 26) e ≡ drop (slotStart (suc (k + q))) d =
+    sym (drop-drop slotSize (slotStart (k + q)) e) ∙ (ap (drop 26) b ∙ (drop-drop slotSize (slotStart (k + q)) d ∙ ap (λ (i : ℕ). drop i d) o)) in
+    ap (drop 4) (v ∙ (ap₂ (λ (i j : List ℕ). i ++ (y ++ j)) a b′ ∙ append-assoc (take (slotStart k) d) (run d (suc k) q) (y ++ drop (slotStart (suc (k + q))) d)))
+    ∙ headless d (slotSize * k) (run d (suc k) q ++ (y ++ drop (slotStart (suc (k + q))) d)) (omega arith)
+
+-- ---- the state laid in the image
+
+laid-by : (g : Ledger) (d f e : List ℕ) (n l : ℕ) → length (g .list) ≡ n → g .last ≡ l → e ≡ headOf n l ++ drop 4 f
+    → drop 4 f ≡ flat (g .list) ++ drop (slotStart n) d → e ≡ laid g d
+laid-by g d f e n l a b h u =
+    h ∙ (ap (λ (t : List ℕ). headOf n l ++ t) u
+    ∙ ap₂ (λ (i j : ℕ). headOf i j ++ (flat (g .list) ++ drop (slotStart i) d)) (sym a) (sym b))
+
+module _ (d : List ℕ) (small : Small d) (fits : imageSize ≤ length d) (count last : ℕ) (c : count ≡ two 0 d) (l : last ≡ two 2 d) (le : count ≤ 512) where
+  same-list : ledgerOf d .list ≡ rulesIn count d
+  same-list = ap (λ (n : ℕ). listed n (drop 4 d)) (sym c)
+
+  pub insert-laid : (rule : Rule) (p : ℕ) (e f z : List ℕ) → p ≤ count → count < 512
+      → e ≡ paste d (slotStart p + 26) (drop (slotStart p) d) (slotSize * (count - p))
+      → f ≡ take (slotStart p) e ++ (bytesOf (record { number = last + 1; rule = rule }) ++ drop (slotStart p + 26) e)
+      → z ≡ headOf (count + 1) (last + 1) ++ drop 4 f
+      → z ≡ laid (applied (ledgerOf d) (Add rule p)) d
+  insert-laid rule p e f z hp hn he hf hz =
+      let x : Numbered = record { number = last + 1; rule = rule } in
+      let k : p + (count - p) ≡ count = omega arith in
+      let s : slotStart (suc (p + (count - p))) ≡ slotStart (count + 1) = omega arith in
+      let g : Ledger = record { list = insertAt p x (rulesIn count d); last = last + 1 } in
+      let same : g ≡ applied (ledgerOf d) (Add rule p) =
+      ap₂ (λ (i j : ℕ). record { list = insertAt p (record { number = j + 1; rule = rule }) (listed i (drop 4 d)); last = j + 1 }) c l in
+      laid-by g d f z (count + 1) (last + 1)
+      (length-insertAt p x (rulesIn count d) (omega (arith, length-listed count (drop 4 d))) ∙ ap (λ (i : ℕ). i + 1) (length-listed count (drop 4 d)))
+      refl hz
+      (opened d e f p (count - p) (slotSize * (count - p)) (bytesOf x) (omega arith) refl he hf
+      ∙ (ap (λ (i : ℕ). take (slotSize * p) (drop 4 d) ++ (bytesOf x ++ (run d p (count - p) ++ drop i d))) s
+      ∙ (simp append-assoc refl
+      ∙ ap (λ (t : List ℕ). t ++ drop (slotStart (count + 1)) d) (sym (insert-body d small count (omega arith) p (count - p) x k)))))
+      ∙ ap (λ (q : Ledger). laid q d) same
+
+  module _ (k n : ℕ) (hk : k < count) (found : k ≡ placeOf n (rulesIn count d)) where
+    at-place : placeOf n (ledgerOf d .list) ≡ k
+    at-place = ap (placeOf n) same-list ∙ sym found
+
+    pub remove-laid : (e z : List ℕ) → e ≡ paste d (slotStart k) (drop (slotStart k + 26) d) (slotSize * (count - 1 - k))
+        → z ≡ headOf (count - 1) last ++ drop 4 e
+        → z ≡ laid (applied (ledgerOf d) (Drop n)) d
+    remove-laid e z he hz =
+        let s : slotStart (k + (count - 1 - k)) ≡ slotStart (count - 1) = omega arith in
+        let j : suc k + (count - 1 - k) ≡ count = omega arith in
+        let g : Ledger = record { list = removeAt k (rulesIn count d); last = last } in
+        let same : g ≡ applied (ledgerOf d) (Drop n) =
+        ap₂ (λ (t : List Numbered) (i : ℕ). record { list = removeAt k t; last = i }) (sym same-list) l
+        ∙ ap (λ (i : ℕ). record { list = removeAt i (ledgerOf d .list); last = two 2 d }) (sym at-place) in
+        laid-by g d e z (count - 1) last
+        (length-removeAt k (rulesIn count d) (omega (arith, length-listed count (drop 4 d))) ∙ ap (λ (i : ℕ). i - 1) (length-listed count (drop 4 d)))
+        refl hz
+        (closed d e k (count - 1 - k) (slotSize * (count - 1 - k)) (omega arith) refl he
+        ∙ (ap (λ (i : ℕ). take (slotSize * k) (drop 4 d) ++ (run d (suc k) (count - 1 - k) ++ drop i d)) s
+        ∙ (sym (append-assoc (take (slotSize * k) (drop 4 d)) (run d (suc k) (count - 1 - k)) (drop (slotStart (count - 1)) d))
+        ∙ ap (λ (t : List ℕ). t ++ drop (slotStart (count - 1)) d) (sym (remove-body d small count (omega arith) k (count - 1 - k) j)))))
+        ∙ ap (λ (q : Ledger). laid q d) same
+
+    module _ (p : ℕ) (hp : p < count) (x : Numbered) (is : x ≡ slotIn d k) (f z : List ℕ) (hz : z ≡ headOf count last ++ drop 4 f) where
+      move-by : drop 4 f ≡ flat (insertAt p x (removeAt k (rulesIn count d))) ++ drop (slotStart count) d → z ≡ laid (applied (ledgerOf d) (Move n p)) d
+      move-by u =
+          let g : Ledger = record { list = insertAt p x (removeAt k (rulesIn count d)); last = last } in
+          let y : x ≡ getD (rulesIn count d) k noNumbered = is ∙ sym (slot-get d count k hk) in
+          let same : g ≡ applied (ledgerOf d) (Move n p) =
+          ap₂ (λ (t : Numbered) (i : ℕ). record { list = insertAt p t (removeAt k (rulesIn count d)); last = i }) y l
+          ∙ (ap (λ (t : List Numbered). record { list = relocated k p t; last = two 2 d }) (sym same-list)
+          ∙ ap (λ (i : ℕ). record { list = relocated i p (ledgerOf d .list); last = two 2 d }) (sym at-place)) in
+          let r : length (removeAt k (rulesIn count d)) ≡ count - 1 =
+          length-removeAt k (rulesIn count d) (omega (arith, length-listed count (drop 4 d))) ∙ ap (λ (i : ℕ). i - 1) (length-listed count (drop 4 d)) in
+          laid-by g d f z count last
+          (omega (arith, length-insertAt p x (removeAt k (rulesIn count d)) (omega arith)))
+          refl hz u
+          ∙ ap (λ (q : Ledger). laid q d) same
+
+      pub up-laid : (e : List ℕ) → k < p → e ≡ paste d (slotStart k) (drop (slotStart k + 26) d) (slotSize * (p - k))
+          → f ≡ take (slotStart p) e ++ (bytesOf x ++ drop (slotStart p + 26) e)
+          → z ≡ laid (applied (ledgerOf d) (Move n p)) d
+      up-laid e lt he hf =
+          let w : k + (p - k) ≡ p = omega arith in
+          move-by
+          (closed-put d e f k (p - k) (slotSize * (p - k)) (bytesOf x) (omega arith) refl he
+          (hf ∙ ap (λ (i : ℕ). take (slotStart i) e ++ (bytesOf x ++ drop (slotStart i + 26) e)) (sym w))
+          ∙ (sym (up-body d small count (omega arith) k (p - k) x (omega arith))
+          ∙ ap (λ (i : ℕ). flat (insertAt i x (removeAt k (rulesIn count d))) ++ drop (slotStart count) d) w))
+
+      pub down-laid : (e : List ℕ) → p ≤ k → e ≡ paste d (slotStart p + 26) (drop (slotStart p) d) (slotSize * (k - p))
+          → f ≡ take (slotStart p) e ++ (bytesOf x ++ drop (slotStart p + 26) e)
+          → z ≡ laid (applied (ledgerOf d) (Move n p)) d
+      down-laid e ge he hf =
+          let w : p + (k - p) ≡ k = omega arith in
+          move-by
+          (opened d e f p (k - p) (slotSize * (k - p)) (bytesOf x) (omega arith) refl he hf
+          ∙ (sym (down-body d small count (omega arith) p (k - p) x (omega arith))
+          ∙ ap (λ (i : ℕ). flat (insertAt p x (removeAt i (rulesIn count d))) ++ drop (slotStart count) d) w))

@@ -1,0 +1,4 @@
+pub mod Laid
+pub mod Answers
+pub mod Kept
+pub mod History

@@ -1,0 +1,93 @@
+use Prim.Native.Nat.{ℕ, suc, _+_, _-_, _*_, _/_, _%_, _^_, _≤_, _<_}
+use mathlib.Core.Path.{_≡_, refl, sym, ap, _∙_}
+use mathlib.Core.List.{List, _∷_, _++_}
+use mathlib.Core.Bool.{Bool, true, false}
+use native.Mathlib.Omega.{arith}
+use borrow.Author.Needs.{needs}
+use borrow.Author.Tests.{not-true, not-false, le-leb, lt-leb}
+use lib.ListN.{length, getD, take, drop, set, length-set, length-drop, replicate}
+use Rattle.image.specs.Image.{two, slotOf, bytesOf, slotStart, listed, headOf, valid}
+use Rattle.image.specs.State.{entries, distinct, member, noNumbered}
+use Rattle.edits.specs.Ledger.{placeOf}
+use Rattle.image.proofs.Scan.{rulesIn}
+use Rattle.image.proofs.Tests.{valid-long, valid-count}
+use Rattle.edits.proofs.Answers.{invalid, add-shape, add-place, add-full, add-last, add-yes, drop-none, drop-yes, move-none, move-place, move-yes}
+use Rattle.edits.proofs.add_rule.Statement.{statement}
+use Rattle.edits.proofs.add_rule.Tie as tie
+
+is-ruleset-requires : tie.Need-is-ruleset-requires
+is-ruleset-requires c κs = search needs
+
+same-length : tie.Need-same-length
+same-length c = search needs
+
+returns : tie.Need-returns
+returns c = invalid (c .before .before .before .before .args .image .now) _ (sym (c .before .is-ruleset .ensures) ∙ not-true _ (c .if1 .taken))
+
+well-shaped-requires : tie.Need-well-shaped-requires
+well-shaped-requires c κs = search needs
+
+same-length-2 : tie.Need-same-length-2
+same-length-2 c = search needs
+
+returns-2 : tie.Need-returns-2
+returns-2 c = add-shape (c .before .before .before .before .before .before .args .image .now) (sym (c .before .before .before .is-ruleset .ensures) ∙ not-false _ (c .before .before .if1 .left)) (two 0 (c .before .before .before .before .before .before .args .image .now)) refl (c .before .before .before .before .before .before .args .rule) (c .before .before .before .before .before .before .args .p) (sym (c .before .well-shaped .ensures) ∙ not-true _ (c .if2 .taken))
+
+two-at-requires : tie.Need-two-at-requires
+two-at-requires c κs = omega (arith, valid-long (c .before .before .before .before .before .before .before .args .image .now) (sym (c .before .before .before .before .is-ruleset .ensures) ∙ not-false _ (c .before .before .before .if1 .left)))
+
+cast-count : tie.Need-cast-count
+cast-count c = search needs
+
+same-length-3 : tie.Need-same-length-3
+same-length-3 c = search needs
+
+returns-3 : tie.Need-returns-3
+returns-3 c = add-place (c .before .before .before .before .before .before .before .before .before .args .image .now) (sym (c .before .before .before .before .before .before .is-ruleset .ensures) ∙ not-false _ (c .before .before .before .before .before .if1 .left)) _ (c .before .two-at .ensures) (c .before .before .before .before .before .before .before .before .before .args .rule) (c .before .before .before .before .before .before .before .before .before .args .p) (sym (c .before .before .before .before .well-shaped .ensures) ∙ not-false _ (c .before .before .before .if2 .left)) (c .if3 .taken)
+
+same-length-4 : tie.Need-same-length-4
+same-length-4 c = search needs
+
+returns-4 : tie.Need-returns-4
+returns-4 c = add-full (c .before .before .before .before .before .before .before .before .before .before .args .image .now) (sym (c .before .before .before .before .before .before .before .is-ruleset .ensures) ∙ not-false _ (c .before .before .before .before .before .before .if1 .left)) _ (c .before .before .two-at .ensures) (c .before .before .before .before .before .before .before .before .before .before .args .rule) (c .before .before .before .before .before .before .before .before .before .before .args .p) (sym (c .before .before .before .before .before .well-shaped .ensures) ∙ not-false _ (c .before .before .before .before .if2 .left)) (c .before .if3 .left) (c .if4 .taken)
+
+two-at-requires-2 : tie.Need-two-at-requires-2
+two-at-requires-2 c κs = omega (arith, valid-long (c .before .before .before .before .before .before .before .before .before .before .before .args .image .now) (sym (c .before .before .before .before .before .before .before .before .is-ruleset .ensures) ∙ not-false _ (c .before .before .before .before .before .before .before .if1 .left)))
+
+same-length-5 : tie.Need-same-length-5
+same-length-5 c = search needs
+
+returns-5 : tie.Need-returns-5
+returns-5 c = add-last (c .before .before .before .before .before .before .before .before .before .before .before .before .before .args .image .now) (sym (c .before .before .before .before .before .before .before .before .before .before .is-ruleset .ensures) ∙ not-false _ (c .before .before .before .before .before .before .before .before .before .if1 .left)) _ (c .before .before .before .before .before .two-at .ensures) (c .before .before .before .before .before .before .before .before .before .before .before .before .before .args .rule) (c .before .before .before .before .before .before .before .before .before .before .before .before .before .args .p) (sym (c .before .before .before .before .before .before .before .before .well-shaped .ensures) ∙ not-false _ (c .before .before .before .before .before .before .before .if2 .left)) (c .before .before .before .before .if3 .left) (c .before .before .before .if4 .left) _ (c .before .two-at2 .ensures) (c .if5 .taken)
+
+insert-requires : tie.Need-insert-requires
+insert-requires c κs = (valid-long (c .before .before .before .before .before .before .before .before .before .before .before .before .before .before .args .image .now) (sym (c .before .before .before .before .before .before .before .before .before .before .before .is-ruleset .ensures) ∙ not-false _ (c .before .before .before .before .before .before .before .before .before .before .if1 .left)), (c .before .before .before .before .before .before .two-at .ensures, (c .before .before .two-at2 .ensures, (omega arith, (omega arith, omega arith)))))
+
+same-length-6 : tie.Need-same-length-6
+same-length-6 c = search needs
+
+returns-6 : tie.Need-returns-6
+returns-6 c = add-yes (c .before .before .before .before .before .before .before .before .before .before .before .before .before .before .before .before .before .args .image .now) (sym (c .before .before .before .before .before .before .before .before .before .before .before .before .before .before .is-ruleset .ensures) ∙ not-false _ (c .before .before .before .before .before .before .before .before .before .before .before .before .before .if1 .left)) _ (c .before .before .before .before .before .before .before .before .before .two-at .ensures) (c .before .before .before .before .before .before .before .before .before .before .before .before .before .before .before .before .before .args .rule) (c .before .before .before .before .before .before .before .before .before .before .before .before .before .before .before .before .before .args .p) (sym (c .before .before .before .before .before .before .before .before .before .before .before .before .well-shaped .ensures) ∙ not-false _ (c .before .before .before .before .before .before .before .before .before .before .before .if2 .left)) (c .before .before .before .before .before .before .before .before .if3 .left) (c .before .before .before .before .before .before .before .if4 .left) _ (c .before .before .before .before .before .two-at2 .ensures) (c .before .before .before .before .if5 .left) _ (c .before .before .insert .ensures)
+
+pub add-rule-spec : {M : Type 1} → statement M
+add-rule-spec =
+    tie.close
+    (tie.spec
+    is-ruleset-requires
+    same-length
+    returns
+    well-shaped-requires
+    same-length-2
+    returns-2
+    two-at-requires
+    cast-count
+    same-length-3
+    returns-3
+    same-length-4
+    returns-4
+    two-at-requires-2
+    same-length-5
+    returns-5
+    insert-requires
+    same-length-6
+    returns-6)

@@ -1,0 +1,33 @@
+-- What an edit does to a ruleset in lent memory, to the last byte.
+use Prim.Native.Nat.{ℕ}
+use mathlib.Core.Path.{_≡_}
+use mathlib.Core.List.{List, [], _∷_}
+use mathlib.Core.Bool.{Bool, true, false}
+use Rattle.rules.specs.Shape.{pick}
+use Rattle.rules.specs.Refusals.{Reply, accepted, declined}
+use Rattle.image.specs.Image.{ledgerOf, laid, valid, Edited, outcome, Filled}
+use Rattle.edits.specs.Ledger.{Edit, judged, applied}
+use Rattle.edits.specs.Ledger.Edit.{Add, Drop, Move}
+
+abbrev pub outcomeBy : Reply → List ℕ → Edit → Edited
+outcomeBy accepted image e = outcome accepted (laid (applied (ledgerOf image) e) image)
+outcomeBy (declined n p) image e = outcome (declined n p) image
+
+-- refusal 0 for memory that is no ruleset, else the ledger's answer and state; a refusal changes no byte
+unfoldable pub edited : List ℕ → Edit → Edited
+edited image e = pick (valid image) (outcomeBy (judged (ledgerOf image) e) image e) (outcome (declined 0 0) image)
+
+-- the arrays of an edit's rule are full, as those of every rule that is handed to the code
+abbrev pub FilledEdit : Edit → Type 0
+FilledEdit (Add r p) = Filled r
+FilledEdit (Drop n) = _≡_ {A = ℕ} 0 0
+FilledEdit (Move n p) = _≡_ {A = ℕ} 0 0
+
+-- the answers and the image of a list of edits, each given the image that the one before left
+abbrev pub outAll : List ℕ → List Edit → List Reply
+outAll image [] = []
+outAll image (e ∷ es) = edited image e .reply ∷ outAll (edited image e .image) es
+
+abbrev pub imageAll : List ℕ → List Edit → List ℕ
+imageAll image [] = image
+imageAll image (e ∷ es) = imageAll (edited image e .image) es

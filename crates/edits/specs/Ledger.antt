@@ -1,0 +1,86 @@
+-- The edits of document 01's ledger: their refusals in order, and the state after them. Places count from 0.
+use Prim.Native.Nat.{ℕ, zero, suc, _+_}
+use mathlib.Core.List.{List, [], _∷_}
+use mathlib.Core.Bool.{Bool, true, false}
+use lib.ListN.{length, getD}
+use lib.Dec.{leb, ltb, eqb}
+use Rattle.rules.specs.Limits.{maxRules, maxNumber}
+use Rattle.rules.specs.Shape.{pick, shape, view}
+use Rattle.rules.specs.Refusals.{Reply, accepted, declined}
+use Rattle.rules.specs.declared.Rule.{Rule}
+use Rattle.rules.specs.declared.Numbered.{Numbered}
+use Rattle.image.specs.State.{Ledger, noNumbered}
+
+pub data Edit : Type 0 where
+  Add : Rule → ℕ → Edit
+  Drop : ℕ → Edit
+  Move : ℕ → ℕ → Edit
+
+-- l with x put before place p
+abbrev pub insertAt {ℓ} : {A : Type ℓ} → ℕ → A → List A → List A
+insertAt zero x l = x ∷ l
+insertAt (suc p) x [] = x ∷ []
+insertAt (suc p) x (y ∷ l) = y ∷ insertAt p x l
+
+-- l without what stands at place k
+abbrev pub removeAt {ℓ} : {A : Type ℓ} → ℕ → List A → List A
+removeAt k [] = []
+removeAt zero (y ∷ l) = l
+removeAt (suc k) (y ∷ l) = y ∷ removeAt k l
+
+-- the place of the rule numbered n, or the length where there is none
+abbrev pub placeOf : ℕ → List Numbered → ℕ
+placeOf n [] = 0
+placeOf n (x ∷ l) = pick (eqb (x .number) n) 0 (suc (placeOf n l))
+
+-- l with what stands at place k taken out and put before place p of the remaining list
+abbrev pub relocated : ℕ → ℕ → List Numbered → List Numbered
+relocated k p l = insertAt p (getD l k noNumbered) (removeAt k l)
+
+-- the answer of an edit: Add 6, 7, 9, 10; Drop 8; Move 8, 7 (against the remaining list)
+unfoldable pub judged : Ledger → Edit → Reply
+judged g (Add r p) =
+    pick (shape (view r))
+    (pick (leb p (length (g .list)))
+    (pick (ltb (length (g .list)) maxRules) (pick (ltb (g .last) maxNumber) accepted (declined 10 0)) (declined 9 0))
+    (declined 7 0))
+    (declined 6 0)
+judged g (Drop n) = pick (ltb (placeOf n (g .list)) (length (g .list))) accepted (declined 8 0)
+judged g (Move n p) =
+    pick (ltb (placeOf n (g .list)) (length (g .list)))
+    (pick (leb p (length (removeAt (placeOf n (g .list)) (g .list)))) accepted (declined 7 0))
+    (declined 8 0)
+
+-- the state after an accepted edit
+abbrev pub applied : Ledger → Edit → Ledger
+applied g (Add r p) = record { list = insertAt p (record { number = g .last + 1; rule = r }) (g .list); last = g .last + 1 }
+applied g (Drop n) = record { list = removeAt (placeOf n (g .list)) (g .list); last = g .last }
+applied g (Move n p) = record { list = relocated (placeOf n (g .list)) p (g .list); last = g .last }
+
+-- the state after an edit that was answered so: a refused one changes nothing
+abbrev pub afterBy : Reply → Ledger → Edit → Ledger
+afterBy accepted g e = applied g e
+afterBy (declined n p) g e = g
+
+abbrev pub after : Ledger → Edit → Ledger
+after g e = afterBy (judged g e) g e
+
+-- the state and the answers of a list of edits, taken in turn
+abbrev pub afterAll : Ledger → List Edit → Ledger
+afterAll g [] = g
+afterAll g (e ∷ es) = afterAll (after g e) es
+
+abbrev pub answersAll : Ledger → List Edit → List Reply
+answersAll g [] = []
+answersAll g (e ∷ es) = judged g e ∷ answersAll (after g e) es
+
+-- the numbers that the accepted additions among the edits got, in turn: the `last` after each
+abbrev pub given : Reply → Edit → ℕ → List ℕ → List ℕ
+given accepted (Add r p) n l = n ∷ l
+given accepted (Drop m) n l = l
+given accepted (Move m p) n l = l
+given (declined x y) e n l = l
+
+abbrev pub issued : Ledger → List Edit → List ℕ
+issued g [] = []
+issued g (e ∷ es) = given (judged g e) e (after g e .last) (issued (after g e) es)
