@@ -125,6 +125,13 @@ history (e ∷ es) w d ok =
     let r = history es (λ k h. w (suc k) (omega arith)) (edited d e .image) (t .kept) in
     (rw (t .reply, ← t .state, r .0), r .1 ∙ ap (λ g. afterAll g es) (t .state))
 
+-- and the image after them is valid
+pub history-valid : (es : List Edit) → ((k : ℕ) → k < length es → FilledEdit (getD es k (Drop 0))) → (d : List ℕ) → valid d ≡ true
+    → valid (imageAll d es) ≡ true
+history-valid [] w d ok = ok
+history-valid (e ∷ es) w d ok =
+    history-valid es (λ k h. w (suc k) (omega arith)) (edited d e .image) (stepped d ok e (w 0 (omega arith)) .kept)
+
 -- each number issued after a state is above its last
 given-above : (g : Ledger) (e : Edit) (a : Reply) (l : List ℕ) → ((k : ℕ) → k < length l → afterBy a g e .last < getD l k 0)
     → (k : ℕ) → k < length (given a e (afterBy a g e .last) l) → g .last < getD (given a e (afterBy a g e .last) l) k 0

@@ -14,6 +14,11 @@ use Rattle.rules.specs.Refusals.{accepted, declined}
 use Rattle.image.specs.Image.{two, listed, headOf, valid, outcome, cleared}
 use Rattle.image.proofs.Scan.{rulesIn}
 
+-- by the two cases of a test
+pub byBool {ℓ} : {A : Type ℓ} (b : Bool) → (b ≡ true → A) → (b ≡ false → A) → A
+byBool true f g = f refl
+byBool false f g = g refl
+
 -- tests joined by pick
 
 pub and-l : (a b : Bool) → pick a b false ≡ true → a ≡ true

@@ -1,0 +1,82 @@
+use Prim.Native.Nat.{ℕ, suc, _+_, _-_, _*_, _/_, _%_, _≤_, _<_}
+use mathlib.Core.Path.{_≡_, refl, sym, ap, _∙_}
+use native.Mathlib.Omega.{arith}
+use borrow.Author.Needs.{needs}
+use lib.ListN.{length, getD, take, drop, length-set}
+use Rattle.rules.specs.Refusals.{replyOf}
+use Rattle.history.proofs.Runs.{edit-add, edit-drop, edit-move, Going, going-start, going-on, going-end}
+use Rattle.history.proofs.replay_all.Statement.{statement}
+use Rattle.history.proofs.replay_all.Tie as tie
+
+abbrev Inv-loop : tie.InvT-loop
+Inv-loop image₀ code answers₀ n i₀ at₀ image answers i at = Going code image₀ answers₀ n image answers i at
+
+abbrev μ-loop : tie.MeasureT-loop
+μ-loop image₀ code answers₀ n i₀ at₀ image answers i at = n - i
+
+loop-holds : tie.Need-loop-holds Inv-loop μ-loop
+loop-holds c = going-start (c .before .before .before .args .code .now) (c .before .before .before .args .image .now) (c .before .before .before .args .answers .now) (c .before .before .before .args .n)
+
+mul-edit : tie.Need-mul-edit Inv-loop μ-loop
+mul-edit c = search needs
+
+sub-edit : tie.Need-sub-edit Inv-loop μ-loop
+sub-edit c = search needs
+
+part-edit-start : tie.Need-part-edit-start Inv-loop μ-loop
+part-edit-start c = search needs
+
+part-edit-end : tie.Need-part-edit-end Inv-loop μ-loop
+part-edit-end c = search needs
+
+edit-requires : tie.Need-edit-requires Inv-loop μ-loop
+edit-requires c κs = search needs
+
+answer-code-requires : tie.Need-answer-code-requires Inv-loop μ-loop
+answer-code-requires c κs = search needs
+
+slice-write-answers : tie.Need-slice-write-answers Inv-loop μ-loop
+slice-write-answers c = search needs
+
+add-i : tie.Need-add-i Inv-loop μ-loop
+add-i c = search needs
+
+add-at : tie.Need-add-at Inv-loop μ-loop
+add-at c = search needs
+
+loop-less : tie.Need-loop-less Inv-loop μ-loop
+loop-less c = search needs
+
+loop-again : tie.Need-loop-again Inv-loop μ-loop
+loop-again c = going-on (c .before .before .before .before .before .before .before .before .before .before .before .args .code .now) (c .before .before .before .before .before .before .before .before .before .before .before .args .image .now) (c .before .before .before .before .before .before .before .before .before .before .before .args .answers .now) (c .before .before .before .before .before .before .before .before .before .before .before .args .n) (c .before .before .before .before .before .before .before .loop .image) (c .before .before .before .before .before .before .before .loop .answers) (c .before .before .before .before .before .before .before .loop .i) (c .before .before .before .before .before .before .before .loop .at) (c .before .before .before .before .before .before .before .loop .inv) (replyOf (c .before .before .before .edit .result)) _ (c .answer-code .result) (omega arith) (omega arith) (search needs) (c .before .before .before .edit .ensures) (c .answer-code .ensures)
+
+same-length : tie.Need-same-length Inv-loop μ-loop
+same-length c = c .before .loop .inv .long
+
+same-length-2 : tie.Need-same-length-2 Inv-loop μ-loop
+same-length-2 c = c .before .loop .inv .size
+
+returns : tie.Need-returns Inv-loop μ-loop
+returns c = going-end (c .before .before .before .before .before .args .code .now) (c .before .before .before .before .before .args .image .now) (c .before .before .before .before .before .args .answers .now) (c .before .before .before .before .before .args .n) (c .before .loop .image) (c .before .loop .answers) (c .before .loop .i) (c .before .loop .at) (c .before .loop .inv) (c .loop-test .left)
+
+pub replay-all-spec : {M : Type 1} → statement M
+replay-all-spec =
+    tie.close
+    (tie.spec
+    Inv-loop
+    μ-loop
+    loop-holds
+    mul-edit
+    sub-edit
+    part-edit-start
+    part-edit-end
+    edit-requires
+    answer-code-requires
+    slice-write-answers
+    add-i
+    add-at
+    loop-less
+    loop-again
+    same-length
+    same-length-2
+    returns)

@@ -1,0 +1,88 @@
+-- Lists of edits as lists of words, 27 words an edit: kind (0 add, 1 drop, else move), number, place, four lengths, then the left, target,
+-- right and phone bytes. A missing word reads as 0.
+use Prim.Native.Nat.{ℕ, zero, suc, _+_, _<_, _%_}
+use mathlib.Core.Path.{_≡_}
+use mathlib.Core.List.{List, [], _∷_, _++_}
+use mathlib.Core.Bool.{Bool, true, false}
+use lib.ListN.{length, getD, drop, replicate}
+use lib.Dec.{eqb}
+use Rattle.rules.specs.Shape.{pick}
+use Rattle.rules.specs.declared.Rule.{Rule}
+use Rattle.edits.specs.Ledger.{Edit}
+use Rattle.edits.specs.Ledger.Edit.{Add, Drop, Move}
+
+-- words of an edit
+abbrev pub editWords : ℕ
+editWords = 27
+
+abbrev pub byteAt : List ℕ → ℕ → ℕ
+byteAt ws k = getD ws k 0 % 256
+
+abbrev pub sixAt : List ℕ → ℕ → List ℕ
+sixAt ws k = byteAt ws k ∷ byteAt ws (k + 1) ∷ byteAt ws (k + 2) ∷ byteAt ws (k + 3) ∷ byteAt ws (k + 4) ∷ byteAt ws (k + 5) ∷ []
+
+abbrev pub fourAt : List ℕ → ℕ → List ℕ
+fourAt ws k = byteAt ws k ∷ byteAt ws (k + 1) ∷ byteAt ws (k + 2) ∷ byteAt ws (k + 3) ∷ []
+
+abbrev pub ruleOf : List ℕ → Rule
+ruleOf ws = record {
+  «left_len» = byteAt ws 3;
+  «target_len» = byteAt ws 4;
+  «right_len» = byteAt ws 5;
+  «phone_len» = byteAt ws 6;
+  left = sixAt ws 7;
+  target = fourAt ws 13;
+  right = sixAt ws 17;
+  phones = fourAt ws 23;
+}
+
+-- the edit that the first 27 words say
+abbrev pub editOf : List ℕ → Edit
+editOf ws =
+    pick (eqb (getD ws 0 0) 0) (Add (ruleOf ws) (getD ws 2 0))
+    (pick (eqb (getD ws 0 0) 1) (Drop (getD ws 1 0 % 65536)) (Move (getD ws 1 0 % 65536) (getD ws 2 0)))
+
+-- the first n edits that the words say
+abbrev pub editsOf : ℕ → List ℕ → List Edit
+editsOf zero ws = []
+editsOf (suc n) ws = editOf ws ∷ editsOf n (drop editWords ws)
+
+-- the words that say an edit
+abbrev pub wordsOf : Edit → List ℕ → List ℕ
+wordsOf (Add r p) ws =
+    0 ∷ 0 ∷ p ∷ r .«left_len» ∷ r .«target_len» ∷ r .«right_len» ∷ r .«phone_len»
+    ∷ getD (r .left) 0 0 ∷ getD (r .left) 1 0 ∷ getD (r .left) 2 0 ∷ getD (r .left) 3 0 ∷ getD (r .left) 4 0 ∷ getD (r .left) 5 0
+    ∷ getD (r .target) 0 0 ∷ getD (r .target) 1 0 ∷ getD (r .target) 2 0 ∷ getD (r .target) 3 0
+    ∷ getD (r .right) 0 0 ∷ getD (r .right) 1 0 ∷ getD (r .right) 2 0 ∷ getD (r .right) 3 0 ∷ getD (r .right) 4 0 ∷ getD (r .right) 5 0
+    ∷ getD (r .phones) 0 0 ∷ getD (r .phones) 1 0 ∷ getD (r .phones) 2 0 ∷ getD (r .phones) 3 0 ∷ ws
+wordsOf (Drop n) ws = 1 ∷ n ∷ replicate 25 0 ++ ws
+wordsOf (Move n p) ws = 2 ∷ n ∷ p ∷ replicate 24 0 ++ ws
+
+abbrev pub wordsAll : List Edit → List ℕ
+wordsAll [] = []
+wordsAll (e ∷ es) = wordsOf e (wordsAll es)
+
+-- n bytes
+abbrev pub Bytes : ℕ → List ℕ → Type 0
+Bytes n l = (length l ≡ n) × ((k : ℕ) → getD l k 0 < 256)
+
+-- a rule whose fields are of the struct's types
+pub record TypedRule (r : Rule) : Type 0 where
+  pub «left-len» : r .«left_len» < 256
+  pub «target-len» : r .«target_len» < 256
+  pub «right-len» : r .«right_len» < 256
+  pub «phone-len» : r .«phone_len» < 256
+  pub left : Bytes 6 (r .left)
+  pub target : Bytes 4 (r .target)
+  pub right : Bytes 6 (r .right)
+  pub phones : Bytes 4 (r .phones)
+
+-- an edit whose arguments are of the functions' types
+abbrev pub Typed : Edit → Type 0
+Typed (Add r p) = TypedRule r
+Typed (Drop n) = n < 65536
+Typed (Move n p) = n < 65536
+
+abbrev pub TypedAll : List Edit → Type 0
+TypedAll [] = Unit
+TypedAll (e ∷ es) = Typed e × TypedAll es
