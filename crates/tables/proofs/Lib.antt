@@ -1,0 +1,4 @@
+pub mod Truth
+pub mod Suffix
+pub mod Trie
+pub mod Numbering
