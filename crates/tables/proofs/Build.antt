@@ -3,8 +3,7 @@
 -- Assumes nothing.
 use mathlib.Core.Path.{_≡_, refl, sym, ap, ap₂, _∙_}
 use mathlib.Core.Logic.{_≢_, _⊎_, inl, inr}
-use Prim.Native.Nat.{ℕ, zero, _≤_, _<_, zero-le, suc-le-suc}
-use native.Mathlib.Omega.{arith}
+use Prim.Native.Nat.{ℕ, zero, _<_, suc-le-suc}
 use mathlib.Core.Bool.{Bool, true, false, cond, _&&_, _||_, or-false, or-true, and-false}
 use mathlib.Core.List.{List, [], _∷_, _++_, map, append-nil, append-assoc}
 use lib.Dec.{eqb, eqb→eq}
@@ -13,7 +12,7 @@ use lib.ListN.{length, getD, List·getD-append}
 use Rattle.reading.specs.Fitting.{Str, same, ends}
 use Rattle.tables.specs.States.{longest, member, index, numberOne, numberAll, prefixes, allPrefixes, states, numbered, entry}
 use Rattle.tables.proofs.Truth.{byBool, clash, contra, true-eq, and-right}
-use Rattle.tables.proofs.Suffix.{same-refl, same-eq, same-snoc, snoc-not-nil, Closed, longest-snoc, longest-fail, longest-self, longest-passes, ends-fail}
+use Rattle.tables.proofs.Suffix.{same-refl, same-eq, same-snoc, snoc-not-nil, Closed, longest-snoc, longest-fail, longest-self, longest-passes, longest-length, ends-fail}
 use Rattle.tables.proofs.Trie.{distinct, failure, child, insert}
 use Rattle.tables.proofs.Numbering.{member-append, member-one, getD-index, index-append, index-new, index-getD, numbered-nil}
 
@@ -143,11 +142,7 @@ module _ (st : List Str) (root : member [] st ≡ true) (closed : Closed (number
 
   -- a failure state's string is shorter
   pub failure-shorter : (q a : ℕ) (s : Str) → getD st q [] ≡ a ∷ s → length (getD st (failure st q) []) < length (getD st q [])
-  failure-shorter q a s e = rw (e, string-of s) (suc-le-suc (longest-length s))
-    where
-      longest-length : (w : Str) → length (longest (numbered st) w) ≤ length w
-      longest-length [] = zero-le
-      longest-length (b ∷ w) = byBool (numbered st (b ∷ w)) (λ t. rw t (omega arith)) (λ t. rw t (let l = longest-length w in omega arith))
+  failure-shorter q a s e = rw (e, string-of s) (suc-le-suc (longest-length (numbered st) s))
 
   -- a pattern that is numbered ends q's string exactly if it is q's string or ends the failure state's
   pub ends-failure : (p : Str) → member p st ≡ true → (q a : ℕ) (s : Str) → getD st q [] ≡ a ∷ s

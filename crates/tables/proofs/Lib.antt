@@ -6,3 +6,4 @@ pub mod Symbols
 pub mod Build
 pub mod Partial
 pub mod Count
+pub mod Sets

@@ -2,17 +2,16 @@
 -- A builder finds a prefix's state and its failure state by running such a table, with no memory of its own.
 -- Assumes nothing.
 use mathlib.Core.Path.{_≡_, refl, sym, ap, _∙_, subst}
-use Prim.Native.Nat.{ℕ, suc, _+_, _≤_, _<_, zero-le}
+use Prim.Native.Nat.{ℕ, suc, _+_, _≤_, _<_}
 use native.Mathlib.Omega.{arith}
 use native.Mathlib.Decide.{decLe}
-use mathlib.Core.Bool.{Bool, true, false}
+use mathlib.Core.Bool.{true}
 use mathlib.Core.List.{List, [], _∷_, _++_, append-nil}
 use lib.Seq.{append-snoc}
 use lib.ListN.{length, getD, length-append}
 use Rattle.reading.specs.Fitting.{Str}
 use Rattle.tables.specs.States.{longest, member, index, numbered, entry}
-use Rattle.tables.proofs.Truth.{byBool}
-use Rattle.tables.proofs.Suffix.{Closed, longest-passes}
+use Rattle.tables.proofs.Suffix.{Closed, longest-passes, longest-length}
 use Rattle.tables.proofs.Trie.{child}
 use Rattle.tables.proofs.Numbering.{getD-index, index-lt}
 use Rattle.tables.proofs.Symbols.{Small}
@@ -25,10 +24,6 @@ run T q (c ∷ w) = run T (T q c) w
 pub record Upto (st : List Str) (d : ℕ) (T : ℕ → ℕ → ℕ) : Type 0 where
   pub final : (q c : ℕ) → q < length st → c < 64 → length (getD st q []) < d → T q c ≡ entry st q c
   pub young : (q c : ℕ) → q < length st → c < 64 → d ≤ length (getD st q []) → T q c ≡ child st q c
-
-longest-length : (P : Str → Bool) (w : Str) → length (longest P w) ≤ length w
-longest-length P [] = zero-le
-longest-length P (b ∷ w) = byBool (P (b ∷ w)) (λ t. rw t (omega arith)) (λ t. rw t (let l = longest-length P w in omega arith))
 
 module _ (st : List Str) (root : member [] st ≡ true) (closed : Closed (numbered st)) (d : ℕ) (T : ℕ → ℕ → ℕ) (u : Upto st d T) where
   -- to a child every row leads alike

@@ -1,10 +1,12 @@
 -- Laws of the longest suffix that passes a test, for a test that a string passes only if the string without its last symbol does.
 -- Assumes nothing.
 use mathlib.Core.Path.{_≡_, refl, sym, ap, _∙_}
-use Prim.Native.Nat.{ℕ}
+use Prim.Native.Nat.{ℕ, _≤_, zero-le}
+use native.Mathlib.Omega.{arith}
 use mathlib.Core.Bool.{Bool, true, false, _&&_, _||_, and-false}
 use mathlib.Core.List.{List, [], _∷_, _++_}
 use lib.Dec.{eqb, eqb→eq, eqb-refl}
+use lib.ListN.{length}
 use Rattle.reading.specs.Fitting.{Str, same, ends}
 use Rattle.tables.specs.States.{longest}
 use Rattle.tables.proofs.Truth.{byBool, clash, contra, eq-true, true-eq, and-left, and-right}
@@ -68,6 +70,10 @@ module _ (P : Str → Bool) where
   pub longest-passes : P [] ≡ true → (w : Str) → P (longest P w) ≡ true
   longest-passes h [] = h
   longest-passes h (a ∷ w) = byBool (P (a ∷ w)) (λ e. rw e e) (λ e. rw e (longest-passes h w))
+
+  pub longest-length : (w : Str) → length (longest P w) ≤ length w
+  longest-length [] = zero-le
+  longest-length (a ∷ w) = byBool (P (a ∷ w)) (λ e. rw e (omega arith)) (λ e. rw e (let l = longest-length w in omega arith))
 
   -- a string that passes ends w exactly if it ends the longest suffix of w
   pub ends-longest : (s : Str) → P s ≡ true → (w : Str) → ends s (longest P w) ≡ ends s w
