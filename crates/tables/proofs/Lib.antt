@@ -7,3 +7,4 @@ pub mod Build
 pub mod Partial
 pub mod Count
 pub mod Sets
+pub mod Walk
