@@ -8,3 +8,4 @@ pub mod Partial
 pub mod Count
 pub mod Sets
 pub mod Walk
+pub mod Words
