@@ -9,3 +9,4 @@ pub mod Count
 pub mod Sets
 pub mod Walk
 pub mod Words
+pub mod Theorem
