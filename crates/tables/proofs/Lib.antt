@@ -9,4 +9,5 @@ pub mod Count
 pub mod Sets
 pub mod Walk
 pub mod Words
+pub mod Steps
 pub mod Theorem

@@ -1,33 +1,34 @@
 -- What the crates above cite. The walk through the tables of a list of rules is the plain reading, also through the words that a build
 -- writes, with 2 n + 2 steps; and how many states there can be.
 -- Assumes nothing.
-use mathlib.Core.Path.{_≡_, refl, sym, ap, ap₂, _∙_}
-use Prim.Native.Nat.{ℕ, zero, suc, _+_, _*_, _≤_, _<_}
+use mathlib.Core.Path.{_≡_, ap, ap₂, _∙_}
+use Prim.Native.Nat.{ℕ, suc, _+_, _*_, _≤_, _<_}
 use native.Mathlib.Omega.{arith}
-use mathlib.Core.Bool.{Bool, true, false, cond}
+use mathlib.Core.Bool.{Bool, true, cond}
 use mathlib.Core.List.{List, [], _∷_, _++_, map, reverse}
-use borrow.Author.Tests.{le-leb, leb-true}
-use lib.Dec.{leb, ltb}
+use borrow.Author.Tests.{leb-true}
+use lib.Dec.{leb}
 use lib.Seq.{length-take-le}
 use lib.ListN.{length, getD, take, drop, length-append, length-reverse, length-map}
 use Rattle.rules.specs.Limits.{maxRules, maxName, maxLetter}
 use Rattle.rules.specs.Shape.{pick, Entry}
-use Rattle.rules.specs.Refusals.{Reply, accepted, declined}
+use Rattle.rules.specs.Refusals.{accepted, declined}
 use Rattle.image.specs.Image.{valid, entriesOf}
 use Rattle.image.proofs.Tests.{and-r, valid-count}
 use Rattle.image.proofs.Entries.{Shaped, entries-length, entry-shaped}
-use Rattle.reading.specs.Fitting.{Str, frame, fits}
-use Rattle.reading.specs.Reading.{Choice, chosen, nothing, unusable, Reading, finished, stopped, cons, onward, readFrom, firstRule, firstFit, plain}
-use Rattle.reading.specs.Speech.{phonesOf, numbersOf, over, delivered, letter, judgedLetters, judgedName, saying, refused, plainSaid}
+use Rattle.reading.specs.Fitting.{Str, frame}
+use Rattle.reading.specs.Reading.{Reading, stopped, firstFit, plain}
+use Rattle.reading.specs.Speech.{over, Said, delivered, letter, judgedLetters, saying, refused, plainSaid}
 use Rattle.reading.specs.Meaning.{noEntry}
 use Rattle.tables.specs.States.{states}
 use Rattle.tables.specs.Tables.{Table, leftPattern, rightPattern, leftTable, rightTable}
-use Rattle.tables.specs.Words.{leftOf, rightOf, wordsFor, setsFor, builtWords, builtSets, Built, building, built}
-use Rattle.tables.specs.Walk.{places, leftAt, walkChoice, walkUsable, walk, walkSteps, walkWords, counted, walkSaid}
+use Rattle.tables.specs.Words.{leftOf, rightOf, wordsFor, setsFor, builtWords, builtSets, built}
+use Rattle.tables.specs.Walk.{places, leftAt, walkChoice, walk, walkSteps, walkWords, counted, walkSaid}
 use Rattle.tables.proofs.Truth.{byBool}
 use Rattle.tables.proofs.Symbols.{Small, small-append}
-use Rattle.tables.proofs.Count.{Within, within-map, states-length}
+use Rattle.tables.proofs.Count.{within-map, states-length}
 use Rattle.tables.proofs.Walk.{read-ext, choice-is, usable, pass-steps}
+use Rattle.tables.proofs.Steps.{plain-ordinary, counted-delivered, Letters, judged-name}
 use Rattle.tables.proofs.Words.{walk-agrees, left-built, right-built, fit-built}
 
 -- ---- through the tables of a list of rules
@@ -100,6 +101,19 @@ accepted-build image ws ss e =
 few-entries : (image : List ℕ) → valid image ≡ true → length (entriesOf image) ≤ maxRules
 few-entries image ok = omega (arith, entries-length image, valid-count image ok)
 
+-- whatever the words hold: the steps are 2 n + 2 where the answer counts them, and else 0
+pub steps-counted : (image ws ss : List ℕ) (name : Str) (phones numbers : List ℕ)
+    → walkSaid image ws ss name phones numbers .steps ≡ counted (walkSaid image ws ss name phones numbers .said .told) (2 * length name + 2)
+unfolding walkSaid
+steps-counted image ws ss name phones numbers =
+    ap (counted (walkSaid image ws ss name phones numbers .said .told)) (walk-steps (leftOf ws ss) (rightOf ws ss) name)
+
+said-plain : (image : List ℕ) (name : Str) (phones numbers : List ℕ) → valid image ≡ true → length name ≤ maxName → Letters name
+    → plainSaid image name phones numbers ≡ delivered (plain (entriesOf image) name) phones numbers
+unfolding plainSaid
+said-plain image name phones numbers ok short letters =
+    rw ok (ap (λ (o : Reading). delivered o phones numbers) (judged-name name (plain (entriesOf image) name) short letters))
+
 module _ (image ws ss : List ℕ) (name : Str) (phones numbers : List ℕ) (ok : built image ws ss .reply ≡ accepted) where
   -- the walk through the tables of an accepted build says what the plain reading says, answer and lent memory alike
   pub table-theorem : walkSaid image (built image ws ss .words) (built image ws ss .sets) name phones numbers .said ≡ plainSaid image name phones numbers
@@ -111,3 +125,40 @@ module _ (image ws ss : List ℕ) (name : Str) (phones numbers : List ℕ) (ok :
       λ m. ap₂ (λ (w s : List ℕ). walkWords w s rules name) (a .words-are) (a .sets-are) ∙ built-walk rules (few-entries image (a .is-valid)) ws ss name m in
       ap (λ (o : Reading). pick (valid image) (delivered (pick (leb (length name) maxName) o (stopped 2 0)) phones numbers) (saying (refused 0 0) phones numbers))
       (on-letters 0 name (walkWords (built image ws ss .words) (built image ws ss .sets) rules name) (plain rules name) r)
+
+  -- where it reads a name of at most 64 letters, it has looked up 2 n + 2 entries
+  pub steps-theorem : length name ≤ maxName → Letters name
+      → walkSaid image (built image ws ss .words) (built image ws ss .sets) name phones numbers .steps ≡ 2 * length name + 2
+  steps-theorem short letters =
+      let a = accepted-build image ws ss ok in
+      steps-counted image (built image ws ss .words) (built image ws ss .sets) name phones numbers
+      ∙ ap (λ (s : Said). counted (s .told) (2 * length name + 2)) (table-theorem ∙ said-plain image name phones numbers (a .is-valid) short letters)
+      ∙ counted-delivered (plain (entriesOf image) name) (plain-ordinary (entriesOf image) name) phones numbers (2 * length name + 2)
+
+-- ---- how many states
+
+-- every rule of the list has the shape
+abbrev pub AllShaped : List Entry → Type 0
+AllShaped rules = (p : ℕ) → p < length rules → Shaped (getD rules p noEntry .rule)
+
+right-most-ten : (r : Entry) → Shaped (r .rule) → length (rightPattern r) ≤ 10
+right-most-ten r s =
+    omega (arith, length-reverse (r .rule .target ++ r .rule .right), length-append (r .rule .target) (r .rule .right), s .target-most, s .right-most)
+
+pub left-bound : (rules : List Entry) → length rules ≤ maxRules → AllShaped rules → length (states (map leftPattern rules)) ≤ 3073
+left-bound rules few s =
+    omega (arith, length-map rules leftPattern, states-length 6 (map leftPattern rules) (within-map 6 leftPattern rules (λ p h. s p h .left-most)))
+
+pub right-bound : (rules : List Entry) → length rules ≤ maxRules → AllShaped rules → length (states (map rightPattern rules)) ≤ 5121
+right-bound rules few s =
+    omega (arith, length-map rules rightPattern, states-length 10 (map rightPattern rules) (within-map 10 rightPattern rules (λ p h. right-most-ten (getD rules p noEntry) (s p h))))
+
+pub entries-shaped : (image : List ℕ) → valid image ≡ true → AllShaped (entriesOf image)
+entries-shaped image ok p h = entry-shaped image ok p (omega (arith, entries-length image)) noEntry
+
+-- L and R of a ruleset
+pub left-count-most : (image : List ℕ) → valid image ≡ true → leftTable (entriesOf image) .count ≤ 3073
+left-count-most image ok = left-bound (entriesOf image) (few-entries image ok) (entries-shaped image ok)
+
+pub right-count-most : (image : List ℕ) → valid image ≡ true → rightTable (entriesOf image) .count ≤ 5121
+right-count-most image ok = right-bound (entriesOf image) (few-entries image ok) (entries-shaped image ok)

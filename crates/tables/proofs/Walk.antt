@@ -6,7 +6,7 @@ use Prim.Native.Nat.{ℕ, zero, suc, _+_, _≤_, _<_}
 use native.Mathlib.Nat.{le-of-suc-le-suc, not-suc-le-zero}
 use native.Mathlib.Omega.{arith}
 use native.Mathlib.Numerals.{add-one}
-use mathlib.Core.Bool.{Bool, true, false, cond, _&&_, _||_, or-false, or-true, and-or-distrib-left}
+use mathlib.Core.Bool.{Bool, true, cond, _&&_, _||_, or-false, or-true, and-or-distrib-left}
 use mathlib.Core.List.{List, [], _∷_, _++_, map, reverse, append-nil, reverse-cons}
 use mathlib.Core.Option.{Option, none, some, Option·map}
 use borrow.Author.Tests.{lt-ltb}
