@@ -3,6 +3,7 @@
 -- and no rule fits there.
 -- Assumes nothing.
 use mathlib.Core.Path.{_≡_, refl, sym, ap, _∙_, subst}
+use mathlib.Core.Logic.{_⊎_, inl, inr}
 use Prim.Native.Nat.{ℕ, zero, suc, _+_, _≤_, _<_, zero-le, suc-le-suc}
 use native.Mathlib.Nat.{le-of-suc-le-suc, not-suc-le-zero}
 use native.Mathlib.Omega.{arith}
@@ -12,19 +13,21 @@ use borrow.Author.Tests.{ltb-true, ltb-false}
 use lib.Dec.{ltb}
 use lib.ListN.{length, getD}
 use lib.Seq.{append-snoc}
-use Rattle.rules.specs.Limits.{maxRules}
+use Rattle.rules.specs.Limits.{maxRules, maxName}
 use Rattle.rules.specs.Shape.{Entry}
+use Rattle.rules.specs.Refusals.{accepted}
 use Rattle.image.specs.Image.{valid, entriesOf}
 use Rattle.reading.specs.Fitting.{Str, frame, fits}
 use Rattle.reading.specs.Reading.{Choice, chosen, nothing, unusable, Reading, finished, stopped, cons, onward, readFrom, firstRule, firstFit, plain}
-use Rattle.reading.specs.Speech.{over}
+use Rattle.reading.specs.Speech.{over, delivered, saying, refused}
 use Rattle.reading.specs.Meaning.{noEntry, AppliedAt, NoneAt, Arrives, begins, goes, Reads}
-use Rattle.tables.specs.Words.{builtWords, builtSets}
-use Rattle.tables.specs.Walk.{walkWords}
+use Rattle.tables.specs.Words.{builtWords, builtSets, built}
+use Rattle.tables.specs.Walk.{walkWords, walkSaid}
 use Rattle.tables.proofs.Truth.{byBool}
 use Rattle.tables.proofs.Symbols.{Small}
 use Rattle.tables.proofs.Loop.{Every, first-every, read-end, read-step, after, after-cons, after-none}
-use Rattle.tables.proofs.Theorem.{built-walk, entries-shaped}
+use Rattle.tables.proofs.Theorem.{built-walk, accepted-build, table-theorem, said-plain, entries-shaped}
+use Rattle.tables.proofs.Steps.{Letters}
 
 -- ---- the first rule that passes a test, by its place
 
@@ -171,6 +174,12 @@ module _ (rules : List Entry) (name : Str) (targets : Targets rules) where
   reads-plain rs r =
       arrives-plain (r .end) rs (r .arrives) ∙ ap (after rs) (read-end choose n ahead n (r .end) (r .past)) ∙ ap finished (append-nil rs)
 
+  -- so that meaning is one at most
+  pub reads-once : (rs qs : List Entry) → Reads rules name rs → Reads rules name qs → rs ≡ qs
+  reads-once rs qs a b =
+      let e : finished rs ≡ finished qs = sym (reads-plain rs a) ∙ reads-plain qs b in
+      cc
+
   -- and stops with 3 at i exactly if reading arrives at the letter i and no rule fits there
   pub plain-stops : (m i : ℕ) → plain rules name ≡ stopped m i → (m ≡ 3) × Stops rules name i
   plain-stops m i e = subst (Means 1 []) e means-plain
@@ -181,6 +190,14 @@ module _ (rules : List Entry) (name : Str) (targets : Targets rules) where
       ∙ ap (after (s .applied))
       (read-step choose n ahead i (arrives-low i (s .applied) (s .arrives)) (s .inside)
       ∙ ap (λ (c : Choice). onward c i (readFrom choose n n)) (none-nothing (λ r. fits (r .rule) (frame name) i) rules (s .none)))
+
+  either : (o : Reading) → Means 1 [] o → ((rs : List Entry) × Reads rules name rs) ⊎ ((i : ℕ) × Stops rules name i)
+  either (finished rs) m = inl (rs, m)
+  either (stopped k i) m = inr (i, m .1)
+
+  -- every name is read to its end, or its reading stops at a letter
+  pub reads-or-stops : ((rs : List Entry) × Reads rules name rs) ⊎ ((i : ℕ) × Stops rules name i)
+  reads-or-stops = either (plain rules name) means-plain
 
 -- ---- and so does the walk through the words that a build writes
 
@@ -200,3 +217,28 @@ module _ (rules : List Entry) (few : length rules ≤ maxRules) (targets : Targe
 -- the rules of a valid image have targets
 pub entries-targets : (image : List ℕ) → valid image ≡ true → Targets (entriesOf image)
 entries-targets image ok p h = entries-shaped image ok p h .target-least
+
+-- ---- what the walk through an accepted build says of a name of at most 64 letters
+
+module _ (image ws ss : List ℕ) (name : Str) (phones numbers : List ℕ) (ok : built image ws ss .reply ≡ accepted) (short : length name ≤ maxName) (letters : Letters name) where
+  abbrev rules : List Entry
+  rules = entriesOf image
+
+  said-as : (o : Reading) → plain rules name ≡ o → walkSaid image (built image ws ss .words) (built image ws ss .sets) name phones numbers .said ≡ delivered o phones numbers
+  said-as o e =
+      table-theorem image ws ss name phones numbers ok
+      ∙ said-plain image name phones numbers (accepted-build image ws ss ok .is-valid) short letters
+      ∙ ap (λ (o : Reading). delivered o phones numbers) e
+
+  has-targets : Targets rules
+  has-targets = entries-targets image (accepted-build image ws ss ok .is-valid)
+
+  -- Festival's meaning is delivered: phones and numbers of the rules applied, or 4 or 5 where they have no room
+  pub said-reads : (rs : List Entry) → Reads rules name rs
+      → walkSaid image (built image ws ss .words) (built image ws ss .sets) name phones numbers .said ≡ delivered (finished rs) phones numbers
+  said-reads rs r = said-as (finished rs) (reads-plain rules name has-targets rs r)
+
+  -- 3 with the position of the reached letter that has no fitting rule
+  pub said-stops : (i : ℕ) → Stops rules name i
+      → walkSaid image (built image ws ss .words) (built image ws ss .sets) name phones numbers .said ≡ saying (refused 3 i) phones numbers
+  said-stops i s = said-as (stopped 3 i) (stops-plain rules name has-targets i s)

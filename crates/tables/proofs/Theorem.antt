@@ -28,6 +28,7 @@ use Rattle.tables.proofs.Truth.{byBool}
 use Rattle.tables.proofs.Symbols.{Small, small-append}
 use Rattle.tables.proofs.Count.{within-map, states-length}
 use Rattle.tables.proofs.Walk.{read-ext, choice-is, usable, pass-steps}
+use Rattle.tables.proofs.Loop.{Every}
 use Rattle.tables.proofs.Steps.{plain-ordinary, counted-delivered, Letters, judged-name}
 use Rattle.tables.proofs.Words.{walk-agrees, left-built, right-built, fit-built}
 
@@ -108,7 +109,8 @@ unfolding walkSaid
 steps-counted image ws ss name phones numbers =
     ap (counted (walkSaid image ws ss name phones numbers .said .told)) (walk-steps (leftOf ws ss) (rightOf ws ss) name)
 
-said-plain : (image : List ℕ) (name : Str) (phones numbers : List ℕ) → valid image ≡ true → length name ≤ maxName → Letters name
+-- what the plain reading of a name of at most 64 letters says
+pub said-plain : (image : List ℕ) (name : Str) (phones numbers : List ℕ) → valid image ≡ true → length name ≤ maxName → Letters name
     → plainSaid image name phones numbers ≡ delivered (plain (entriesOf image) name) phones numbers
 unfolding plainSaid
 said-plain image name phones numbers ok short letters =
@@ -139,7 +141,7 @@ module _ (image ws ss : List ℕ) (name : Str) (phones numbers : List ℕ) (ok :
 
 -- every rule of the list has the shape
 abbrev pub AllShaped : List Entry → Type 0
-AllShaped rules = (p : ℕ) → p < length rules → Shaped (getD rules p noEntry .rule)
+AllShaped = Every (λ r. Shaped (r .rule))
 
 right-most-ten : (r : Entry) → Shaped (r .rule) → length (rightPattern r) ≤ 10
 right-most-ten r s =
