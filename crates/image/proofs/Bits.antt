@@ -14,10 +14,10 @@ use borrow.Author.Tests.{eq-eqb, ne-eqb, eqb-true, eqb-false}
 use Rattle.rules.specs.Shape.{pick}
 use Rattle.image.specs.Bits.{pos, bit, held}
 
-two-low : (q r : ℕ) → r < 2 → (q * 2 + r) % 2 ≡ r
+pub two-low : (q r : ℕ) → r < 2 → (q * 2 + r) % 2 ≡ r
 two-low q r h = omega arith
 
-two-high : (q r : ℕ) → r < 2 → (q * 2 + r) / 2 ≡ q
+pub two-high : (q r : ℕ) → r < 2 → (q * 2 + r) / 2 ≡ q
 two-high q r h = omega arith
 
 pos-max : (x y : ℕ) → pos (max x y) ≡ (pos x || pos y)
@@ -25,7 +25,7 @@ pos-max zero y = rw (zero-max y)
 pos-max (suc x) zero = rw (max-zero (suc x))
 pos-max (suc x) (suc y) = rw (suc-max-suc x y)
 
-bit-or : (k a b : ℕ) → bit (bitOr a b) k ≡ (bit a k || bit b k)
+pub bit-or : (k a b : ℕ) → bit (bitOr a b) k ≡ (bit a k || bit b k)
 unfolding bit
 bit-or zero a b =
     ap pos (ap (λ (x : ℕ). x % 2) (or-step a b) ∙ two-low (bitOr (a / 2) (b / 2)) (max (a % 2) (b % 2)) (omega arith)) ∙ pos-max (a % 2) (b % 2)
@@ -38,7 +38,7 @@ unfolding bit
 bit-zero zero = refl
 bit-zero (suc k) = bit-zero k
 
-bit-one : (k j : ℕ) → bit (2 ^ k) j ≡ eqb j k
+pub bit-one : (k j : ℕ) → bit (2 ^ k) j ≡ eqb j k
 unfolding bit
 bit-one zero zero = refl
 bit-one zero (suc j) = bit-zero j ∙ sym (eqb·suc-zero j)
@@ -49,7 +49,7 @@ bit-one (suc k) (suc j) =
     let h : 2 ^ suc k / 2 ≡ 2 ^ k = omega arith in
     rw h (bit-one k j ∙ sym (eqb·suc-suc j k))
 
-bit-set : (x k j : ℕ) → bit (bitOr x (2 ^ k)) j ≡ (bit x j || eqb j k)
+pub bit-set : (x k j : ℕ) → bit (bitOr x (2 ^ k)) j ≡ (bit x j || eqb j k)
 bit-set x k j = bit-or j x (2 ^ k) ∙ rw (bit-one k j)
 
 -- a bit is tested by a shift
