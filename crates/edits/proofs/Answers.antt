@@ -1,21 +1,19 @@
 -- What `edited` is in each case of its tests.
-use Prim.Native.Nat.{ℕ, zero, suc, _+_, _-_, _≤_, _<_}
-use mathlib.Core.Path.{_≡_, refl, sym, ap, ap₂, _∙_}
-use mathlib.Core.List.{List, [], _∷_}
-use mathlib.Core.Bool.{Bool, true, false}
+-- Assumes nothing.
+use Prim.Native.Nat.{ℕ, suc, _+_, _-_, _≤_, _<_}
+use mathlib.Core.Path.{_≡_, sym, ap, _∙_}
+use mathlib.Core.List.{List}
+use mathlib.Core.Bool.{true, false}
 use native.Mathlib.Omega.{arith}
-use borrow.Author.Tests.{eq-eqb, ne-eqb, le-leb, lt-leb, lt-ltb, le-ltb, leb-true}
-use lib.ListN.{length, getD, take, drop}
-use lib.Dec.{leb, ltb}
-use Rattle.rules.specs.Shape.{pick, shape, view}
+use borrow.Author.Tests.{eq-eqb, ne-eqb, le-leb, lt-leb, lt-ltb, le-ltb}
+use lib.ListN.{length, drop}
+use Rattle.rules.specs.Shape.{shape, view}
 use Rattle.rules.specs.Refusals.{accepted, declined}
 use Rattle.rules.specs.declared.Rule.{Rule}
-use Rattle.rules.specs.declared.Numbered.{Numbered}
-use Rattle.image.specs.State.{Ledger, entries, distinct}
 use Rattle.edits.specs.Ledger.{Edit, removeAt, placeOf, applied, judged}
 use Rattle.edits.specs.Ledger.Edit.{Add, Drop, Move}
-use Rattle.image.specs.Image.{two, listed, ledgerOf, laid, valid, Edited, outcome}
-use Rattle.edits.specs.Edits.{outcomeBy, edited}
+use Rattle.image.specs.Image.{two, ledgerOf, laid, valid, outcome}
+use Rattle.edits.specs.Edits.{edited}
 use Rattle.image.proofs.Scan.{length-listed, rulesIn, slotIn, here}
 use Rattle.edits.proofs.Laid.{length-removeAt}
 

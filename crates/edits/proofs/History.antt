@@ -1,22 +1,20 @@
 -- Lists of edits: what the edit functions give, one after the other, is what the ledger gives; no number is issued twice.
-use Prim.Native.Nat.{ℕ, zero, suc, _+_, _-_, _*_, _/_, _%_, _≤_, _<_}
-use mathlib.Core.Path.{_≡_, refl, sym, ap, ap₂, _∙_}
-use mathlib.Core.List.{List, [], _∷_, _++_, append-assoc}
+-- Assumes nothing.
+use Prim.Native.Nat.{ℕ, zero, suc, _+_, _≤_, _<_}
+use mathlib.Core.Path.{_≡_, refl, sym, ap, _∙_}
+use mathlib.Core.List.{List, [], _∷_}
 use mathlib.Core.Bool.{Bool, true, false}
 use native.Mathlib.Omega.{arith}
-use borrow.Author.Tests.{le-leb, lt-leb, leb-true, ltb-true}
-use lib.ListN.{length, getD, take, drop, length-append, length-drop, length-take}
-use lib.Seq.{take-at, drop-at, length-take-le, drop-drop}
-use lib.Dec.{leb, ltb, eqb}
+use borrow.Author.Tests.{le-leb, leb-true, ltb-true}
+use lib.ListN.{length, getD}
+use lib.Dec.{leb, ltb}
 use Rattle.rules.specs.Shape.{pick, shape, view}
-use Rattle.rules.specs.declared.Rule.{Rule}
 use Rattle.rules.specs.declared.Numbered.{Numbered}
-use Rattle.image.specs.State.{Ledger, start, noNumbered, entry, entries, member, distinct}
-use Rattle.edits.specs.Ledger.{Edit, insertAt, removeAt, relocated, placeOf, applied, judged, after, afterBy, afterAll, answersAll, given, issued}
+use Rattle.image.specs.State.{Ledger, noNumbered}
+use Rattle.edits.specs.Ledger.{Edit, insertAt, removeAt, placeOf, applied, judged, after, afterBy, afterAll, answersAll, given, issued}
 use Rattle.edits.specs.Ledger.Edit.{Add, Drop, Move}
-use Rattle.image.specs.Image.{slotSize, imageSize, two, slotOf, bytesOf, slotStart, listed, flat, headOf, ledgerOf, laid, valid, Edited, outcome, Filled}
+use Rattle.image.specs.Image.{ledgerOf, valid, Edited, Filled}
 use Rattle.edits.specs.Edits.{outcomeBy, edited, FilledEdit, outAll, imageAll}
-use Rattle.image.proofs.Scan.{length-listed}
 use Rattle.edits.proofs.Laid.{length-insertAt, length-removeAt}
 use Rattle.rules.specs.Refusals.{Reply, accepted, declined}
 use Rattle.image.proofs.Tests.{and-i}

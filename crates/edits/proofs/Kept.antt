@@ -1,17 +1,18 @@
 -- An edit of a valid ruleset leaves a valid one.
-use Prim.Native.Nat.{ℕ, zero, suc, _+_, _-_, _≤_, _<_}
-use mathlib.Core.Path.{_≡_, refl, sym, ap, _∙_}
-use mathlib.Core.List.{List, [], _∷_, _++_}
-use mathlib.Core.Bool.{Bool, true, false}
+-- Assumes nothing.
+use Prim.Native.Nat.{ℕ, zero, suc, _≤_, _<_}
+use mathlib.Core.Path.{_≡_, refl, sym}
+use mathlib.Core.List.{List, [], _∷_}
+use mathlib.Core.Bool.{true, false}
 use native.Mathlib.Omega.{arith}
-use borrow.Author.Tests.{le-leb, lt-leb, leb-true, eqb-true, eqb-false, ne-eqb}
-use lib.ListN.{length, getD, take, drop}
-use lib.Dec.{leb, ltb, eqb}
-use Rattle.rules.specs.Shape.{pick, shape, view}
+use borrow.Author.Tests.{le-leb, leb-true, eqb-false, ne-eqb}
+use lib.ListN.{length, getD}
+use lib.Dec.{leb, eqb}
+use Rattle.rules.specs.Shape.{shape, view}
 use Rattle.rules.specs.declared.Numbered.{Numbered}
 use Rattle.image.specs.State.{noNumbered, entry, entries, member, distinct}
 use Rattle.image.proofs.Tests.{and-l, and-r, and-i, or-l, or-r, or-i, new-l, new-r, new-i}
-use Rattle.edits.specs.Ledger.{insertAt, removeAt, relocated}
+use Rattle.edits.specs.Ledger.{insertAt, removeAt}
 
 eqb-turn : (m n : ℕ) → eqb m n ≡ false → eqb n m ≡ false
 eqb-turn m n h = ne-eqb n m (λ (e : n ≡ m). eqb-false m n h (sym e))

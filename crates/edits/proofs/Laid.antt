@@ -1,15 +1,15 @@
 -- The edits in place: what the moved bytes are, and that they are the slots of the edited list.
+-- Assumes nothing.
 use Prim.Native.Nat.{ℕ, zero, suc, _+_, _-_, _*_, _/_, _%_, _≤_, _<_}
 use mathlib.Core.Path.{_≡_, refl, sym, ap, ap₂, _∙_, subst}
 use mathlib.Core.List.{List, [], _∷_, _++_, append-assoc}
 use native.Mathlib.Omega.{arith}
-use native.Mathlib.Numerals.{add-one}
-use lib.ListN.{length, getD, take, drop, length-append, length-take, length-drop, take-append-drop}
-use lib.Seq.{paste, take-paste, drop-paste, take-at, drop-at, take-take, take-add, drop-drop, take-append-le, drop-append-le, take-append-add, drop-append-add, length-take-le, getD-drop}
+use lib.ListN.{length, getD, take, drop, length-drop, take-append-drop}
+use lib.Seq.{paste, take-paste, drop-paste, take-at, drop-at, take-take, take-add, drop-drop, take-append-le, take-append-add, drop-append-add, length-take-le, getD-drop}
 use Rattle.rules.specs.declared.Rule.{Rule}
 use Rattle.rules.specs.declared.Numbered.{Numbered}
 use Rattle.image.specs.State.{Ledger, noNumbered}
-use Rattle.edits.specs.Ledger.{Edit, insertAt, removeAt, relocated, placeOf, applied}
+use Rattle.edits.specs.Ledger.{insertAt, removeAt, relocated, placeOf, applied}
 use Rattle.edits.specs.Ledger.Edit.{Add, Drop, Move}
 use Rattle.image.specs.Image.{slotSize, imageSize, two, slotOf, bytesOf, slotStart, listed, flat, headOf, ledgerOf, laid}
 use Rattle.image.proofs.Scan.{length-listed, slot-get, rulesIn, slotIn}

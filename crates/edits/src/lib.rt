@@ -29,10 +29,10 @@ fn copy_up(s: &mut [u8], src: usize, dst: usize, n: usize)
     requires { ⌜ (src ≤ dst) × (dst + n ≤ length (now s)) ⌝ }
     ensures { λ _. ⌜ now (s .exit) ≡ paste (now (s .entry)) dst (drop src (now (s .entry))) n ⌝ }
 {
-    let mut i = n;
-    while 0 < i {
-        i -= 1;
-        s[dst + i] = s[src + i];
+    let mut k = n;
+    while 0 < k {
+        k -= 1;
+        s[dst + k] = s[src + k];
     }
 }
 

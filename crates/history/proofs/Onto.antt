@@ -1,13 +1,13 @@
 -- Every list of edits is the list that some words say: a replay's contract speaks of all of them.
-use Prim.Native.Nat.{ℕ, zero, suc, _+_, _*_, _<_, _%_, _/_}
-use mathlib.Core.Path.{_≡_, refl, sym, ap, _∙_}
-use mathlib.Core.List.{List, [], _∷_, _++_}
+-- Assumes nothing.
+use Prim.Native.Nat.{ℕ, _+_, _*_, _<_, _%_, _/_}
+use mathlib.Core.Path.{_≡_, refl, ap}
+use mathlib.Core.List.{List, [], _∷_}
 use native.Mathlib.Omega.{arith}
 use lib.ListN.{length, getD, drop}
-use Rattle.rules.specs.declared.Rule.{Rule}
 use Rattle.edits.specs.Ledger.{Edit}
 use Rattle.edits.specs.Ledger.Edit.{Add, Drop, Move}
-use Rattle.history.specs.Code.{ruleOf, editOf, editsOf, wordsOf, wordsAll, Bytes, TypedRule, Typed, TypedAll}
+use Rattle.history.specs.Code.{editOf, editsOf, wordsOf, wordsAll, Bytes, Typed, TypedAll}
 
 six : (l : List ℕ) → Bytes 6 l
     → getD l 0 0 % 256 ∷ getD l 1 0 % 256 ∷ getD l 2 0 % 256 ∷ getD l 3 0 % 256 ∷ getD l 4 0 % 256 ∷ getD l 5 0 % 256 ∷ [] ≡ l

@@ -1,4 +1,5 @@
 -- Laws of coded edits and of a replay's turns.
+-- Assumes nothing.
 use Prim.Native.Nat.{ℕ, zero, suc, _+_, _-_, _*_, _≤_, _<_, _%_, _/_}
 use mathlib.Core.Path.{_≡_, refl, sym, ap, _∙_}
 use mathlib.Core.List.{List, [], _∷_, _++_, map, append-assoc, append-nil}
@@ -6,21 +7,20 @@ use mathlib.Core.Bool.{Bool, true, false}
 use native.Mathlib.Omega.{arith}
 use native.Mathlib.Numerals.{add-one}
 use borrow.Author.Tests.{eq-eqb, ne-eqb, lt-leb, le-leb, lt-ltb, le-ltb, ltb-true, ltb-false}
-use lib.ListN.{length, getD, take, drop, set, replicate, length-set, length-drop, length-replicate, take-append-drop}
+use lib.ListN.{length, getD, take, drop, set, length-set, length-drop, take-append-drop}
 use lib.Seq.{take-suc-set, drop-set-lt, drop-drop, take-all}
 use lib.Dec.{eqb, ltb}
 use Rattle.rules.specs.Shape.{pick}
 use Rattle.rules.specs.declared.Rule.{Rule}
 use Rattle.rules.specs.Refusals.{Reply, accepted, declined}
-use Rattle.edits.specs.Ledger.{Edit, afterAll, answersAll, issued}
 use Rattle.image.specs.State.{start}
-use Rattle.image.specs.Image.{laid, ledgerOf, valid, Edited, outcome}
+use Rattle.image.specs.Image.{laid, valid, Edited, outcome}
 use Rattle.edits.specs.Edits.{edited, imageAll, outAll, FilledEdit}
 use Rattle.edits.specs.Ledger.Edit.{Add, Drop, Move}
 use Rattle.image.proofs.Tests.{byBool}
 use Rattle.edits.proofs.History.{history, history-valid, issued-rise}
 use Rattle.history.specs.Code.{ruleOf, editOf, editsOf}
-use Rattle.history.specs.Replay.{codeOf, turns, taken, Replay, replaying, through, replayed, FromEmpty, Replayed}
+use Rattle.history.specs.Replay.{codeOf, turns, taken, Replay, replaying, through, replayed, Replayed}
 
 pub edit-add : (ws : List ℕ) (r : Rule) (p : ℕ) → getD ws 0 0 ≡ 0 → r ≡ ruleOf ws → p ≡ getD ws 2 0 → Add r p ≡ editOf ws
 edit-add ws r p k e q = rw (eq-eqb _ _ k, e, q)

@@ -11,7 +11,7 @@ use lib.Dec.{leb}
 use Rattle.rules.specs.Shape.{pick}
 use Rattle.image.specs.State.{entries, distinct}
 use Rattle.rules.specs.Refusals.{accepted, declined}
-use Rattle.image.specs.Image.{two, listed, headOf, valid, outcome, cleared}
+use Rattle.image.specs.Image.{two, headOf, valid, outcome, cleared}
 use Rattle.image.proofs.Scan.{rulesIn}
 
 -- by the two cases of a test

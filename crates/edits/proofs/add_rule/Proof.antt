@@ -1,17 +1,12 @@
-use Prim.Native.Nat.{ℕ, suc, _+_, _-_, _*_, _/_, _%_, _^_, _≤_, _<_}
-use mathlib.Core.Path.{_≡_, refl, sym, ap, _∙_}
-use mathlib.Core.List.{List, _∷_, _++_}
-use mathlib.Core.Bool.{Bool, true, false}
+-- `edits::add_rule` meets its contract.
+-- Assumes nothing.
+use mathlib.Core.Path.{refl, sym, _∙_}
 use native.Mathlib.Omega.{arith}
 use borrow.Author.Needs.{needs}
-use borrow.Author.Tests.{not-true, not-false, le-leb, lt-leb}
-use lib.ListN.{length, getD, take, drop, set, length-set, length-drop, replicate}
-use Rattle.image.specs.Image.{two, slotOf, bytesOf, slotStart, listed, headOf, valid}
-use Rattle.image.specs.State.{entries, distinct, member, noNumbered}
-use Rattle.edits.specs.Ledger.{placeOf}
-use Rattle.image.proofs.Scan.{rulesIn}
-use Rattle.image.proofs.Tests.{valid-long, valid-count}
-use Rattle.edits.proofs.Answers.{invalid, add-shape, add-place, add-full, add-last, add-yes, drop-none, drop-yes, move-none, move-place, move-yes}
+use borrow.Author.Tests.{not-true, not-false}
+use Rattle.image.specs.Image.{two}
+use Rattle.image.proofs.Tests.{valid-long}
+use Rattle.edits.proofs.Answers.{invalid, add-shape, add-place, add-full, add-last, add-yes}
 use Rattle.edits.proofs.add_rule.Statement.{statement}
 use Rattle.edits.proofs.add_rule.Tie as tie
 

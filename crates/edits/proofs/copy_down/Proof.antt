@@ -1,12 +1,12 @@
-use Prim.Native.Nat.{ℕ, suc, _+_, _-_, _*_, _≤_, _<_}
-use mathlib.Core.Path.{_≡_, refl, sym, ap, _∙_}
-use mathlib.Core.List.{List, _∷_, _++_}
-use Rattle.image.specs.Image.{two, slotOf, bytesOf, slotStart, listed, headOf}
+-- `edits::copy_down` meets its contract.
+-- Assumes nothing.
+use Prim.Native.Nat.{_-_, _≤_}
+use mathlib.Core.Path.{_≡_}
 use native.Mathlib.Omega.{arith}
 use borrow.Author.Needs.{needs}
-use lib.ListN.{length, getD, take, drop, set, length-set, length-drop}
-use lib.Seq.{paste, paste-zero, paste-suc, take-all}
-use Rattle.image.proofs.Bytes.{slot-is, arrays-are, bytes-are, head-set, paste-past, down-step, up-step, up-begin, up-end, put-step, same-by, same-within}
+use lib.ListN.{drop}
+use lib.Seq.{paste, paste-zero}
+use Rattle.image.proofs.Bytes.{down-step, same-within}
 use Rattle.edits.proofs.copy_down.Statement.{statement}
 use Rattle.edits.proofs.copy_down.Tie as tie
 

@@ -1,12 +1,12 @@
-use Prim.Native.Nat.{ℕ, suc, _+_, _-_, _*_, _≤_, _<_}
-use mathlib.Core.Path.{_≡_, refl, sym, ap, _∙_}
-use mathlib.Core.List.{List, _∷_, _++_}
-use Rattle.image.specs.Image.{two, slotOf, bytesOf, slotStart, listed, headOf}
+-- `edits::copy_up` meets its contract.
+-- Assumes nothing.
+use Prim.Native.Nat.{_+_, _-_, _≤_}
+use mathlib.Core.Path.{_≡_}
 use native.Mathlib.Omega.{arith}
 use borrow.Author.Needs.{needs}
-use lib.ListN.{length, getD, take, drop, set, length-set, length-drop}
-use lib.Seq.{paste, paste-zero, paste-suc, take-all}
-use Rattle.image.proofs.Bytes.{slot-is, arrays-are, bytes-are, head-set, paste-past, down-step, up-step, up-begin, up-end, put-step, same-by, same-within}
+use lib.ListN.{drop}
+use lib.Seq.{paste}
+use Rattle.image.proofs.Bytes.{up-step, up-begin, up-end, same-within}
 use Rattle.edits.proofs.copy_up.Statement.{statement}
 use Rattle.edits.proofs.copy_up.Tie as tie
 
@@ -19,32 +19,32 @@ abbrev μ-loop : tie.MeasureT-loop
 loop-holds : tie.Need-loop-holds Inv-loop μ-loop
 loop-holds c = (search needs, up-begin (c .args .s .now) (c .args .src) (c .args .dst) (c .args .n))
 
-sub-i : tie.Need-sub-i Inv-loop μ-loop
-sub-i c = search needs
+sub-k : tie.Need-sub-k Inv-loop μ-loop
+sub-k c = search needs
 
 add-s : tie.Need-add-s Inv-loop μ-loop
 add-s c = search needs
 
 slice-read-s : tie.Need-slice-read-s Inv-loop μ-loop
-slice-read-s c = omega (arith, same-within (c .before .before .before .args .s .now) (c .before .before .loop .s) (c .before .before .before .args .dst + c .before .before .loop .i) (c .before .before .before .args .src + c .before .before .loop .i) (c .before .before .before .args .n - c .before .before .loop .i) (c .before .before .loop .inv .1) (omega arith) (omega arith))
+slice-read-s c = omega (arith, same-within (c .before .before .before .args .s .now) (c .before .before .loop .s) (c .before .before .before .args .dst + c .before .before .loop .k) (c .before .before .before .args .src + c .before .before .loop .k) (c .before .before .before .args .n - c .before .before .loop .k) (c .before .before .loop .inv .1) (omega arith) (omega arith))
 
 add-s-2 : tie.Need-add-s-2 Inv-loop μ-loop
 add-s-2 c = search needs
 
 slice-write-s : tie.Need-slice-write-s Inv-loop μ-loop
-slice-write-s c = omega (arith, same-within (c .before .before .before .args .s .now) (c .before .before .loop .s) (c .before .before .before .args .dst + c .before .before .loop .i) (c .before .before .before .args .src + c .before .before .loop .i) (c .before .before .before .args .n - c .before .before .loop .i) (c .before .before .loop .inv .1) (omega arith) (omega arith))
+slice-write-s c = omega (arith, same-within (c .before .before .before .args .s .now) (c .before .before .loop .s) (c .before .before .before .args .dst + c .before .before .loop .k) (c .before .before .before .args .src + c .before .before .loop .k) (c .before .before .before .args .n - c .before .before .loop .k) (c .before .before .loop .inv .1) (omega arith) (omega arith))
 
 loop-less : tie.Need-loop-less Inv-loop μ-loop
 loop-less c = search needs
 
 loop-again : tie.Need-loop-again Inv-loop μ-loop
-loop-again c = (omega arith, up-step (c .before .before .before .args .s .now) (c .before .before .loop .s) (c .before .before .before .args .src) (c .before .before .before .args .dst) (c .before .before .before .args .n) (c .before .before .loop .i) (omega arith) (omega arith) (omega arith) (omega arith) (c .before .before .loop .inv .1))
+loop-again c = (omega arith, up-step (c .before .before .before .args .s .now) (c .before .before .loop .s) (c .before .before .before .args .src) (c .before .before .before .args .dst) (c .before .before .before .args .n) (c .before .before .loop .k) (omega arith) (omega arith) (omega arith) (omega arith) (c .before .before .loop .inv .1))
 
 same-length : tie.Need-same-length Inv-loop μ-loop
-same-length c = same-within (c .before .before .args .s .now) (c .before .loop .s) (c .before .before .args .dst + c .before .loop .i) (c .before .before .args .src + c .before .loop .i) (c .before .before .args .n - c .before .loop .i) (c .before .loop .inv .1) (omega arith) (omega arith)
+same-length c = same-within (c .before .before .args .s .now) (c .before .loop .s) (c .before .before .args .dst + c .before .loop .k) (c .before .before .args .src + c .before .loop .k) (c .before .before .args .n - c .before .loop .k) (c .before .loop .inv .1) (omega arith) (omega arith)
 
 returns : tie.Need-returns Inv-loop μ-loop
-returns c = up-end (c .before .before .args .s .now) (c .before .loop .s) (c .before .before .args .src) (c .before .before .args .dst) (c .before .before .args .n) (c .before .loop .i) (omega arith) (c .before .loop .inv .1)
+returns c = up-end (c .before .before .args .s .now) (c .before .loop .s) (c .before .before .args .src) (c .before .before .args .dst) (c .before .before .args .n) (c .before .loop .k) (omega arith) (c .before .loop .inv .1)
 
 pub copy-up-spec : {M : Type 1} → statement M
 copy-up-spec =
@@ -53,7 +53,7 @@ copy-up-spec =
     Inv-loop
     μ-loop
     loop-holds
-    sub-i
+    sub-k
     add-s
     slice-read-s
     add-s-2

@@ -1,19 +1,12 @@
-use Prim.Native.Nat.{ℕ, suc, _+_, _-_, _*_, _/_, _%_, _^_, _≤_, _<_}
-use mathlib.Core.Path.{_≡_, refl, sym, ap, _∙_}
-use mathlib.Core.List.{List, _∷_, _++_}
-use mathlib.Core.Bool.{Bool, true, false}
+-- `edits::place_of` meets its contract.
+-- Assumes nothing.
+use Prim.Native.Nat.{suc, _+_, _-_, _≤_}
+use mathlib.Core.Path.{_≡_, ap}
 use native.Mathlib.Omega.{arith}
 use borrow.Author.Needs.{needs}
-use borrow.Author.Tests.{not-true, not-false, le-leb, lt-leb}
-use lib.ListN.{length, getD, take, drop, set, length-set, length-drop, replicate}
-use lib.Seq.{paste}
-use Rattle.image.specs.Image.{two, slotOf, bytesOf, slotStart, listed, headOf, valid}
-use Rattle.image.specs.State.{entries, distinct, member, noNumbered}
+use lib.ListN.{drop}
 use Rattle.edits.specs.Ledger.{placeOf}
-use Rattle.image.specs.Bits.{bit, held}
-use Rattle.image.proofs.Bytes.{put-slot}
-use Rattle.image.proofs.Bits.{bit-test, bit-put}
-use Rattle.image.proofs.Scan.{number-is, rulesIn, slotIn, past, here, entry-shape, entry-low, entry-high, entry-on, Seen, seen-begin, seen-again, seen-new, seen-end}
+use Rattle.image.proofs.Scan.{rulesIn, past}
 use Rattle.edits.proofs.Answers.{place-hit, place-miss}
 use Rattle.edits.proofs.place_of.Statement.{statement}
 use Rattle.edits.proofs.place_of.Tie as tie

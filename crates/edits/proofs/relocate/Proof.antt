@@ -1,16 +1,8 @@
-use Prim.Native.Nat.{ℕ, suc, _+_, _-_, _*_, _/_, _%_, _^_, _≤_, _<_}
-use mathlib.Core.Path.{_≡_, refl, sym, ap, _∙_}
-use mathlib.Core.List.{List, _∷_, _++_}
-use mathlib.Core.Bool.{Bool, true, false}
+-- `edits::relocate` meets its contract.
+-- Assumes nothing.
 use native.Mathlib.Omega.{arith}
 use borrow.Author.Needs.{needs}
-use borrow.Author.Tests.{not-true, not-false, le-leb, lt-leb}
-use lib.ListN.{length, getD, take, drop, set, length-set, length-drop, replicate}
-use Rattle.image.specs.Image.{two, slotOf, bytesOf, slotStart, listed, headOf, valid}
-use Rattle.image.specs.State.{entries, distinct, member, noNumbered}
-use Rattle.edits.specs.Ledger.{placeOf}
-use Rattle.image.proofs.Scan.{rulesIn}
-use Rattle.edits.proofs.Laid.{insert-laid, remove-laid, up-laid, down-laid}
+use Rattle.edits.proofs.Laid.{up-laid, down-laid}
 use Rattle.edits.proofs.relocate.Statement.{statement}
 use Rattle.edits.proofs.relocate.Tie as tie
 

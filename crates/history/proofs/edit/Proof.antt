@@ -1,10 +1,10 @@
-use Prim.Native.Nat.{ℕ, suc, _+_, _-_, _*_, _/_, _%_, _≤_, _<_}
-use mathlib.Core.Path.{_≡_, refl, sym, ap, _∙_}
-use native.Mathlib.Omega.{arith}
+-- `history::edit` meets its contract.
+-- Assumes nothing.
+use Prim.Native.Nat.{_%_}
+use mathlib.Core.Path.{sym, ap, _∙_}
 use borrow.Author.Needs.{needs}
-use lib.ListN.{length, getD, take, drop, length-set}
 use Rattle.edits.specs.Edits.{edited}
-use Rattle.history.proofs.Runs.{edit-add, edit-drop, edit-move, Going, going-start, going-on, going-end}
+use Rattle.history.proofs.Runs.{edit-add, edit-drop, edit-move}
 use Rattle.history.proofs.edit.Statement.{statement}
 use Rattle.history.proofs.edit.Tie as tie
 

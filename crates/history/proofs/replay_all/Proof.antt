@@ -1,10 +1,10 @@
-use Prim.Native.Nat.{ℕ, suc, _+_, _-_, _*_, _/_, _%_, _≤_, _<_}
-use mathlib.Core.Path.{_≡_, refl, sym, ap, _∙_}
+-- `history::replay_all` meets its contract.
+-- Assumes nothing.
+use Prim.Native.Nat.{_-_}
 use native.Mathlib.Omega.{arith}
 use borrow.Author.Needs.{needs}
-use lib.ListN.{length, getD, take, drop, length-set}
 use Rattle.rules.specs.Refusals.{replyOf}
-use Rattle.history.proofs.Runs.{edit-add, edit-drop, edit-move, Going, going-start, going-on, going-end}
+use Rattle.history.proofs.Runs.{Going, going-start, going-on, going-end}
 use Rattle.history.proofs.replay_all.Statement.{statement}
 use Rattle.history.proofs.replay_all.Tie as tie
 

@@ -1,9 +1,5 @@
-use Prim.Native.Nat.{ℕ, suc, _+_, _-_, _≤_, _<_, _%_, _/_, _*_}
-use mathlib.Core.Path.{_≡_, refl, sym, ap, _∙_}
-use native.Mathlib.Omega.{arith}
-use lib.ListN.{length, getD, take, drop, List·getD-eq-default}
-use borrow.Author.Tests.{eq-eqb, ne-eqb}
-use Rattle.history.specs.Code.{byteAt, sixAt, fourAt, ruleOf, editOf, editsOf}
+-- `history::rule_of` meets its contract.
+-- Assumes nothing.
 use borrow.Author.Needs.{needs}
 use Rattle.history.proofs.rule_of.Statement.{statement}
 use Rattle.history.proofs.rule_of.Tie as tie
