@@ -1,0 +1,188 @@
+// A frame as a line: upper-case hexadecimal with a checksum, ended by 0A (document 01, "The rule file").
+ghost use mathlib.Core.Path.{_≡_};
+ghost use mathlib.Core.Bool.{Bool};
+ghost use Prim.Native.Nat.{ℕ, _+_, _*_, _/_, _%_, _<_, _≤_};
+ghost use lib.Dec.{leb, eqb};
+ghost use lib.ListN.{length, take, drop, set};
+ghost use Rattle.rules.specs.Shape.{pick};
+ghost use Rattle.frames.specs.Lines.{digit, value, Parsed, lineOf, framed, soundLine, pairOf, decoded, report, lineAfter, over, overAt};
+
+// A line that was read: whether it is sound, where the next one starts and how many bytes its frame has, the checksum among them.
+pub struct Line {
+    pub sound: bool,
+    pub next: usize,
+    pub len: usize,
+}
+
+// Two digits that were read: whether they are, and their byte.
+pub struct Pair {
+    pub ok: bool,
+    pub byte: u8,
+}
+
+// The digit of a number below 16.
+fn hex_digit(d: u8) -> u8
+    requires { ⌜ d < 16 ⌝ }
+    ensures { λ r. ⌜ r ≡ digit d ⌝ }
+{
+    if d < 10 { 48 + d } else { 55 + d }
+}
+
+// The number of a digit, 16 for what is none.
+fn hex_value(a: u8) -> u8
+    ensures { λ r. ⌜ r ≡ value a ⌝ }
+{
+    if a < 48 {
+        return 16;
+    }
+    if a <= 57 {
+        return a - 48;
+    }
+    if a < 65 {
+        return 16;
+    }
+    if a <= 70 {
+        return a - 55;
+    }
+    16
+}
+
+// ---- writing
+
+// Two digits.
+fn put_byte(out: &mut [u8], at: usize, b: u8)
+    requires { ⌜ at + 1 < length (now out) ⌝ }
+    ensures { λ _. ⌜ now (out .exit) ≡ set (set (now (out .entry)) at (digit (b / 16))) (at + 1) (digit (b % 16)) ⌝ }
+{
+    out[at] = hex_digit(b / 16);
+    out[at + 1] = hex_digit(b % 16);
+}
+
+// The line of a body at the front of lent bytes: its digits, those of the checksum, 0A.
+fn put_line(out: &mut [u8], body: &[u8])
+    requires { ⌜ 2 * length (now body) + 3 ≤ length (now out) ⌝ }
+    ensures { λ _. ⌜ now (out .exit) ≡ over (lineOf (framed (now (body .entry)))) (now (out .entry)) ⌝ }
+{
+    let n = body.len();
+    let mut sum: u8 = 0;
+    let mut k: usize = 0;
+    while k < n {
+        let b = body[k];
+        sum = std::num::wrapping_sub_u8(sum, b);
+        put_byte(&mut *out, 2 * k, b);
+        k += 1;
+    }
+    put_byte(&mut *out, 2 * n, sum);
+    out[2 * n + 2] = 10;
+}
+
+// The line of a body from `at` on, and where it ends. What lies past it keeps its contents.
+pub fn write_line(out: &mut [u8], at: usize, body: &[u8]) -> usize
+    requires { ⌜ at + (2 * length (now body) + 3) ≤ length (now out) ⌝ }
+    ensures next { λ r. ⌜ r ≡ at + (2 * length (now (body .entry)) + 3) ⌝ }
+    ensures bytes { λ _. ⌜ now (out .exit) ≡ overAt at (lineOf (framed (now (body .entry)))) (now (out .entry)) ⌝ }
+{
+    put_line(&mut out[at..], body);
+    at + (2 * body.len() + 3)
+}
+
+// ---- reading
+
+// Two digits at a place of a slice.
+fn pair_at(s: &[u8], i: usize) -> Pair
+    ensures { λ r. ⌜ r ≡ pairOf (drop i (now (s .entry))) ⌝ }
+{
+    if s.len() <= i {
+        return Pair { ok: false, byte: 0 };
+    }
+    if s.len() - i < 2 {
+        return Pair { ok: false, byte: 0 };
+    }
+    let h = hex_value(s[i]);
+    if 16 <= h {
+        return Pair { ok: false, byte: 0 };
+    }
+    let l = hex_value(s[i + 1]);
+    if 16 <= l {
+        return Pair { ok: false, byte: 0 };
+    }
+    Pair {
+        ok: true,
+        byte: 16 * h + l,
+    }
+}
+
+// A byte is stored where there is room for it.
+fn store(out: &mut [u8], at: usize, x: u8)
+    ensures { λ _. ⌜ now (out .exit) ≡ set (now (out .entry)) at x ⌝ }
+{
+    if at < out.len() {
+        out[at] = x;
+    }
+}
+
+fn no_line() -> Line
+    ensures { λ r. ⌜ r ≡ report 0 Parsed.Bad ⌝ }
+{
+    Line {
+        sound: false,
+        next: 0,
+        len: 0,
+    }
+}
+
+// A line that ended: a frame of 2 bytes or more that add to zero.
+fn ended(sum: u8, len: usize, next: usize) -> Line
+    ensures { λ r. ⌜ r ≡ pick (leb 2 len) (pick (eqb sum 0) (record { sound = Bool.true; next = next; len = len }) (report 0 Parsed.Bad)) (report 0 Parsed.Bad) ⌝ }
+{
+    if len < 2 {
+        return no_line();
+    }
+    if sum == 0 {
+        return Line {
+            sound: true,
+            next,
+            len,
+        };
+    }
+    no_line()
+}
+
+// The line that starts at a place. Of its bytes, or of those before the first fault, `frame` gets as many as it holds; what lies past them
+// keeps its contents.
+pub fn read_line(text: &[u8], at: usize, frame: &mut [u8]) -> Line
+    ensures line { λ r. ⌜ r ≡ report (length (now (text .entry))) (soundLine (drop at (now (text .entry)))) ⌝ }
+    ensures bytes { λ _. ⌜ now (frame .exit) ≡ over (take (length (now (frame .entry))) (decoded (drop at (now (text .entry))))) (now (frame .entry)) ⌝ }
+{
+    let mut sum: u8 = 0;
+    let mut len: usize = 0;
+    let mut i = at;
+    while i < text.len() {
+        if text[i] == 10 {
+            return ended(sum, len, i + 1);
+        }
+        let p = pair_at(text, i);
+        if !p.ok {
+            return no_line();
+        }
+        sum = std::num::wrapping_add_u8(sum, p.byte);
+        store(&mut *frame, len, p.byte);
+        len += 1;
+        i += 2;
+    }
+    no_line()
+}
+
+// Where the next line starts: after the first 0A from `at` on, or at the end.
+pub fn next_line(text: &[u8], at: usize) -> usize
+    ensures { λ r. ⌜ r ≡ lineAfter (now (text .entry)) at ⌝ }
+{
+    let mut i = at;
+    while i < text.len() {
+        if text[i] == 10 {
+            return i + 1;
+        }
+        i += 1;
+    }
+    text.len()
+}
