@@ -1,0 +1,89 @@
+-- Demand 3 of document 01, as one claim: a list of edits from the empty ruleset, the tables built after it in memory that held anything,
+-- and a name, read plainly and walked through those tables.
+-- Assumes nothing.
+use Prim.Native.Nat.{ℕ, _+_, _*_, _≤_}
+use mathlib.Core.Path.{_≡_}
+use mathlib.Core.Bool.{true}
+use mathlib.Core.List.{List, []}
+use lib.ListN.{length, take}
+use Rattle.rules.specs.Limits.{maxName, maxLetter}
+use Rattle.rules.specs.Shape.{Entry, allFrom}
+use Rattle.rules.specs.Refusals.{accepted}
+use Rattle.image.specs.State.{start, rulesOf}
+use Rattle.image.specs.Image.{imageSize}
+use Rattle.edits.specs.Ledger.{Edit, afterAll}
+use Rattle.history.specs.Replay.{taken, Replay, FromEmpty, Replayed}
+use Rattle.reading.specs.Fitting.{Str}
+use Rattle.reading.specs.Speech.{Told, spoken, refused, Said, plainSaid}
+use Rattle.tables.specs.Words.{wordsFor, setsFor, Built, built}
+use Rattle.tables.specs.Walk.{Walked, walkSaid}
+
+-- what is heard of a call: a refusal's number and place, or its phones and its rule numbers, in order
+pub data Heard : Type 0 where
+  phones : List ℕ → List ℕ → Heard
+  silence : ℕ → ℕ → Heard
+
+abbrev pub heardAs : Told → List ℕ → List ℕ → Heard
+heardAs (spoken p n) ps ns = phones (take p ps) (take n ns)
+heardAs (refused n p) ps ns = silence n p
+
+abbrev pub heard : Said → Heard
+heard s = heardAs (s .told) (s .phones) (s .numbers)
+
+-- a name of at most 64 letters
+pub record Name (name : Str) : Type 0 where
+  pub short : length name ≤ maxName
+  pub letters : allFrom maxLetter name ≡ true
+
+-- all lent memory as it was, in the order of the function's parameters
+pub record Lent : Type 0 where
+  pub image : List ℕ
+  pub code : List ℕ
+  pub answers : List ℕ
+  pub words : List ℕ
+  pub sets : List ℕ
+  pub name : Str
+  pub «plain-phones» : List ℕ
+  pub «plain-numbers» : List ℕ
+  pub «walk-phones» : List ℕ
+  pub «walk-numbers» : List ℕ
+
+-- all that the calls gave: each its answer and the lent memory after it
+pub record Given : Type 0 where
+  pub replay : Replay
+  pub build : Built
+  pub plain : Said
+  pub walk : Walked
+
+-- the edits taken, and the rules that the ledger holds after them
+abbrev pub editsOf : Lent → List Edit
+editsOf m = taken (m .code) (m .answers)
+
+abbrev pub rulesAfter : Lent → List Entry
+rulesAfter m = rulesOf (afterAll start (editsOf m))
+
+-- the memory is long enough for a ruleset and for the tables of the rules after the edits, and both readings are lent as much
+pub record Enough (m : Lent) : Type 0 where
+  pub image : imageSize ≤ length (m .image)
+  pub words : wordsFor (rulesAfter m) ≤ length (m .words)
+  pub sets : setsFor (rulesAfter m) ≤ length (m .sets)
+  pub phones : length (m .«walk-phones») ≡ length (m .«plain-phones»)
+  pub numbers : length (m .«walk-numbers») ≡ length (m .«plain-numbers»)
+
+pub record Claim (m : Lent) (g : Given) : Type 0 where
+  -- each answer and the ruleset after are the ledger's; no number was given twice
+  pub edits : FromEmpty (editsOf m) (m .answers) (g .replay .image) (g .replay .answers)
+  -- the tables were built
+  pub tables : g .build .reply ≡ accepted
+  -- walk and plain reading are alike
+  pub alike : heard (g .walk .said) ≡ heard (g .plain)
+  -- the steps counted are 2n + 2
+  pub steps : Name (m .name) → g .walk .steps ≡ 2 * length (m .name) + 2
+
+pub record EndToEnd (m : Lent) (g : Given) : Type 0 where
+  -- each call got the ruleset, and the walk the tables, as the calls before left them
+  pub replayed : Replayed (m .image) (m .code) (m .answers) (g .replay)
+  pub built-after : g .build ≡ built (g .replay .image) (m .words) (m .sets)
+  pub read : g .plain ≡ plainSaid (g .replay .image) (m .name) (m .«plain-phones») (m .«plain-numbers»)
+  pub walked : g .walk ≡ walkSaid (g .replay .image) (g .build .words) (g .build .sets) (m .name) (m .«walk-phones») (m .«walk-numbers»)
+  pub claim : Enough m → Claim m g
