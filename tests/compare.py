@@ -123,7 +123,13 @@ def minimal(runner, rules_hex, lines):
         rewritten = lambda rules: ref.file_text(ref.Ruleset(tuple(rules), rs.last))
         rules = smaller(list(rs.rules), lambda some: fails(runner, rewritten(some), lines), 400)
         rules_hex = rewritten(rules)
-    return rules_hex, smaller(lines, lambda some: fails(runner, rules_hex, some), 200)
+    lines = smaller(lines, lambda some: fails(runner, rules_hex, some), 200)
+    if runner.program == "say" and len(lines) == 1 and ref.sound(lines[0][:-1]):
+        name = smaller(list(ref.sound(lines[0][:-1])[1:]),
+                       lambda some: fails(runner, rules_hex, [ref.frame_line(b"\x03" + bytes(some))]), 200)
+        shorter = [ref.frame_line(b"\x03" + bytes(name))]
+        lines = shorter if fails(runner, rules_hex, shorter) else lines
+    return rules_hex, lines
 
 
 def clipped(data, width=160, most=30):

@@ -229,7 +229,7 @@ class Source:
         """A file after one accident of a card, an editor or a cable."""
         lines = split_lines(data) or [b""]
         at, k, m = self.upto(max(0, len(data) - 1)), self.upto(len(lines) - 1), self.upto(len(lines) - 1)
-        kind = self.upto(13)
+        kind = self.upto(15)
         if kind == 0 and data:          # a bit
             return data[:at] + bytes([data[at] ^ 1 << self.upto(7)]) + data[at + 1:]
         if kind == 1:                   # a digit
@@ -254,23 +254,38 @@ class Source:
         if kind == 10:
             return data[:-1]
         if kind == 11:                  # the head's fields, summed again
-            body = bytearray(ref.sound(lines[0].rstrip(b"\n")) or b"\1\1\0\0\0\0")
-            body[self.upto(len(body) - 1)] = self.pick([0, 1, 2, 3, 0xFF])
-            return frame_line(body) + b"".join(lines[1:])
+            return self.other_head(lines[0], len(lines) - 1) + b"".join(lines[1:])
+        if kind == 12 and len(lines) > 1:   # a number repeated, or just past `last`
+            body = ref.sound(lines[k].rstrip(b"\n")) or b"\0\0\0"
+            other = ref.sound(lines[m].rstrip(b"\n")) or b"\0\0\0"
+            lines[k] = frame_line(body[:1] + other[1:3] + body[3:])
+            return b"".join(lines)
         lines[k] = self.resummed(lines[k])
         return b"".join(lines)
 
+    def other_head(self, line, count):
+        body = ref.sound(line.rstrip(b"\n")) or b"\1\1\0\0\0\0"
+        last = int.from_bytes(body[4:6], "big")
+        kind = self.upto(5)
+        if kind == 0:
+            return self.resummed(line)
+        if kind < 3:
+            count = self.pick([max(0, count - 1), count + 1, 512, 513, 514, 0xFFFF])
+        else:
+            last = self.pick([0, max(0, last - 1), max(0, count - 1), 0xFFFF])
+        return frame_line(body[:2] + two(count) + two(last))
+
     def file(self, rs):
         data = ref.file_text(rs)
-        for _ in range(self.pick([0, 1, 1, 2, 3])):
+        for _ in range(self.pick([1, 1, 1, 2, 3])):
             data = self.damaged(data)
         return data
 
     # Tables and lent lengths -----------------------------------------------------
 
     def lent(self, need):
-        return self.pick([need, need, need, need + 1, need + 1000, max(0, need - 1), 0,
-                          self.upto(need), 0xFFFFFFFF])
+        return self.pick([need, need, need, need + 1, need + 1000, max(0, need - 1), 0, 1,
+                          self.upto(need), 0x10000, 0xFFFFFFFF])
 
     def damaged_tables(self, rs):
         """Built tables with a few words or set words changed, or garbage."""
@@ -285,11 +300,14 @@ class Source:
                 sets[at] = self.set_damage(sets[at], len(rs.rules))
         return words, sets
 
-    def word_damage(self, lefts, rights):
-        rows = 2 + 64 * (lefts + rights)
-        at = self.pick([0, 1]) if self.chance(0.1) else self.random.randint(2, max(2, rows - 1))
-        return at, self.pick([0, 0xFFFF, lefts, rights, max(0, lefts - 1), max(0, rights - 1),
-                              self.upto(min(0xFFFF, lefts + rights))])
+    def word_damage(self, lefts, rights, symbols=bytes(range(64))):
+        """A count, or an entry under one of the symbols, often of a state near the root."""
+        if self.chance(0.1):
+            return self.pick([0, 1]), self.pick([0, 1, lefts, rights, 0xFFFF])
+        base, states = self.pick([(2, lefts), (2 + 64 * lefts, rights)])
+        state = self.upto(max(0, states - 1)) if self.chance(0.4) else self.upto(min(3, max(0, states - 1)))
+        value = self.pick([0, states, states, max(0, states - 1), 0xFFFF, self.upto(states)])
+        return base + 64 * state + self.pick(symbols), value
 
     def set_damage(self, value, count):
         return self.pick([0, 2**64 - 1, value ^ 1 << self.upto(63), 1 << count % 64, value << 1 & 2**64 - 1])
@@ -338,8 +356,8 @@ class Source:
             names += self.line_damage(line) if self.chance(0.1) else line
         if self.chance(0.05):
             names = names[:-1]
-        if self.chance(0.02):
-            names = names + b"\n" * (self.pick([32_768, 32_769]) - len(names))
+        if self.chance(0.04):
+            names = names.ljust(self.pick([32_768, 32_769]), b"\n" if self.chance(0.3) else b"0")
         return rules_hex, names
 
     # Whole sessions of `monitor` ---------------------------------------------------------
@@ -396,17 +414,18 @@ class Source:
             return b"\x13"
         if kind < 0.35:
             need = len(ref.file_text(rs)) if valid else 15
-            return b"\x14" + four(self.pick([need, need - 1, 0, 29_199, 29_200, 0xFFFFFFFF]))
+            return b"\x14" + four(self.pick([need, need - 1, 0, 29_199, 29_200, 0x10000, 0xFFFFFFFF]))
         if kind < 0.45:
             return b"\x15" + four(self.lent(words)) + four(self.lent(sets))
         if kind < 0.72:
             return self.speech_body(held, rs, valid, words, sets)
         if kind < 0.78:
             if self.chance(0.5):
-                at, value = self.word_damage(min(held.words[0], 3073), min(held.words[1], 5121))
+                symbols = b"\0" + b"".join(r.target for _, r in rs.rules)
+                at, value = self.word_damage(min(held.words[0], 3073), min(held.words[1], 5121), symbols)
                 at = self.pick([at, at, at, at, ref.MONITOR_WORDS - 1, ref.MONITOR_WORDS, 0xFFFFFFFF])
                 return b"\x18" + four(at) + two(value)
-            at = self.upto(sets - 1)
+            at = self.upto(sets - 1) if self.chance(0.5) else 8 * self.upto(min(3, sets // 8 - 1))
             value = self.set_damage(held.sets[at], len(rs.rules))
             at = self.pick([at, at, at, at, ref.MONITOR_SETS - 1, ref.MONITOR_SETS, 0xFFFFFFFF])
             return b"\x19" + four(at) + value.to_bytes(8, "big")
