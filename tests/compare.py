@@ -116,20 +116,25 @@ def smaller(items, still_fails, tries):
     return items
 
 
+def shorter_name(runner, rules_hex, lines):
+    """Where one sound name line is left, with fewer letters."""
+    body = ref.sound(lines[0][:-1]) if len(lines) == 1 else None
+    if runner.program != "say" or body is None:
+        return lines
+    line = lambda letters: [ref.frame_line(body[:1] + bytes(letters))]
+    return line(smaller(list(body[1:]), lambda some: fails(runner, rules_hex, line(some)), 200))
+
+
 def minimal(runner, rules_hex, lines):
     lines = smaller(lines, lambda some: fails(runner, rules_hex, some), 400)
+    lines = shorter_name(runner, rules_hex, lines)
     rs = ref.read_file(rules_hex) if rules_hex is not None else None
     if isinstance(rs, ref.Ruleset):
         rewritten = lambda rules: ref.file_text(ref.Ruleset(tuple(rules), rs.last))
         rules = smaller(list(rs.rules), lambda some: fails(runner, rewritten(some), lines), 400)
         rules_hex = rewritten(rules)
-    lines = smaller(lines, lambda some: fails(runner, rules_hex, some), 200)
-    if runner.program == "say" and len(lines) == 1 and ref.sound(lines[0][:-1]):
-        name = smaller(list(ref.sound(lines[0][:-1])[1:]),
-                       lambda some: fails(runner, rules_hex, [ref.frame_line(b"\x03" + bytes(some))]), 200)
-        shorter = [ref.frame_line(b"\x03" + bytes(name))]
-        lines = shorter if fails(runner, rules_hex, shorter) else lines
-    return rules_hex, lines
+        lines = shorter_name(runner, rules_hex, lines)
+    return rules_hex, smaller(lines, lambda some: fails(runner, rules_hex, some), 200)
 
 
 def clipped(data, width=160, most=30):

@@ -249,7 +249,7 @@ class Source:
             return data.replace(b"\n", self.pick([b"\r\n", b"\r", b"", b"\n\n", b" \n"]))
         if kind == 8:
             return data.lower() if self.chance(0.5) else b"".join(lines[:k] + [lines[k].lower()] + lines[k + 1:])
-        if kind == 9:
+        if kind in (9, 13):
             return data + self.pick([b"\n", b" ", b"0", lines[-1], lines[0], b"\x00"])
         if kind == 10:
             return data[:-1]

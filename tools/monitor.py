@@ -14,6 +14,7 @@
     clear                         the empty ruleset again
     frame BYTES                   any bytes as a frame, the sum added
     line TEXT                     any text as a line, sound or not
+    repeat N COMMAND              the same command N times, the last answer shown
     help                          quit
 
 Numbers are decimal or 0x hexadecimal. All that is not lent by name=N is lent whole.
@@ -180,6 +181,13 @@ def answer_text(sent, answer, alphabet):
     return frames.answer_text(answer, alphabet)
 
 
+def repeated(text):
+    """(times, command)."""
+    word, _, rest = text.partition(" ")
+    times, _, command = rest.strip().partition(" ")
+    return (number(times, 16), command.strip()) if word == "repeat" and command else (1, text)
+
+
 def converse(child, text, alphabet):
     """Sends one command and reads its whole answer: of a file, as many lines as its head says."""
     sent = line_for(text, alphabet)
@@ -218,7 +226,9 @@ def talk(folder, program, alphabet):
     with subprocess.Popen(program, cwd=folder, text=True, stdin=subprocess.PIPE, stdout=subprocess.PIPE) as child:
         for text in commands_in(sys.stdin):
             try:
-                print(converse(child, text, alphabet), flush=True)
+                times, command = repeated(text)
+                answers = [converse(child, command, alphabet) for _ in range(times)]
+                print(*answers[-1:], flush=True)
             except Mistake as mistake:
                 print(f"monitor: {mistake}", flush=True)
             except (EOFError, BrokenPipeError):
@@ -238,7 +248,8 @@ def main():
             for text in sys.stdin:
                 text = text.split(";")[0].strip()
                 if text:
-                    sys.stdout.write(line_for(text, alphabet))
+                    times, command = repeated(text)
+                    sys.stdout.write(times * line_for(command, alphabet))
             return
         program = frames.command(given.program)
         with tempfile.TemporaryDirectory() as folder:
