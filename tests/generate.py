@@ -462,10 +462,10 @@ class Source:
         kind = self.upto(3)
         if kind == 0:
             at = self.pick([0, words - 2, words, self.upto(words), ref.MONITOR_WORDS - 4])
-            return b"\x1A" + four(at) + bytes([self.pick([1, 4, 5, 64, 255])])
+            return b"\x1A" + four(at) + bytes([self.pick([0, 1, 4, 5, 64, 255])])
         if kind == 1:
             at = self.pick([0, sets - 2, sets, self.upto(sets), ref.MONITOR_SETS - 4])
-            return b"\x1B" + four(at) + bytes([self.pick([1, 4, 5, 8, 255])])
+            return b"\x1B" + four(at) + bytes([self.pick([0, 1, 4, 5, 8, 255])])
         return b"\x1C" if kind == 2 else b"\x1D"
 
     def force_body(self, held):
