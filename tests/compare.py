@@ -53,24 +53,25 @@ class Runner:
                     talk = self.converse if self.manner == "converse" else self.in_pieces
                     out = talk(child, rules_hex, lines)
                     code = child.wait()
-                except BrokenPipeError:
-                    return "stopped reading before the end of its input"
                 finally:
                     stop.cancel()
                 return out if code == 0 else f"ended with {code} (killed after {self.limit} s if -9)"
 
     def in_pieces(self, child, rules_hex, lines):
-        """A pipe that delivers a few bytes at a time."""
+        """A pipe that delivers a few bytes at a time. `say` need not read on after bad rules."""
         out = []
         reader = threading.Thread(target=lambda: out.append(child.stdout.read()))
         reader.start()
         data, at, pieces = b"".join(lines), 0, random.Random(len(lines))
-        while at < len(data):
-            size = pieces.choice([1, 1, 2, 7, 61])
-            child.stdin.write(data[at:at + size])
-            at += size
-            if pieces.random() < 0.05:
-                time.sleep(0.001)
+        try:
+            while at < len(data):
+                size = pieces.choice([1, 1, 2, 7, 61])
+                child.stdin.write(data[at:at + size])
+                at += size
+                if pieces.random() < 0.05:
+                    time.sleep(0.001)
+        except BrokenPipeError:
+            pass
         child.stdin.close()
         reader.join()
         return out[0]
@@ -78,7 +79,10 @@ class Runner:
     def converse(self, child, rules_hex, lines):
         held, out = ref.Monitor(rules_hex), b""
         for line in lines:
-            child.stdin.write(line)
+            try:
+                child.stdin.write(line)
+            except BrokenPipeError:
+                return out
             if not line.endswith(b"\n"):
                 break
             for _ in range(held.answer(line[:-1]).count(b"\n")):

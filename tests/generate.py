@@ -390,7 +390,6 @@ class Source:
         body = ref.sound(line)
         if body is None or body[0] != 0x1E or len(body) != 9:
             return True
-        place = int.from_bytes(body[1:3], "big")
         before = held.count, held.last, held.slots[:]
         held.answer(line)
         try:

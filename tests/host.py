@@ -10,6 +10,8 @@ the answer's own bytes, and all else as it was.
 
 import argparse
 import ctypes as c
+import os
+import subprocess
 import sys
 
 import generate
@@ -51,6 +53,14 @@ class Lent:
             check.equal(f"{what}: item {at}", self.items[at], wanted[at])
         else:
             check.passed += 1
+
+
+def load(archive, folder):
+    """A static library as one that Python can call. A slice is handed over as pointer and length."""
+    library = os.path.join(folder, "host.so")
+    subprocess.run(["gcc", "-shared", "-o", library, "-Wl,--whole-archive", archive, "-Wl,--no-whole-archive"],
+                   check=True)
+    return c.CDLL(library)
 
 
 class ReferenceBinding:

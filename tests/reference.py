@@ -590,7 +590,7 @@ class Monitor:
         if command is None:
             return UNSOUND
         call, *sizes = command
-        fixed = sum(abs(size) for size in sizes)
+        fixed = sum(sizes)
         open_ended = call in (Monitor.add, Monitor.walk, Monitor.plain)
         if len(body) - 1 < fixed or (not open_ended and len(body) - 1 != fixed):
             return UNSOUND

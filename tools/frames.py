@@ -12,6 +12,9 @@ Rules as text, one a line, or in Festival's writing in parentheses; ; starts a c
 
 import os
 import re
+import shlex
+import sys
+import unicodedata
 
 BOUNDARY, SPACE = 0x00, 0x3F
 LIMITS = {"left": 6, "target": 4, "right": 6, "phones": 4}
@@ -115,6 +118,7 @@ class Alphabet:
     def name(self, text):
         """The bytes of a typed name; \\40 stands for the byte 40, a letter or not."""
         out = bytearray()
+        text = unicodedata.normalize("NFC", text)       # ñ may come as n and a tilde
         for hexadecimal, character in re.findall(r"\\([0-9A-Fa-f]{2})|(.)", text, re.S):
             if hexadecimal:
                 out.append(int(hexadecimal, 16))
@@ -127,7 +131,7 @@ class Alphabet:
     def symbols(self, text):
         """A context or target: letters, # and _, spaces between them free."""
         return b"".join(b"\0" if c == "#" else self.name(c)
-                        for c in re.findall(r"\\[0-9A-Fa-f]{2}|\S", text))
+                        for c in re.findall(r"\\[0-9A-Fa-f]{2}|\S", unicodedata.normalize("NFC", text)))
 
 
 def phone_bytes(text):
@@ -202,7 +206,7 @@ def read_rules(text):
                 if len(rest) != 2 or not re.fullmatch(r"[0-9A-Fa-f]{2}", rest[0]):
                     raise Mistake(f"write {word} XX text")
                 if word == "letter":
-                    alphabet.letters[rest[1]] = int(rest[0], 16)
+                    alphabet.letters[unicodedata.normalize("NFC", rest[1])] = int(rest[0], 16)
                 else:
                     alphabet.phones[int(rest[0], 16)] = rest[1]
                 continue
@@ -242,11 +246,23 @@ def command(text):
     """A program as a path or, where it is none, as a command line."""
     if os.path.exists(text):
         return [os.path.abspath(text)]
-    import shlex
     parts = shlex.split(text)
     if len(parts) < 2:
         raise Mistake(f"no program at {text}: build it (rt check), or name it with --program")
     return [os.path.abspath(part) if os.path.exists(part) else part for part in parts]
+
+
+def run(main, name):
+    """A tool's main: mistakes without a trace, and no complaint when `head` has read enough."""
+    try:
+        code = main()
+        sys.stdout.flush()
+        sys.exit(code)
+    except Mistake as mistake:
+        sys.exit(f"{name}: {mistake}")
+    except BrokenPipeError:
+        os.dup2(os.open(os.devnull, os.O_WRONLY), sys.stdout.fileno())
+        sys.exit(1)
 
 
 def read_text(path):

@@ -242,24 +242,21 @@ def main():
     parser.add_argument("--program", default=frames.program("monitor"), help="default: target/bin/monitor")
     parser.add_argument("--frames", action="store_true", help="print each command's line, start no program")
     given = parser.parse_args()
-    try:
-        alphabet, rule_file = frames.load_rules(given.rules) if given.rules else (frames.Alphabet(), None)
-        if given.frames:
-            for text in sys.stdin:
-                text = text.split(";")[0].strip()
-                if text:
-                    times, command = repeated(text)
-                    sys.stdout.write(times * line_for(command, alphabet))
-            return
-        program = frames.command(given.program)
-        with tempfile.TemporaryDirectory() as folder:
-            if rule_file is not None:
-                with open(os.path.join(folder, "rules.hex"), "w", encoding="ascii") as file:
-                    file.write(rule_file)
-            talk(folder if rule_file is not None else None, program, alphabet)
-    except Mistake as mistake:
-        sys.exit(f"monitor: {mistake}")
+    alphabet, rule_file = frames.load_rules(given.rules) if given.rules else (frames.Alphabet(), None)
+    if given.frames:
+        for text in sys.stdin:
+            text = text.split(";")[0].strip()
+            if text:
+                times, command = repeated(text)
+                sys.stdout.write(times * line_for(command, alphabet))
+        return
+    program = frames.command(given.program)
+    with tempfile.TemporaryDirectory() as folder:
+        if rule_file is not None:
+            with open(os.path.join(folder, "rules.hex"), "w", encoding="ascii") as file:
+                file.write(rule_file)
+        talk(folder if rule_file is not None else None, program, alphabet)
 
 
 if __name__ == "__main__":
-    main()
+    frames.run(main, "monitor")

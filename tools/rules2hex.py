@@ -19,12 +19,9 @@ def main():
     parser = argparse.ArgumentParser(description=__doc__, formatter_class=argparse.RawDescriptionHelpFormatter)
     parser.add_argument("rules", help="the readable rules, - for standard input")
     given = parser.parse_args()
-    try:
-        text = sys.stdin.read() if given.rules == "-" else frames.read_text(given.rules)
-        sys.stdout.write(frames.rule_file(frames.read_rules(text)[1]))
-    except frames.Mistake as mistake:
-        sys.exit(f"rules2hex: {mistake}")
+    text = sys.stdin.read() if given.rules == "-" else frames.read_text(given.rules)
+    sys.stdout.write(frames.rule_file(frames.read_rules(text)[1]))
 
 
 if __name__ == "__main__":
-    main()
+    frames.run(main, "rules2hex")

@@ -43,23 +43,21 @@ def main():
     parser.add_argument("--rules", default=frames.example("six.hex"), help="default: examples/six.hex")
     parser.add_argument("--program", default=frames.program("say"), help="default: target/bin/say")
     given = parser.parse_args()
-    try:
-        alphabet, rule_file = frames.load_rules(given.rules)
-        names = given.name + (names_in(frames.read_text(given.names)) if given.names else [])
-        names = names or names_in(sys.stdin.read())
-        lines = [frames.frame(b"\x03" + alphabet.name(name)) for name in names]
-        answers = say(frames.command(given.program), rule_file, lines)
-        # No sound name line is refused with 11, 13 or 14: these are about the rules or the whole input.
-        if len(answers) == 1 and frames.refusal_of(answers[0]) in (11, 13, 14):
-            print("rules -> " + frames.answer_text(answers[0], alphabet))
-            return 1
-        for name, answer in zip(names, answers):
-            print(f"{name} -> {frames.answer_text(answer, alphabet)}")
-        if len(answers) != len(names):
-            raise frames.Mistake(f"{len(answers)} answers to {len(names)} names")
-    except frames.Mistake as mistake:
-        sys.exit(f"speak: {mistake}")
+    alphabet, rule_file = frames.load_rules(given.rules)
+    names = given.name + (names_in(frames.read_text(given.names)) if given.names else [])
+    names = names or names_in(sys.stdin.read())
+    lines = [frames.frame(b"\x03" + alphabet.name(name)) for name in names]
+    answers = say(frames.command(given.program), rule_file, lines)
+    # No sound name line is refused with 11, 13 or 14: these are about the rules or the whole input.
+    if len(answers) == 1 and frames.refusal_of(answers[0]) in (11, 13, 14):
+        print("rules -> " + frames.answer_text(answers[0], alphabet))
+        return 1
+    for name, answer in zip(names, answers):
+        print(f"{name} -> {frames.answer_text(answer, alphabet)}")
+    if len(answers) != len(names):
+        raise frames.Mistake(f"{len(answers)} answers to {len(names)} names")
+    return 0
 
 
 if __name__ == "__main__":
-    sys.exit(main())
+    frames.run(main, "speak")
