@@ -44,7 +44,8 @@ class Runner:
                                           capture_output=True, timeout=self.limit)
                 except subprocess.TimeoutExpired:
                     return f"did not end within {self.limit} s"
-                return done.stdout if done.returncode == 0 else f"ended with {done.returncode}"
+                # No document gives exit codes; a signal is a fault.
+                return done.stdout if done.returncode >= 0 else f"ended by signal {-done.returncode}"
             with subprocess.Popen(self.command, cwd=folder, stdin=subprocess.PIPE,
                                   stdout=subprocess.PIPE, stderr=subprocess.DEVNULL, bufsize=0) as child:
                 stop = threading.Timer(self.limit, child.kill)
@@ -55,7 +56,7 @@ class Runner:
                     code = child.wait()
                 finally:
                     stop.cancel()
-                return out if code == 0 else f"ended with {code} (killed after {self.limit} s if -9)"
+                return out if code >= 0 else f"ended by signal {-code} (9: not ended after {self.limit} s)"
 
     def in_pieces(self, child, rules_hex, lines):
         """A pipe that delivers a few bytes at a time. `say` need not read on after bad rules."""
