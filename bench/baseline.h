@@ -1,0 +1,60 @@
+/*
+ * The yardstick of the benchmark: the same tables, walk, plain reading and rule file as document 01,
+ * written by hand in plain C. It trusts its caller: rulesets are valid, names are 1 to 63 in at most
+ * 64 bytes, memory is long enough and tables are built. Only base_read judges what it is given,
+ * since a file comes from outside.
+ */
+#ifndef BASELINE_H
+#define BASELINE_H
+
+#include <stddef.h>
+#include <stdint.h>
+
+enum {
+    BASE_RULES = 512,
+    BASE_NAME = 64,
+    BASE_SYMBOLS = 64,
+    BASE_SET_WORDS = 8,         /* 512 bits */
+    BASE_LEFT_STATES = 3073,    /* most states of either side */
+    BASE_RIGHT_STATES = 5121,
+    BASE_WORDS = 2 + BASE_SYMBOLS * (BASE_LEFT_STATES + BASE_RIGHT_STATES),
+    BASE_SETS = BASE_SET_WORDS * (BASE_LEFT_STATES + BASE_RIGHT_STATES),
+    BASE_PHONES = 4 * BASE_NAME,
+    BASE_FILE = 29199           /* longest rule file */
+};
+
+struct base_rule {
+    uint16_t number;
+    uint8_t left_len, target_len, right_len, phone_len;
+    uint8_t left[6], target[4], right[6], phones[4];
+};
+
+struct base_ruleset {
+    uint16_t count, last;
+    struct base_rule rules[BASE_RULES];
+};
+
+/* Phones and rule numbers of a name; position is 0, or the letter that no rule fits. */
+struct base_spoken {
+    uint32_t phone_count, rule_count, steps, position;
+    uint8_t phones[BASE_PHONES];
+    uint16_t numbers[BASE_NAME];
+};
+
+/* Fills words and sets as document 01 lays them out; they have room for BASE_WORDS and BASE_SETS. */
+void base_build(const struct base_ruleset *rs, uint16_t *words, uint64_t *sets);
+
+/* The walk through built tables. Returns 0, or -1 with the position set. */
+int base_walk(const struct base_ruleset *rs, const uint16_t *words, const uint64_t *sets,
+              const uint8_t *name, size_t n, struct base_spoken *out);
+
+/* The plain reading: tries the rules in order. Returns as base_walk. */
+int base_plain(const struct base_ruleset *rs, const uint8_t *name, size_t n, struct base_spoken *out);
+
+/* Reads a rule file. Returns 0, or -1 for one that is none; rs is then undefined. */
+int base_read(const uint8_t *text, size_t length, struct base_ruleset *rs);
+
+/* Writes the rule file into BASE_FILE bytes. Returns its length. */
+size_t base_write(const struct base_ruleset *rs, uint8_t *text);
+
+#endif

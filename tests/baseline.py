@@ -1,0 +1,108 @@
+#!/usr/bin/env python3
+"""The benchmark's yardstick does the same work: bench/baseline.c compared with reference.py.
+
+    python3 tests/baseline.py [--count N] [--seed S]
+"""
+
+import argparse
+import ctypes as c
+import os
+import subprocess
+import sys
+import tempfile
+
+import generate
+import reference as ref
+
+SOURCE = os.path.join(os.path.dirname(os.path.abspath(__file__)), "..", "bench", "baseline.c")
+
+
+class Rule(c.Structure):
+    _fields_ = [("number", c.c_uint16), ("lengths", c.c_uint8 * 4), ("left", c.c_uint8 * 6),
+                ("target", c.c_uint8 * 4), ("right", c.c_uint8 * 6), ("phones", c.c_uint8 * 4)]
+
+
+class Ruleset(c.Structure):
+    _fields_ = [("count", c.c_uint16), ("last", c.c_uint16), ("rules", Rule * 512)]
+
+
+class Spoken(c.Structure):
+    _fields_ = [("phone_count", c.c_uint32), ("rule_count", c.c_uint32), ("steps", c.c_uint32),
+                ("position", c.c_uint32), ("phones", c.c_uint8 * 256), ("numbers", c.c_uint16 * 64)]
+
+
+def given_to_c(rs):
+    out = Ruleset(len(rs.rules), rs.last)
+    for place, (number, rule) in enumerate(rs.rules):
+        held = out.rules[place]
+        held.number = number
+        for k, (name, field) in enumerate(rule._asdict().items()):
+            held.lengths[k] = len(field)
+            getattr(held, name)[:len(field)] = field
+    return out
+
+
+def got_from_c(held):
+    rules = []
+    for rule in held.rules[:held.count]:
+        fields = (bytes(getattr(rule, name))[:length]
+                  for name, length in zip(("left", "target", "right", "phones"), rule.lengths))
+        rules.append(ref.Numbered(rule.number, ref.Rule(*fields)))
+    return ref.Ruleset(tuple(rules), held.last)
+
+
+def answer(code, out):
+    if code:
+        return ref.Refusal(3, out.position)
+    return ref.Spoken(bytes(out.phones[:out.phone_count]), tuple(out.numbers[:out.rule_count]))
+
+
+def compare(base, source, check, words, sets):
+    rs = source.ruleset()
+    held = given_to_c(rs)
+    base.base_build(c.byref(held), words, sets)
+    built_words, built_sets = ref.build(rs, ref.MONITOR_WORDS, ref.MONITOR_SETS)
+    check.equal("words", words[:len(built_words)], list(built_words))
+    check.equal("sets", sets[:len(built_sets)], list(built_sets))
+    out = Spoken()
+    for _ in range(10):
+        name = source.name(rs)
+        if ref.name_refusal(name):
+            continue
+        wanted = ref.plain_reading(rs, name, 256, 64)
+        code = base.base_walk(c.byref(held), words, sets, name, c.c_size_t(len(name)), c.byref(out))
+        check.equal("walk", (answer(code, out), out.steps), (wanted, 2 * len(name) + 2))
+        code = base.base_plain(c.byref(held), name, c.c_size_t(len(name)), c.byref(out))
+        check.equal("plain", answer(code, out), wanted)
+    text = (c.c_uint8 * ref.LONGEST_FILE)()
+    length = base.base_write(c.byref(held), text)
+    check.equal("write", bytes(text[:length]), ref.file_text(rs))
+    for data in (ref.file_text(rs), source.file(rs), source.file(rs)):
+        back = Ruleset()
+        code = base.base_read(data, c.c_size_t(len(data)), c.byref(back))
+        wanted = ref.read_file(data)
+        check.equal("read", got_from_c(back) if code == 0 else None,
+                    None if isinstance(wanted, ref.Refusal) else wanted)
+
+
+def main():
+    parser = argparse.ArgumentParser(description=__doc__, formatter_class=argparse.RawDescriptionHelpFormatter)
+    parser.add_argument("--count", type=int, default=50)
+    parser.add_argument("--seed", type=int, default=1)
+    given = parser.parse_args()
+    check = ref.Check()
+    with tempfile.TemporaryDirectory() as folder:
+        library = os.path.join(folder, "baseline.so")
+        subprocess.run(["gcc", "-O2", "-std=c11", "-Wall", "-Wextra", "-shared", "-fPIC", SOURCE, "-o", library],
+                       check=True)
+        base = c.CDLL(library)
+        base.base_write.restype = c.c_size_t
+        words, sets = (c.c_uint16 * ref.MONITOR_WORDS)(), (c.c_uint64 * ref.MONITOR_SETS)()
+        for seed in range(given.seed, given.seed + given.count):
+            compare(base, generate.Source(f"baseline {seed}"), check, words, sets)
+    print(f"{check.passed} passed, {check.failed} failed")
+    return 1 if check.failed else 0
+
+
+if __name__ == "__main__":
+    sys.exit(main())

@@ -1,0 +1,55 @@
+#!/usr/bin/env python3
+"""The example rulesets: the .hex files are what their readable sources say, and each name sounds
+as basque.names says, by plain reading and by walk."""
+
+import os
+import sys
+
+HERE = os.path.dirname(os.path.abspath(__file__))
+sys.path.insert(0, os.path.join(HERE, "..", "tools"))
+
+import frames
+import reference as ref
+
+
+def example(name):
+    with open(os.path.join(HERE, "..", "examples", name), encoding="utf-8") as file:
+        return file.read()
+
+
+def main():
+    check = ref.Check()
+    alphabets = {}
+    for name in ("six", "basque"):
+        alphabets[name], rules = frames.read_rules(example(name + ".rules"))
+        check.equal(name + ".hex is its source's", example(name + ".hex"), frames.rule_file(rules))
+    check.equal("six.hex", example("six.hex").encode(), ref.SIX_FILE)
+    rs = ref.read_file(example("basque.hex").encode())
+    check.equal("basque.hex is a ruleset", isinstance(rs, ref.Ruleset), True)
+    check.equal("100 rules or more", len(rs.rules) >= 100, True)
+    for letter in sorted(set(alphabets["basque"].letters.values())):
+        alone = ref.plain_reading(rs, bytes([letter]), 256, 64)
+        check.equal(f"letter {letter:02X} alone is spoken", isinstance(alone, ref.Spoken), True)
+    words, sets = ref.build(rs, ref.SAY_WORDS, ref.SAY_SETS)
+    applied = set()
+    for line in example("basque.names").splitlines():
+        name, _, rest = line.partition(";")
+        if not name.strip():
+            continue
+        letters = alphabets["basque"].name(name.strip())
+        said = ref.plain_reading(rs, letters, 256, 64)
+        check.equal(name.strip() + ", walk", ref.walk(rs, words, sets, letters, 256, 64), (said, 2 * len(letters) + 2))
+        if not isinstance(said, ref.Spoken):
+            check.equal(name.strip() + " is spoken", said, "phones")
+            continue
+        applied.update(said.numbers)
+        sounds = "".join(alphabets["basque"].phones[p] for p in said.phones)
+        check.equal(name.strip(), sounds, rest.split(";")[0].strip())
+    states = words[0] + words[1]
+    print(f"basque: {len(rs.rules)} rules, {states} states, {len(words)} words, {len(applied)} rules applied by the names")
+    print(f"{check.passed} passed, {check.failed} failed")
+    return 1 if check.failed else 0
+
+
+if __name__ == "__main__":
+    sys.exit(main())

@@ -1,0 +1,976 @@
+#!/usr/bin/env python3
+"""Document 01 as plain Python: the independent side of the random comparisons.
+
+Written from document 01 and the issues alone, by definition and not for speed:
+no failure links, no bitmaps of numbers, no code shared with the product.
+
+    python3 tests/reference.py             check every example and number of document 01
+    python3 tests/reference.py say         be the program `say`
+    python3 tests/reference.py monitor     be the program `monitor`
+
+Readings of open points are marked 'Reading:'.
+"""
+
+import sys
+from array import array
+from functools import lru_cache
+from typing import NamedTuple
+
+BOUNDARY = 0            # the symbol #
+SYMBOLS = 64            # 00 to 3F
+MAX_CONTEXT = 6
+MAX_TARGET = 4
+MAX_RULE_PHONES = 4
+MAX_NAME = 64
+MAX_RULES = 512
+MAX_NUMBER = 65_535
+
+SLOT = 26               # a rule in lent memory
+MEMORY = 4 + MAX_RULES * SLOT
+LONGEST_FILE = 29_199
+LONGEST_INPUT = 32_768  # bytes of either input of `say`
+SAY_WORDS = 32_768
+SAY_SETS = 4_096
+SAY_PHONES = 256
+SAY_NUMBERS = 64
+MONITOR_WORDS = 524_418
+MONITOR_SETS = 65_552
+MONITOR_LINE = 4_096
+
+
+class Rule(NamedTuple):
+    left: bytes = b""
+    target: bytes = b""
+    right: bytes = b""
+    phones: bytes = b""
+
+
+class Numbered(NamedTuple):
+    number: int
+    rule: Rule
+
+
+class Ruleset(NamedTuple):
+    """The ledger's state: the ordered list and the last number issued."""
+    rules: tuple = ()
+    last: int = 0
+
+
+class Refusal(NamedTuple):
+    number: int
+    place: int
+
+
+class Spoken(NamedTuple):
+    phones: bytes
+    numbers: tuple
+
+
+EMPTY = Ruleset()
+
+
+# Letters, rules, fitting ---------------------------------------------------
+
+def is_letter(byte):
+    return 0x01 <= byte <= 0x3F
+
+
+def has_shape(rule):
+    """# only first in a left context or last in a right one."""
+    return (len(rule.left) <= MAX_CONTEXT
+            and 1 <= len(rule.target) <= MAX_TARGET
+            and len(rule.right) <= MAX_CONTEXT
+            and len(rule.phones) <= MAX_RULE_PHONES
+            and all(is_letter(c) or (c == BOUNDARY and at == 0) for at, c in enumerate(rule.left))
+            and all(is_letter(c) for c in rule.target)
+            and all(is_letter(c) or (c == BOUNDARY and at == len(rule.right) - 1)
+                    for at, c in enumerate(rule.right))
+            and all(1 <= p <= 0xFF for p in rule.phones))
+
+
+def is_ruleset(rs):
+    numbers = [n for n, _ in rs.rules]
+    return (len(rs.rules) <= MAX_RULES
+            and 0 <= rs.last <= MAX_NUMBER
+            and all(has_shape(rule) for _, rule in rs.rules)
+            and all(1 <= n <= rs.last for n in numbers)
+            and len(set(numbers)) == len(numbers))
+
+
+def frame_name(name):
+    return bytes([BOUNDARY]) + bytes(name) + bytes([BOUNDARY])
+
+
+def fits(rule, framed, i):
+    start = i - len(rule.left)
+    after = i + len(rule.target) + len(rule.right)
+    return (start >= 0 and after <= len(framed)
+            and framed[start:i] == rule.left
+            and framed[i:after] == rule.target + rule.right)
+
+
+def name_refusal(name):
+    """2 before 1."""
+    if len(name) > MAX_NAME:
+        return Refusal(2, 0)
+    for at, byte in enumerate(name):
+        if not is_letter(byte):
+            return Refusal(1, at)
+    return None
+
+
+def room_refusal(phones, numbers, phone_room, number_room):
+    if len(phones) > phone_room:
+        return Refusal(4, len(phones))
+    if len(numbers) > number_room:
+        return Refusal(5, len(numbers))
+    return None
+
+
+def plain_reading(rs, name, phone_room, number_room):
+    """Refusals 0, 2, 1, 3, 4, 5 in that order."""
+    if not is_ruleset(rs):
+        return Refusal(0, 0)
+    refused = name_refusal(name)
+    if refused:
+        return refused
+    framed, n, i = frame_name(name), len(name), 1
+    phones, numbers = b"", []
+    while i <= n:
+        for number, rule in rs.rules:
+            if fits(rule, framed, i):
+                phones += rule.phones
+                numbers.append(number)
+                i += len(rule.target)
+                break
+        else:
+            return Refusal(3, i)
+    return (room_refusal(phones, numbers, phone_room, number_room)
+            or Spoken(phones, tuple(numbers)))
+
+
+# The ledger ----------------------------------------------------------------
+# Each edit gives (None, ruleset after) or (refusal, the ruleset it got).
+
+def add(rs, rule, p):
+    refused = None
+    if not is_ruleset(rs):
+        refused = Refusal(0, 0)
+    elif not has_shape(rule):
+        refused = Refusal(6, 0)
+    elif p > len(rs.rules):
+        refused = Refusal(7, 0)
+    elif len(rs.rules) == MAX_RULES:
+        refused = Refusal(9, 0)
+    elif rs.last == MAX_NUMBER:
+        refused = Refusal(10, 0)
+    if refused:
+        return refused, rs
+    number = rs.last + 1
+    rules = rs.rules[:p] + (Numbered(number, rule),) + rs.rules[p:]
+    return None, Ruleset(rules, number)
+
+
+def drop(rs, number):
+    if not is_ruleset(rs):
+        return Refusal(0, 0), rs
+    rest = tuple(r for r in rs.rules if r.number != number)
+    if len(rest) == len(rs.rules):
+        return Refusal(8, 0), rs
+    return None, Ruleset(rest, rs.last)
+
+
+def move(rs, number, p):
+    """The place is judged against the remaining list, one shorter."""
+    if not is_ruleset(rs):
+        return Refusal(0, 0), rs
+    moved = tuple(r for r in rs.rules if r.number == number)
+    rest = tuple(r for r in rs.rules if r.number != number)
+    if not moved:
+        return Refusal(8, 0), rs
+    if p > len(rest):
+        return Refusal(7, 0), rs
+    return None, Ruleset(rest[:p] + moved + rest[p:], rs.last)
+
+
+def replay(edits, rs=EMPTY):
+    """The answers and the ruleset after a list of ('add', rule, p), ('drop', number), ('move', number, p)."""
+    answers = []
+    for kind, *arguments in edits:
+        answer, rs = {"add": add, "drop": drop, "move": move}[kind](rs, *arguments)
+        answers.append(answer)
+    return answers, rs
+
+
+# The ruleset in lent memory -------------------------------------------------
+# count (2), last (2), then 512 slots: number (2), four lengths, 6 left,
+# 4 target, 6 right, 4 phones. Bytes past a length and slots past the count
+# are not judged.
+
+FIELDS = ((6, MAX_CONTEXT), (12, MAX_TARGET), (16, MAX_CONTEXT), (22, MAX_RULE_PHONES))
+
+
+def two(number):
+    return number.to_bytes(2, "big")
+
+
+def four(number):
+    return number.to_bytes(4, "big")
+
+
+def slot_bytes(numbered):
+    lengths = bytes(len(field) for field in numbered.rule)
+    fields = b"".join(f.ljust(room, b"\0") for f, (_, room) in zip(numbered.rule, FIELDS))
+    return two(numbered.number) + lengths + fields
+
+
+def memory_of(rs, fill=0):
+    """A ruleset's memory, with `fill` in the slots past the count."""
+    held = two(len(rs.rules)) + two(rs.last) + b"".join(map(slot_bytes, rs.rules))
+    return held.ljust(MEMORY, bytes([fill]))
+
+
+def slot_rule(slot):
+    """A length above its field is kept by padding, and so breaks the shape."""
+    fields = []
+    for (offset, room), length in zip(FIELDS, slot[2:6]):
+        fields.append(slot[offset:offset + min(length, room)].ljust(length, b"\0"))
+    return Numbered(int.from_bytes(slot[0:2], "big"), Rule(*fields))
+
+
+def ruleset_in(memory):
+    """The ruleset that lent memory holds, or None where refusal 0 is due."""
+    if len(memory) < MEMORY:
+        return None
+    count = int.from_bytes(memory[0:2], "big")
+    if count > MAX_RULES:
+        return None
+    slots = (memory[4 + SLOT * k:4 + SLOT * (k + 1)] for k in range(count))
+    rs = Ruleset(tuple(slot_rule(bytes(s)) for s in slots), int.from_bytes(memory[2:4], "big"))
+    return rs if is_ruleset(rs) else None
+
+
+# Frames and the rule file ---------------------------------------------------
+
+DIGITS = b"0123456789ABCDEF"
+
+
+def frame_line(body):
+    """The line of a frame: the last byte makes all of them add to zero modulo 256."""
+    return (bytes(body) + bytes([-sum(body) % 256])).hex().upper().encode() + b"\n"
+
+
+def sound(text):
+    """The bytes of a line (without its 0A) before the sum, or None if it is unsound."""
+    if len(text) % 2 or len(text) < 4 or any(c not in DIGITS for c in text):
+        return None
+    frame = bytes.fromhex(text.decode())
+    return frame[:-1] if sum(frame) % 256 == 0 else None
+
+
+def rule_body(numbered):
+    lengths = bytes(len(field) for field in numbered.rule)
+    return b"\x02" + two(numbered.number) + lengths + b"".join(numbered.rule)
+
+
+def file_text(rs):
+    head = frame_line(b"\x01\x01" + two(len(rs.rules)) + two(rs.last))
+    return head + b"".join(frame_line(rule_body(r)) for r in rs.rules)
+
+
+def write_file(rs, room):
+    """The file's bytes, or 0, 15."""
+    if not is_ruleset(rs):
+        return Refusal(0, 0)
+    text = file_text(rs)
+    return text if len(text) <= room else Refusal(15, len(text))
+
+
+def rule_of(body, last, seen):
+    """The numbered rule of a sound line, or None where refusal 14 is due."""
+    if body[0] != 0x02 or len(body) < 7:
+        return None
+    number, lengths = int.from_bytes(body[1:3], "big"), body[3:7]
+    if len(body) != 7 + sum(lengths):
+        return None
+    fields, at = [], 7
+    for length in lengths:
+        fields.append(body[at:at + length])
+        at += length
+    rule = Rule(*fields)
+    if not has_shape(rule) or not 1 <= number <= last or number in seen:
+        return None
+    return Numbered(number, rule)
+
+
+def read_file(data, memory_length=MEMORY):
+    """The ruleset of a file, or 0 (memory too short), 13, 14: earlier line first, 13 before 14.
+
+    Reading: a count above `last` shows only at the line that repeats, exceeds or is missing.
+    """
+    if memory_length < MEMORY:
+        return Refusal(0, 0)
+    at = 0
+
+    def next_line():
+        nonlocal at
+        start, end = at, data.find(b"\n", at)
+        if end < 0:
+            return start, None
+        at = end + 1
+        return start, sound(data[start:end])
+
+    start, head = next_line()
+    if head is None:
+        return Refusal(13, start)
+    if len(head) != 6 or head[:2] != b"\x01\x01":
+        return Refusal(14, start)
+    count, last = int.from_bytes(head[2:4], "big"), int.from_bytes(head[4:6], "big")
+    if count > MAX_RULES:
+        return Refusal(14, start)
+    rules, seen = [], set()
+    for _ in range(count):
+        start, body = next_line()
+        if body is None:
+            return Refusal(13, start)
+        numbered = rule_of(body, last, seen)
+        if numbered is None:
+            return Refusal(14, start)
+        seen.add(numbered.number)
+        rules.append(numbered)
+    if at < len(data):
+        return Refusal(14, at)
+    return Ruleset(tuple(rules), last)
+
+
+# The tables -------------------------------------------------------------------
+
+def left_pattern(rule):
+    return rule.left
+
+
+def right_pattern(rule):
+    return (rule.target + rule.right)[::-1]
+
+
+def state_strings(patterns):
+    """The strings in state order: the empty one, then each new prefix, shortest first."""
+    numbered = {b"": 0}
+    for pattern in patterns:
+        for length in range(1, len(pattern) + 1):
+            numbered.setdefault(pattern[:length], len(numbered))
+    return numbered
+
+
+def entry(numbered, string, symbol):
+    """The state of the longest numbered suffix of the string followed by the symbol."""
+    longer = string + bytes([symbol])
+    return next(numbered[longer[k:]] for k in range(len(longer) + 1) if longer[k:] in numbered)
+
+
+def set_of(patterns, string):
+    """The places of all rules whose pattern is a suffix of the string, as eight words."""
+    places = sum(1 << place for place, p in enumerate(patterns) if string.endswith(p))
+    return [places >> 64 * j & 2**64 - 1 for j in range(8)]
+
+
+@lru_cache(maxsize=16)
+def one_table(patterns):
+    """(state count, rows as one list, sets as one list).
+
+    Same as `entry` and `set_of` for every state and symbol, sooner: a numbered suffix of
+    (string, symbol) is empty or a child of a suffix of the string, and a later, longer one wins.
+    """
+    numbered = state_strings(patterns)
+    children = {string: [] for string in numbered}
+    for string, state in numbered.items():
+        if string:
+            children[string[:-1]].append((string[-1], state))
+    holders = {}
+    for place, pattern in enumerate(patterns):
+        holders[pattern] = holders.get(pattern, 0) | 1 << place
+    rows, sets = array("H"), array("Q")
+    for string in numbered:
+        row, places = [0] * SYMBOLS, 0
+        for k in range(len(string), -1, -1):
+            suffix = string[k:]
+            for symbol, state in children.get(suffix, ()):
+                row[symbol] = state
+            places |= holders.get(suffix, 0)
+        rows.extend(row)
+        sets.extend(places >> 64 * j & 2**64 - 1 for j in range(8))
+    return len(numbered), rows, sets
+
+
+def needed(rs):
+    """(L, R, words, set words) of a valid ruleset."""
+    lefts = len(state_strings(left_pattern(r) for _, r in rs.rules))
+    rights = len(state_strings(right_pattern(r) for _, r in rs.rules))
+    return lefts, rights, 2 + SYMBOLS * (lefts + rights), 8 * (lefts + rights)
+
+
+def build(rs, word_room, set_room):
+    """(words, set words), just the needed ones, or 0, 11, 12."""
+    if not is_ruleset(rs):
+        return Refusal(0, 0)
+    _, _, word_count, set_count = needed(rs)
+    if word_room < word_count:
+        return Refusal(11, word_count)
+    if set_room < set_count:
+        return Refusal(12, set_count)
+    lefts, left_rows, left_sets = one_table(tuple(left_pattern(r) for _, r in rs.rules))
+    rights, right_rows, right_sets = one_table(tuple(right_pattern(r) for _, r in rs.rules))
+    return array("H", [lefts, rights]) + left_rows + right_rows, left_sets + right_sets
+
+
+# The walk -----------------------------------------------------------------------
+
+class Unusable(Exception):
+    """Refusal 16."""
+
+
+def step(words, base, count, state, symbol):
+    state = words[base + SYMBOLS * state + symbol]
+    if state >= count:
+        raise Unusable
+    return state
+
+
+def walk(rs, words, sets, name, phone_room, number_room):
+    """(answer, steps) over lent words, built or not.
+
+    Order: 0, 2, 1, 16 for lengths, left pass, right pass, reached letters (3 or 16), 4, 5.
+    """
+    if not is_ruleset(rs):
+        return Refusal(0, 0), 0
+    refused = name_refusal(name)
+    if refused:
+        return refused, 0
+    try:
+        return walk_tables(rs, words, sets, name, phone_room, number_room)
+    except Unusable:
+        return Refusal(16, 0), 0
+
+
+def walk_tables(rs, words, sets, name, phone_room, number_room):
+    if len(words) < 2:
+        raise Unusable
+    lefts, rights = words[0], words[1]
+    if (lefts == 0 or rights == 0 or len(words) < 2 + SYMBOLS * (lefts + rights)
+            or len(sets) < 8 * (lefts + rights)):
+        raise Unusable
+    framed, n, steps = frame_name(name), len(name), 0
+    left_after, state = {}, 0
+    for position in range(0, n + 1):
+        state = step(words, 2, lefts, state, framed[position])
+        left_after[position] = state
+        steps += 1
+    right_after, state = {}, 0
+    for position in range(n + 1, 0, -1):
+        state = step(words, 2 + SYMBOLS * lefts, rights, state, framed[position])
+        right_after[position] = state
+        steps += 1
+    phones, numbers, i = b"", [], 1
+    while i <= n:
+        place = chosen(sets, 8 * left_after[i - 1], 8 * (lefts + right_after[i]))
+        if place is None:
+            return Refusal(3, i), steps
+        if place >= len(rs.rules) or not fits(rs.rules[place].rule, framed, i):
+            raise Unusable
+        number, rule = rs.rules[place]
+        phones += rule.phones
+        numbers.append(number)
+        i += len(rule.target)
+    return (room_refusal(phones, numbers, phone_room, number_room)
+            or Spoken(phones, tuple(numbers))), steps
+
+
+def chosen(sets, left, right):
+    """The lowest place that both sets hold."""
+    for j in range(8):
+        both = sets[left + j] & sets[right + j]
+        for k in range(64):
+            if both >> k & 1:
+                return 64 * j + k
+    return None
+
+
+# The programs --------------------------------------------------------------------
+
+def refusal_line(refusal):
+    return frame_line(b"\x05" + bytes([refusal.number]) + four(refusal.place))
+
+
+def spoken_line(spoken, steps):
+    return frame_line(b"\x04" + two(steps) + two(len(spoken.phones)) + spoken.phones
+                      + bytes([len(spoken.numbers)]) + b"".join(map(two, spoken.numbers)))
+
+
+UNSOUND = refusal_line(Refusal(13, 0))
+TOO_LONG = Refusal(13, LONGEST_INPUT)
+
+
+def lines_of(data):
+    """Each line's text, None for a last one without its 0A."""
+    *ended, rest = data.split(b"\n")
+    return ended + [None] if rest else ended
+
+
+def read_rules_hex(rules_hex):
+    """A missing file counts as empty."""
+    data = rules_hex if rules_hex is not None else b""
+    return TOO_LONG if len(data) > LONGEST_INPUT else read_file(data)
+
+
+def say(rules_hex, names):
+    """Standard output of `say`, given rules.hex (None: missing) and standard input."""
+    rs = read_rules_hex(rules_hex)
+    if isinstance(rs, Refusal):
+        return refusal_line(rs)
+    built = build(rs, SAY_WORDS, SAY_SETS)
+    if isinstance(built, Refusal):
+        return refusal_line(built)
+    if len(names) > LONGEST_INPUT:
+        return refusal_line(TOO_LONG)
+    return b"".join(say_line(rs, built, line) for line in lines_of(names))
+
+
+def say_line(rs, built, line):
+    body = sound(line) if line is not None else None
+    if body is None or body[0] != 0x03:
+        return UNSOUND
+    answer, steps = walk(rs, *built, body[1:], SAY_PHONES, SAY_NUMBERS)
+    return refusal_line(answer) if isinstance(answer, Refusal) else spoken_line(answer, steps)
+
+
+class Unspecified(Exception):
+    """The answer rests on slots that no document fills, e.g. past the count after a drop."""
+
+
+UNUSED = Numbered(0, Rule())
+
+
+class Monitor:
+    """The program `monitor`: `answer` takes one line's text (None: unended) and gives its answer.
+
+    Readings: unused slots start as zeros; a line's 4,096 bytes are counted without its 0A;
+    a show of no words is inside the memory up to the index just past its end.
+    """
+
+    def __init__(self, rules_hex=None):
+        self.rules_hex = rules_hex
+        self.count, self.last = 0, 0
+        self.slots = [UNUSED] * MAX_RULES
+        self.stale = set()      # places past the count that an edit may have left in any state
+        self.words = array("H", [0xFFFF]) * MONITOR_WORDS
+        self.sets = array("Q", [2**64 - 1]) * MONITOR_SETS
+        self.phones = bytearray(b"\xEE" * SAY_PHONES)
+        self.numbers = [0xEEEE] * SAY_NUMBERS
+
+    def ruleset(self):
+        """The held ruleset; one that is none comes back as such, for the calls to refuse."""
+        if self.count > MAX_RULES:
+            return Ruleset((UNUSED,) * self.count, self.last)
+        known = tuple(s for k, s in enumerate(self.slots[:self.count]) if k not in self.stale)
+        rs = Ruleset(known, self.last)
+        if len(known) < self.count and is_ruleset(rs) and self.last > 0:
+            raise Unspecified
+        return rs if len(known) == self.count else Ruleset((UNUSED,), self.last)
+
+    def hold(self, rs):
+        self.count, self.last = len(rs.rules), rs.last
+        self.slots[:self.count] = rs.rules
+        self.stale = {k for k in range(self.count, MAX_RULES) if self.slots[k] != UNUSED}
+
+    def answer(self, line):
+        if line is None or len(line) > MONITOR_LINE:
+            return UNSOUND
+        body = sound(line)
+        command = self.COMMANDS.get(body[0]) if body is not None else None
+        if command is None:
+            return UNSOUND
+        call, *sizes = command
+        fixed = sum(sizes)
+        open_ended = call in (Monitor.add, Monitor.walk, Monitor.plain)
+        if len(body) - 1 < fixed or (not open_ended and len(body) - 1 != fixed):
+            return UNSOUND
+        fields, at = [], 1
+        for size in sizes:
+            fields.append(int.from_bytes(body[at:at + size], "big"))
+            at += size
+        rest = (body[at:],) if open_ended else ()
+        answer = call(self, *fields, *rest)
+        return refusal_line(answer) if isinstance(answer, Refusal) else answer
+
+    def edit(self, answer, rs):
+        if answer is not None:
+            return answer
+        self.hold(rs)
+        return frame_line(b"\x06" + two(self.last))
+
+    def add(self, p, *rest):
+        *lengths, data = rest
+        if len(data) != sum(lengths):
+            return UNSOUND
+        fields, at = [], 0
+        for length in lengths:
+            fields.append(data[at:at + length])
+            at += length
+        return self.edit(*add(self.ruleset(), Rule(*fields), p))
+
+    def drop(self, number):
+        return self.edit(*drop(self.ruleset(), number))
+
+    def move(self, number, p):
+        return self.edit(*move(self.ruleset(), number, p))
+
+    def read(self):
+        rs = read_rules_hex(self.rules_hex)
+        return rs if isinstance(rs, Refusal) else self.edit(None, rs)
+
+    def write(self, room):
+        return write_file(self.ruleset(), min(room, LONGEST_FILE))
+
+    def build(self, word_room, set_room):
+        built = build(self.ruleset(), min(word_room, MONITOR_WORDS), min(set_room, MONITOR_SETS))
+        if isinstance(built, Refusal):
+            return built
+        words, sets = built
+        self.words[:len(words)] = words
+        self.sets[:len(sets)] = sets
+        return frame_line(b"\x06" + two(words[0]) + two(words[1]))
+
+    def walk(self, word_room, set_room, phone_room, number_room, name):
+        answer, steps = walk(self.ruleset(), self.words[:word_room], self.sets[:set_room], name,
+                             min(phone_room, SAY_PHONES), min(number_room, SAY_NUMBERS))
+        if isinstance(answer, Refusal):
+            return frame_line(b"\x08" + two(steps) + bytes([answer.number]) + four(answer.place))
+        return self.spoken(answer, steps)
+
+    def plain(self, phone_room, number_room, name):
+        answer = plain_reading(self.ruleset(), name, min(phone_room, SAY_PHONES),
+                               min(number_room, SAY_NUMBERS))
+        return answer if isinstance(answer, Refusal) else self.spoken(answer, 0)
+
+    def spoken(self, answer, steps):
+        self.phones[:len(answer.phones)] = answer.phones
+        self.numbers[:len(answer.numbers)] = answer.numbers
+        return spoken_line(answer, steps)
+
+    def store_word(self, index, value):
+        if index >= MONITOR_WORDS:
+            return UNSOUND
+        self.words[index] = value
+        return frame_line(b"\x06")
+
+    def store_set(self, index, value):
+        if index >= MONITOR_SETS:
+            return UNSOUND
+        self.sets[index] = value
+        return frame_line(b"\x06")
+
+    def show_words(self, index, count):
+        if index + count > MONITOR_WORDS:
+            return UNSOUND
+        return frame_line(b"\x0A" + b"".join(map(two, self.words[index:index + count])))
+
+    def show_sets(self, index, count):
+        if index + count > MONITOR_SETS:
+            return UNSOUND
+        shown = self.sets[index:index + count]
+        return frame_line(b"\x0A" + b"".join(s.to_bytes(8, "big") for s in shown))
+
+    def show_phones(self):
+        return frame_line(b"\x0A" + bytes(self.phones))
+
+    def show_numbers(self):
+        return frame_line(b"\x0A" + b"".join(map(two, self.numbers)))
+
+    def force(self, place, number, count, last):
+        if place < MAX_RULES:
+            self.slots[place] = self.slots[place]._replace(number=number)
+        self.count, self.last = count, last
+        return frame_line(b"\x06")
+
+    def clear(self):
+        self.hold(EMPTY)
+        return frame_line(b"\x06")
+
+    # First byte: the call and the sizes of its fixed fields.
+    COMMANDS = {
+        0x10: (add, 2, 1, 1, 1, 1), 0x11: (drop, 2), 0x12: (move, 2, 2), 0x13: (read,),
+        0x14: (write, 4), 0x15: (build, 4, 4), 0x16: (walk, 4, 4, 2, 2), 0x17: (plain, 2, 2),
+        0x18: (store_word, 4, 2), 0x19: (store_set, 4, 8), 0x1A: (show_words, 4, 1),
+        0x1B: (show_sets, 4, 1), 0x1C: (show_phones,), 0x1D: (show_numbers,),
+        0x1E: (force, 2, 2, 2, 2), 0x1F: (clear,),
+    }
+
+
+def monitor(rules_hex, data):
+    """Standard output of a whole `monitor` session."""
+    held = Monitor(rules_hex)
+    return b"".join(held.answer(line) for line in lines_of(data))
+
+
+# Self-test: document 01's examples and numbers ----------------------------------------
+
+SIX_FILE = b"""010100060006F2
+02000101010100000B0EE1
+020002000100010B6B84
+020003000101000500F4
+0200040002000105056984
+0200050001000105658D
+020006000100010E6E7A
+"""
+
+SIX_RULES = (
+    Rule(b"\0", b"\x0B", b"\x0E", b""), Rule(b"", b"\x0B", b"", b"\x6B"),
+    Rule(b"", b"\x05", b"\0", b""), Rule(b"", b"\x05\x05", b"", b"\x69"),
+    Rule(b"", b"\x05", b"", b"\x65"), Rule(b"", b"\x0E", b"", b"\x6E"))
+
+
+def letters(text):
+    return bytes(ord(c) - ord("a") + 1 for c in text)
+
+
+class Check:
+    def __init__(self):
+        self.passed, self.failed = 0, 0
+
+    def equal(self, what, got, wanted):
+        if got == wanted:
+            self.passed += 1
+        else:
+            self.failed += 1
+            print(f"FAILED {what}: got {got!r}, document 01 says {wanted!r}")
+
+
+def check_edits(check):
+    answers, six = replay([("add", rule, at) for at, rule in enumerate(SIX_RULES)])
+    check.equal("six additions", answers, [None] * 6)
+    check.equal("their numbers", [n for n, _ in six.rules], [1, 2, 3, 4, 5, 6])
+    _, dropped = drop(six, 6)
+    check.equal("a drop keeps last", dropped.last, 6)
+    _, again = add(dropped, SIX_RULES[5], 5)
+    check.equal("no number twice", again.rules[5].number, 7)
+    _, moved = move(six, 1, 5)
+    check.equal("move to the end", [n for n, _ in moved.rules], [2, 3, 4, 5, 6, 1])
+    check.equal("equal rules allowed", add(six, SIX_RULES[1], 0)[0], None)
+    rule = SIX_RULES[1]
+    full = Ruleset(tuple(Numbered(n, rule) for n in range(1, 513)), 512)
+    spent = Ruleset((), MAX_NUMBER)
+    for what, got, wanted in [
+            ("0: number 7, last 6", add(Ruleset((Numbered(7, rule),), 6), rule, 0)[0], (0, 0)),
+            ("0: over 512 rules", drop(Ruleset(full.rules + (Numbered(513, rule),), 513), 1)[0], (0, 0)),
+            ("0: equal numbers", drop(Ruleset((Numbered(1, rule),) * 2, 2), 1)[0], (0, 0)),
+            ("6: empty target", add(EMPTY, Rule(), 9)[0], (6, 0)),
+            ("6: # inside a left context", add(EMPTY, Rule(b"\1\0", b"\1"), 0)[0], (6, 0)),
+            ("6: # first in a longer right context", add(EMPTY, Rule(b"", b"\1", b"\0\1"), 0)[0], (6, 0)),
+            ("6: # in a target", add(EMPTY, Rule(b"", b"\0"), 0)[0], (6, 0)),
+            ("6: phone 00", add(EMPTY, Rule(b"", b"\1", b"", b"\0"), 0)[0], (6, 0)),
+            ("7: p = 1, empty list", add(EMPTY, rule, 1)[0], (7, 0)),
+            ("8: drop 9 of six", drop(six, 9)[0], (8, 0)),
+            ("9: 513th add", add(full, rule, 512)[0], (9, 0)),
+            ("7 before 9", add(full, rule, 513)[0], (7, 0)),
+            ("10: add after 65,535", add(spent, rule, 0)[0], (10, 0)),
+            ("move: 8 before 7", move(six, 9, 99)[0], (8, 0)),
+            ("move: 7 against the remaining list", move(six, 1, 6)[0], (7, 0))]:
+        check.equal(what, got, wanted)
+    memory = memory_of(six, fill=0xEE)
+    check.equal("memory of a ruleset", len(memory), 13_316)
+    check.equal("memory read back", ruleset_in(memory), six)
+    check.equal("memory one short", ruleset_in(memory[:-1]), None)
+    check.equal("memory longer", ruleset_in(memory + b"\xEE"), six)
+    return six
+
+
+def check_file(check, six):
+    check.equal("the six-rule file", file_text(six), SIX_FILE)
+    check.equal("and back", read_file(SIX_FILE), six)
+    longest = Rule(b"\1" * 6, b"\1" * 4, b"\1" * 6, b"\1" * 4)
+    full = Ruleset(tuple(Numbered(n, longest) for n in range(1, 513)), 512)
+    check.equal("the longest file", len(file_text(full)), LONGEST_FILE)
+    lines = SIX_FILE.splitlines(keepends=True)
+    starts = [sum(map(len, lines[:k])) for k in range(8)]
+
+    def head(count, last, edition=1):
+        return frame_line(bytes([1, edition]) + two(count) + two(last))
+
+    for what, data, wanted in [
+            ("13: empty file", b"", (13, 0)),
+            ("13: missing line at the file's length", b"".join(lines[:6]), (13, starts[6])),
+            ("13: last line without 0A", SIX_FILE[:-1], (13, starts[6])),
+            ("13: odd digits", b"".join(lines[:3]) + b"0" + b"".join(lines[3:]), (13, starts[3])),
+            ("13: lower case", SIX_FILE.lower(), (13, 0)),
+            ("13: 0D", SIX_FILE.replace(b"\n", b"\r\n"), (13, 0)),
+            ("13: sum not zero", SIX_FILE.replace(b"E1\n", b"E2\n"), (13, starts[1])),
+            ("13: under 2 bytes", b"00\n", (13, 0)),
+            ("13: empty line", b"\n" + SIX_FILE, (13, 0)),
+            ("14: edition 02", head(0, 0, 2), (14, 0)),
+            ("14: over 512, before its lines", head(513, 600), (14, 0)),
+            ("14: head of another length", frame_line(b"\1\1\0\0\0"), (14, 0)),
+            ("14: another first byte", lines[1] + SIX_FILE, (14, 0)),
+            ("14: bytes after the last rule", SIX_FILE + b"x", (14, starts[7])),
+            ("14: a number above last", head(6, 5) + b"".join(lines[1:]), (14, starts[6])),
+            ("14: number 0", head(1, 1) + frame_line(rule_body(Numbered(0, longest))), (14, 15)),
+            ("14: a repeated number, at its later line", head(2, 6) + lines[1] * 2, (14, 15 + 23)),
+            ("14: lengths that don't add up", head(1, 1) + frame_line(b"\2\0\1\0\1\0\0\1\1"), (14, 15)),
+            ("14: the shape", head(1, 1) + frame_line(rule_body(Numbered(1, Rule()))), (14, 15)),
+            ("13 before 14 on one line", b"0102000000FE\n", (13, 0)),
+            ("earlier line first", lines[0] + lines[0] + b"x", (14, starts[1]))]:
+        check.equal(what, read_file(data), wanted)
+    check.equal("an empty ruleset", read_file(head(0, 9)), Ruleset((), 9))
+    check.equal("15: 14 for an empty set", write_file(EMPTY, 14), (15, 15))
+    check.equal("exact room", write_file(EMPTY, 15), head(0, 0))
+    check.equal("0 before 15", write_file(Ruleset((Numbered(1, Rule()),), 1), 0), (0, 0))
+    check.equal("0 before 13", read_file(b"", MEMORY - 1), (0, 0))
+
+
+def check_reading(check, six):
+    words, sets = build(six, 642, 80)
+    room = (256, 64)
+
+    def both(what, name, wanted, rooms=room):
+        answer, steps = walk(six, words, sets, name, *rooms)
+        check.equal(what, answer, wanted)
+        check.equal(what + ", plain", plain_reading(six, name, *rooms), wanted)
+        uncounted = isinstance(wanted, Refusal) and wanted.number in (0, 1, 2, 16)
+        check.equal(what + ", steps", steps, 0 if uncounted else 2 * len(name) + 2)
+
+    for marked, name, phones, numbers in [
+            ("M1", "knee", "6E69", (1, 6, 4)), ("M2", "keen", "6B696E", (2, 4, 6)),
+            ("M3", "eke", "656B", (5, 2, 3)), ("M5", "", "", ()), ("M6", "e", "", (3,)),
+            ("M7", "eee", "69", (4, 3)), ("M8", "kn", "6E", (1, 6)),
+            ("M9", "kkn", "6B6B6E", (2, 2, 6))]:
+        both(marked, letters(name), Spoken(bytes.fromhex(phones), numbers))
+    both("M4", letters("nab"), Refusal(3, 2))
+    both("1: 05 40", b"\x05\x40", Refusal(1, 1))
+    both("2: 65 times 05", b"\x05" * 65, Refusal(2, 0))
+    both("2 before 1", b"\x40" * 65, Refusal(2, 0))
+    both("4: knee, 1 byte lent", letters("knee"), Refusal(4, 2), (1, 64))
+    both("5: knee, 2 lent", letters("knee"), Refusal(5, 3), (256, 2))
+    both("3 before 4", letters("nab"), Refusal(3, 2), (0, 0))
+    both("4 before 5", letters("knee"), Refusal(4, 2), (1, 2))
+    check.equal("M5 steps", walk(six, words, sets, b"", *room)[1], 2)
+
+    rights = state_strings([right_pattern(r) for _, r in six.rules])
+    check.equal("M10 counts", (words[0], words[1]), (2, 8))
+    check.equal("M10 strings", list(rights),
+                [b"", letters("n"), letters("nk"), letters("k"), b"\0", b"\0\5", letters("e"), letters("ee")])
+    check.equal("M11", words[2 + 64 * 2 + 64 * 5 + 5], 7)
+    check.equal("M12", [sets[8 * (2 + q)] for q in (2, 5, 7)], [3, 20, 24])
+    check.equal("11: 641", build(six, 641, 79), (11, 642))
+    check.equal("12: 79", build(six, 642, 79), (12, 80))
+    check.equal("needed", (len(words), len(sets)), (642, 80))
+    for what, lent in [("words of length 1", (words[:1], sets)), ("words one short", (words[:-1], sets)),
+                       ("set words one short", (words, sets[:-1])),
+                       ("L zero", (array("H", [0]) + words[1:], sets)),
+                       ("R zero", (words[:1] + array("H", [0]) + words[2:], sets)),
+                       ("a step past the count", (words[:2] + array("H", [2]) + words[3:], sets)),
+                       ("a place past the list", (words, array("Q", [64] * 80))),
+                       ("a rule that doesn't fit", (words, array("Q", [1] * 80)))]:
+        check.equal("16: " + what, walk(six, *lent, letters("ee"), *room), (Refusal(16, 0), 0))
+
+
+def check_tables(check):
+    """The quick table against the definition, and the bounds on states."""
+    rules = [Rule(bytes([0, 1, 2, 1][:k % 5]), bytes([1 + k % 2] * (1 + k % 3)), bytes([2, 1, 0][3 - k % 4:]))
+             for k in range(70)]
+    for side in (left_pattern, right_pattern):
+        patterns = tuple(map(side, rules))
+        numbered = state_strings(patterns)
+        count, rows, sets = one_table(patterns)
+        check.equal("entries", list(rows), [entry(numbered, s, c) for s in numbered for c in range(SYMBOLS)])
+        check.equal("sets", list(sets), [w for s in numbered for w in set_of(patterns, s)])
+        check.equal("states", count, len(numbered))
+
+    check.equal("bounds", (1 + 512 * 6, 1 + 512 * 10), (3073, 5121))
+    check.equal("monitor's memory", (2 + 64 * (3073 + 5121), 8 * (3073 + 5121)), (MONITOR_WORDS, MONITOR_SETS))
+
+
+def check_programs(check, six):
+    said = say(SIX_FILE, b"030B0E0505DA\n030E0102EC\n")
+    check.equal("say's two lines", said, b"04000A00026E69030001000600040B\n050300000002F6\n")
+    for what, rules, names, wanted in [
+            ("missing rules.hex", None, b"03FD\n", refusal_line(Refusal(13, 0))),
+            ("no input", SIX_FILE, b"", b""),
+            ("no letters", SIX_FILE, b"03FD\n", frame_line(b"\4\0\2\0\0\0")),
+            ("an empty line", SIX_FILE, b"\n", UNSOUND),
+            ("an unended line", SIX_FILE, b"03FD", UNSOUND),
+            ("not 03", SIX_FILE, b"04FC\n", UNSOUND),
+            ("long rules.hex", b"\n" * 32_769, b"", refusal_line(Refusal(13, 32_768))),
+            ("long input", SIX_FILE, b"\n" * 32_769, refusal_line(Refusal(13, 32_768))),
+            ("rules before input", None, b"\n" * 32_769, refusal_line(Refusal(13, 0))),
+            ("input of 32,768 bytes", SIX_FILE, b"\n" * 32_768, UNSOUND * 32_768)]:
+        check.equal("say: " + what, say(rules, names), wanted)
+    wide = Ruleset(tuple(Numbered(k + 1, Rule(bytes([1 + k % 63, 1 + k // 63]) * 3, b"\1"))
+                         for k in range(100)), 100)
+    check.equal("say: tables above 32,768 words", say(file_text(wide), b"03FD\n"),
+                refusal_line(Refusal(11, needed(wide)[2])))
+
+    held = Monitor(SIX_FILE)
+    for what, body, wanted in [
+            ("plain, empty ruleset", "1701000040050505", "050300000001"),
+            ("walk, unbuilt", "16000802820001001001000040", "08000010" + "00000000"),
+            ("read", "13", "060006"),
+            ("build", "15000002820000004F", "050C" + "00000050"),
+            ("build", "150000028200000050", "0600020008"),
+            ("walk", "160000028200000050010000400B0E0505", "04000A00026E6903000100060004"),
+            ("walk, phones short", "160000028200000050000100400B0E0505", "08000A04" + "00000002"),
+            ("show words", "1A0000000002", "0A00020008"),
+            ("show past", "1A0000028201", "0AFFFF"),
+            ("outside", "1A0008028201", "050D00000000"),
+            ("force", "1E0000000700060006", "06"),
+            ("refused by 0", "110001", "050000000000"),
+            ("clear", "1F", "06"),
+            ("drop", "110001", "050800000000"),
+            ("add", "100000000100010B6B", "060001"),
+            ("add, long left", "100000070100010101010101010B6B01", "050600000000"),
+            ("write", "140000000E", "050F" + "00000024"),
+            ("write", "14FFFFFFFF", None)]:
+        body = bytes.fromhex(body)
+        answer = held.answer(frame_line(body)[:-1])
+        wanted = (file_text(Ruleset((Numbered(1, SIX_RULES[1]),), 1)) if wanted is None
+                  else frame_line(bytes.fromhex(wanted)))
+        check.equal("monitor: " + what, answer, wanted)
+    check.equal("monitor: phones", held.answer(b"1CE4"), frame_line(b"\x0A\x6E\x69" + b"\xEE" * 254))
+
+
+def self_test():
+    check = Check()
+    six = check_edits(check)
+    check_file(check, six)
+    check_reading(check, six)
+    check_tables(check)
+    check_programs(check, six)
+    print(f"{check.passed} passed, {check.failed} failed")
+    return 1 if check.failed else 0
+
+
+def rules_hex_here():
+    try:
+        with open("rules.hex", "rb") as file:
+            return file.read(LONGEST_INPUT + 1)
+    except OSError:
+        return None
+
+
+def main(arguments):
+    if not arguments:
+        return self_test()
+    if arguments == ["say"]:
+        sys.stdout.buffer.write(say(rules_hex_here(), sys.stdin.buffer.read()))
+        return 0
+    if arguments == ["monitor"]:
+        held = Monitor()
+        for line in sys.stdin.buffer:
+            held.rules_hex = rules_hex_here()
+            sys.stdout.buffer.write(held.answer(line[:-1] if line.endswith(b"\n") else None))
+            sys.stdout.buffer.flush()
+        return 0
+    print(__doc__)
+    return 0 if arguments in (["-h"], ["--help"]) else 2
+
+
+if __name__ == "__main__":
+    sys.exit(main(sys.argv[1:]))

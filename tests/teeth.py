@@ -1,0 +1,114 @@
+#!/usr/bin/env python3
+"""Does the random comparison bite? Each planted fault in a copy of reference.py must show in some run.
+
+    python3 tests/teeth.py [--count N] [--seed S]
+"""
+
+import argparse
+import os
+import sys
+import types
+
+import generate
+import reference as ref
+
+# (what, line of reference.py, what stands there instead, programs that must show it)
+FAULTS = [
+    ("stops before the last letter", "    framed, n, i = frame_name(name), len(name), 1\n",
+     "    framed, n, i = frame_name(name), len(name) - 1, 1\n", "monitor"),
+    ("the longest fitting rule", "        for number, rule in rs.rules:\n            if fits",
+     "        for number, rule in sorted(rs.rules, key=lambda r: -sum(map(len, r.rule[:3]))):\n            if fits", "monitor"),
+    ("forgets patterns that end inside", "            places |= holders.get(suffix, 0)\n",
+     "            places |= holders.get(suffix, 0) if k == 0 else 0\n", "say monitor"),
+    ("moves on by target and right context", "        numbers.append(number)\n        i += len(rule.target)\n",
+     "        numbers.append(number)\n        i += len(rule.target + rule.right)\n", "say monitor"),
+    ("gives last back", "    return None, Ruleset(rest, rs.last)\n",
+     "    return None, Ruleset(rest, max([n for n, _ in rest], default=0))\n", "monitor"),
+    ("the later of two rules", "        for k in range(64):\n", "        for k in range(63, -1, -1):\n", "say monitor"),
+    ("entries without suffixes", "        for k in range(len(string), -1, -1):\n            suffix",
+     "        for k in range(0, -1, -1):\n            suffix", "say monitor"),
+    ("a boundary that fits anywhere", "    start = i - len(rule.left)\n",
+     "    rule = rule._replace(left=rule.left.lstrip(b'\\0'))\n    start = i - len(rule.left)\n", "monitor"),
+    ("1 before 2", "    if len(name) > MAX_NAME:\n", "    if len(name) > MAX_NAME and all(map(is_letter, name)):\n", "say monitor"),
+    ("65 letters", "    if len(name) > MAX_NAME:\n", "    if len(name) > MAX_NAME + 1:\n", "say monitor"),
+    ("40 is a letter", "    return 0x01 <= byte <= 0x3F\n", "    return 0x01 <= byte <= 0x40\n", "monitor"),
+    ("3's place one low", "            return Refusal(3, i), steps\n", "            return Refusal(3, i - 1), steps\n", "say monitor"),
+    ("5 before 4", "    if len(phones) > phone_room:\n", "    if len(phones) > phone_room and len(numbers) <= number_room:\n", "monitor"),
+    ("4 with the room", "        return Refusal(4, len(phones))\n", "        return Refusal(4, phone_room)\n", "monitor"),
+    ("11 one too many", "    if word_room < word_count:\n", "    if word_room <= word_count:\n", "monitor"),
+    ("12 one too many", "    if set_room < set_count:\n", "    if set_room <= set_count:\n", "monitor"),
+    ("12 before 11", "    if word_room < word_count:\n", "    if word_room < word_count and set_room >= set_count:\n", "monitor"),
+    ("7 after 9 and 10", "    elif p > len(rs.rules):\n", "    elif p > len(rs.rules) and rs.last < MAX_NUMBER:\n", "monitor"),
+    ("move's place against the whole list", "    if p > len(rest):\n        return Refusal(7, 0), rs\n    return",
+     "    if p > len(rest) + 1:\n        return Refusal(7, 0), rs\n    return", "monitor"),
+    ("6 after 7", "    elif not has_shape(rule):\n", "    elif not has_shape(rule) and p <= len(rs.rules):\n", "monitor"),
+    ("16 unnoticed: a rule that doesn't fit", "place >= len(rs.rules) or not fits(rs.rules[place].rule, framed, i)",
+     "place >= len(rs.rules)", "monitor"),
+    ("16 with steps", "        return Refusal(16, 0), 0\n", "        return Refusal(16, 0), 2 * len(name) + 2\n", "monitor"),
+    ("16: set words not counted", "            or len(sets) < 8 * (lefts + rights)):\n", "            or len(sets) < 8 * (lefts + rights) - 1):\n", "monitor"),
+    ("a step past the count", "    if state >= count:\n", "    if state > count:\n", "monitor"),
+    ("bytes after the last rule", "    if at < len(data):\n", "    if at + 1 < len(data):\n", "say monitor"),
+    ("a repeated number", " or number in seen:\n", ":\n", "say monitor"),
+    ("a number above last", "not 1 <= number <= last", "not 1 <= number", "say monitor"),
+    ("513 rules by the head", "    if count > MAX_RULES:\n        return Refusal(14, start)\n", "    if count > MAX_RULES:\n        return Refusal(13, start)\n", "say monitor"),
+    ("an unended last line", "    return ended + [None] if rest else ended\n", "    return ended + [rest] if rest else ended\n", "say"),
+    ("lower-case digits", 'DIGITS = b"0123456789ABCDEF"\n', 'DIGITS = b"0123456789ABCDEFabcdef"\n', "say monitor"),
+    ("a sum not looked at", "    return frame[:-1] if sum(frame) % 256 == 0 else None\n", "    return frame[:-1]\n", "say monitor"),
+    ("the input's limit", "    if len(names) > LONGEST_INPUT:\n", "    if len(names) >= LONGEST_INPUT:\n", "say"),
+    ("the file's limit", "    return TOO_LONG if len(data) > LONGEST_INPUT", "    return TOO_LONG if len(data) > LONGEST_INPUT + 1", "say"),
+    ("say's words", "SAY_WORDS = 32_768\n", "SAY_WORDS = 32_770\n", "say"),
+    ("a refused read empties", "        return rs if isinstance(rs, Refusal) else self.edit(None, rs)\n",
+     "        if isinstance(rs, Refusal):\n            self.hold(EMPTY)\n            return rs\n        return self.edit(None, rs)\n", "monitor"),
+    ("phones past the last cleared", "        self.phones[:len(answer.phones)] = answer.phones\n",
+     "        self.phones[:] = answer.phones.ljust(256, b'\\0')\n", "monitor"),
+    ("words past the needed cleared", "        self.words[:len(words)] = words\n",
+     "        self.words[:len(words) + 1] = words + array('H', [0])\n", "monitor"),
+    ("sets past the needed cleared", "        self.sets[:len(sets)] = sets\n",
+     "        self.sets[:len(sets) + 1] = sets + array('Q', [0])\n", "monitor"),
+    ("place 512 overwritten", "        if place < MAX_RULES:\n", "        place %= MAX_RULES\n        if place < MAX_RULES:\n", "monitor"),
+    ("a line of 4,098 bytes", "len(line) > MONITOR_LINE:\n", "len(line) > MONITOR_LINE + 2:\n", "monitor"),
+    ("lent bytes above 29,199", "min(room, LONGEST_FILE)", "room & 0xFFFF", "monitor"),
+]
+
+
+def faulty(old, new):
+    with open(ref.__file__, encoding="utf-8") as file:
+        text = file.read()
+    if text.count(old) < 1:
+        raise SystemExit(f"reference.py has no such line: {old!r}")
+    module = types.ModuleType("faulty")
+    exec(compile(text.replace(old, new), "faulty", "exec"), module.__dict__)
+    return module
+
+
+def shown_by(module, program, cases):
+    """The seed of the first run in which the fault shows, or None."""
+    for seed, (rules_hex, lines, expected) in cases:
+        try:
+            if getattr(module, program)(rules_hex, b"".join(lines)) != expected:
+                return seed
+        except Exception:       # a fault that stops the copy shows too
+            return seed
+    return None
+
+
+def main():
+    parser = argparse.ArgumentParser(description=__doc__, formatter_class=argparse.RawDescriptionHelpFormatter)
+    parser.add_argument("--count", type=int, default=300)
+    parser.add_argument("--seed", type=int, default=1)
+    given = parser.parse_args()
+    seeds = range(given.seed, given.seed + given.count)
+    cases = {program: [(seed, case(seed)) for seed in seeds] for program, case in generate.CASES.items()}
+    passed = failed = 0
+    for what, old, new, programs in FAULTS:
+        module = faulty(old, new)
+        for program in programs.split():
+            seed = shown_by(module, program, cases[program])
+            passed, failed = passed + (seed is not None), failed + (seed is None)
+            print(f"{what}: " + (f"{program} run {seed}" if seed is not None else f"NOT SHOWN by {program}"), flush=True)
+    print(f"{passed} passed, {failed} failed")
+    return 1 if failed else 0
+
+
+if __name__ == "__main__":
+    sys.exit(main())
