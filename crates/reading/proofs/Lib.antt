@@ -1,3 +1,4 @@
 pub mod Strings
 pub mod Letters
+pub mod Fits
 pub mod Delivery
