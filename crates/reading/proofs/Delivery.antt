@@ -8,7 +8,7 @@ use native.Mathlib.Omega.{arith}
 use native.Mathlib.Numerals.{add-one}
 use borrow.Author.Tests.{le-leb, lt-leb}
 use lib.ListN.{length, getD, take, drop, set, length-append, length-take, length-drop, length-map, take-append-drop}
-use lib.Seq.{drop-cons, take-suc, set-at, take-at, drop-at, drop-drop, paste, length-take-le, take-length}
+use lib.Seq.{drop-cons, take-suc, set-at, take-at, drop-at, drop-drop, paste, length-take-le, take-all}
 use Rattle.rules.specs.Shape.{pick, Entry}
 use Rattle.reading.specs.Reading.{finished}
 use Rattle.reading.specs.Speech.{phonesOf, numbersOf, spoken, refused, Said, saying, over, delivered}
@@ -81,3 +81,77 @@ module _ (rs : List Entry) (phones numbers : List ℕ) (m n : ℕ) (a : m ≡ le
   pub both-written : m ≤ length phones → n ≤ length numbers → (phones′ numbers′ : List ℕ) → phones′ ≡ over (phonesOf rs) phones → numbers′ ≡ over (numbersOf rs) numbers
       → saying (spoken m n) phones′ numbers′ ≡ delivered (finished rs) phones numbers
   both-written h u phones′ numbers′ p q = rw (p, q, ← a, le-leb _ _ h, b, le-leb _ _ u)
+
+-- What the loops over the places know after k of them; `f p` is the rule at place p.
+module _ (f : ℕ → Entry) (ps : List ℕ) where
+  -- `total` phones counted
+  pub record Counted (k total : ℕ) : Type 0 where
+    pub inside : k ≤ length ps
+    pub counts : total ≡ length (phonesOf (map f (take k ps)))
+    pub small : total ≤ 4 * k
+
+  pub counted-begin : Counted 0 0
+  counted-begin = record { inside = omega arith; counts = refl; small = omega arith }
+
+  pub counted-next : (k total n : ℕ) → Counted k total → k < length ps → n ≡ length (f (getD ps k 0) .rule .phones) → n ≤ 4 → Counted (k + 1) (total + n)
+  counted-next k total n c h e u = record {
+    inside = omega arith;
+    counts = omega (arith, phones-count f ps k h, c .counts);
+    small = omega (arith, c .small);
+  }
+
+  pub counted-end : (k total : ℕ) → Counted k total → length ps ≤ k → total ≡ length (phonesOf (map f ps))
+  counted-end k total c h = c .counts ∙ ap (λ (l : List ℕ). length (phonesOf (map f l))) (take-all k ps h)
+
+  -- the phones of k rules written over xs, up to `to`
+  pub record Written (xs zs : List ℕ) (k to : ℕ) : Type 0 where
+    pub inside : k ≤ length ps
+    pub upto : to ≡ length (phonesOf (map f (take k ps)))
+    pub holds : zs ≡ over (phonesOf (map f (take k ps))) xs
+
+  pub written-begin : (xs : List ℕ) → Written xs xs 0 0
+  written-begin xs = record { inside = omega arith; upto = refl; holds = refl }
+
+  module _ (xs zs : List ℕ) (k to : ℕ) (w : Written xs zs k to) (room : length (phonesOf (map f ps)) ≤ length xs) where
+    pub written-length : length zs ≡ length xs
+    written-length = ap length (w .holds) ∙ over-length (phonesOf (map f (take k ps))) xs (omega (arith, phones-most f ps k))
+
+    module _ (h : k < length ps) (n : ℕ) (e : n ≡ length (f (getD ps k 0) .rule .phones)) where
+      pub written-room : to + n ≤ length zs
+      written-room = omega (arith, written-length, phones-count f ps k h, phones-most f ps (k + 1), w .upto)
+
+      pub written-next : (t zs′ : List ℕ) → n ≤ length t → f (getD ps k 0) .rule .phones ≡ take n t → zs′ ≡ paste zs to t n → Written xs zs′ (k + 1) (to + n)
+      written-next t zs′ u q z = record {
+        inside = omega arith;
+        upto = omega (arith, phones-count f ps k h, w .upto);
+        holds = z
+            ∙ (ap (λ (l : List ℕ). paste l to t n) (w .holds)
+            ∙ (over-paste (phonesOf (map f (take k ps))) xs to n t (sym (w .upto)) u
+            ∙ ap (λ (l : List ℕ). over l xs) (ap (λ (l : List ℕ). phonesOf (map f (take k ps)) ++ l) (sym q) ∙ sym (phones-next f ps k h))));
+      }
+
+    pub written-end : length ps ≤ k → zs ≡ over (phonesOf (map f ps)) xs
+    written-end h = w .holds ∙ ap (λ (l : List ℕ). over (phonesOf (map f l)) xs) (take-all k ps h)
+
+  -- the numbers of k rules written over xs
+  pub record Numbered (xs zs : List ℕ) (k : ℕ) : Type 0 where
+    pub inside : k ≤ length ps
+    pub holds : zs ≡ over (numbersOf (map f (take k ps))) xs
+
+  pub numbered-begin : (xs : List ℕ) → Numbered xs xs 0
+  numbered-begin xs = record { inside = omega arith; holds = refl }
+
+  module _ (xs zs : List ℕ) (k : ℕ) (w : Numbered xs zs k) (room : length ps ≤ length xs) where
+    pub numbered-length : length zs ≡ length xs
+    numbered-length = ap length (w .holds) ∙ over-length (numbersOf (map f (take k ps))) xs (omega (arith, numbers-part f ps k (w .inside), w .inside))
+
+    pub numbered-next : k < length ps → (n : ℕ) → n ≡ f (getD ps k 0) .number → Numbered xs (set zs k n) (k + 1)
+    numbered-next h n e = record {
+      inside = omega arith;
+      holds = ap₂ (λ (l : List ℕ) (x : ℕ). set l k x) (w .holds) e
+          ∙ (over-snoc (numbersOf (map f (take k ps))) xs k (f (getD ps k 0) .number) (numbers-part f ps k (w .inside)) (omega arith)
+          ∙ ap (λ (l : List ℕ). over l xs) (sym (numbers-next f ps k h)));
+    }
+
+    pub numbered-end : length ps ≤ k → zs ≡ over (numbersOf (map f ps)) xs
+    numbered-end h = w .holds ∙ ap (λ (l : List ℕ). over (numbersOf (map f l)) xs) (take-all k ps h)
