@@ -2,3 +2,4 @@ pub mod Strings
 pub mod Letters
 pub mod Fits
 pub mod Delivery
+pub mod Loop

@@ -84,13 +84,13 @@ ends-same s [] h = let e : 0 - length s ≡ 0 = omega arith in rw e
 ends-same s (y ∷ w) h =
     byBool (leb (length s) (length w))
     (λ q.
-      let l = leb-true (length s) (length w) q in
-      let e : suc (length w) - length s ≡ suc (length w - length s) = omega arith in
-      rw (same-lengths s (y ∷ w) (λ z. omega arith), e) (ends-same s w l))
+    let l = leb-true (length s) (length w) q in
+    let e : suc (length w) - length s ≡ suc (length w - length s) = omega arith in
+    rw (same-lengths s (y ∷ w) (λ z. omega arith), e) (ends-same s w l))
     (λ q.
-      let l = leb-false (length s) (length w) q in
-      let e : suc (length w) - length s ≡ 0 = omega arith in
-      rw (ends-long s w l, e) (or-false (same s (y ∷ w))))
+    let l = leb-false (length s) (length w) q in
+    let e : suc (length w) - length s ≡ 0 = omega arith in
+    rw (ends-long s w l, e) (or-false (same s (y ∷ w))))
 
 -- A loop that compares n elements of a from p on with those of b from q on: after i of them the rest decides.
 abbrev pub rest : List ℕ → ℕ → ℕ → ℕ → Str

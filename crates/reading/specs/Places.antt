@@ -13,6 +13,10 @@ use Rattle.reading.specs.Speech.{judgedName}
 use Rattle.reading.specs.Meaning.{noEntry}
 use Rattle.reading.specs.declared.Judged.{Judged}
 use Rattle.reading.specs.declared.Judged.the-variants.{Letters, Refused}
+use Rattle.reading.specs.declared.Fit.{Fit}
+use Rattle.reading.specs.declared.Fit.the-variants.{Rule, Nothing}
+use Rattle.reading.specs.declared.Applied.{Applied}
+use Rattle.reading.specs.declared.Applied.the-variants.{Rules, NoFit}
 
 -- the rule at a place of an image
 abbrev pub entryAt : List ℕ → ℕ → Entry
@@ -34,3 +38,27 @@ judgedBy (Refused x) o = stopped (refusalNumber x) (refusalPlace x)
 -- the judgement of a name, for every reading that would follow
 abbrev pub Judges : Str → Judged → Type 0
 Judges name j = (o : Reading) → judgedName name o ≡ judgedBy j o
+
+-- the first rule of an image that fits at i of a framed name
+abbrev pub firstAt : List ℕ → Str → ℕ → Choice
+firstAt image f i = firstRule (λ r. fits (r .rule) f i) (entriesOf image)
+
+abbrev pub choiceOf : List ℕ → Fit → Choice
+choiceOf image (Rule p) = chosen (entryAt image p)
+choiceOf image Nothing = nothing
+
+-- what the search for that rule gives
+pub record FitAt (image : List ℕ) (f : Str) (i : ℕ) (r : Fit) : Type 0 where
+  pub choice : firstAt image f i ≡ choiceOf image r
+  pub inside : (p : ℕ) → r ≡ Rule p → p < two 0 image
+
+-- the reading that places applied stand for
+abbrev pub readingOf : List ℕ → List ℕ → Applied → Reading
+readingOf image ps (Rules k) = finished (entriesAt image (take k ps))
+readingOf image ps (NoFit i) = stopped 3 i
+
+-- what reading a framed name into lent places gives
+pub record ReadInto (image : List ℕ) (f : Str) (ps : List ℕ) (r : Applied) : Type 0 where
+  pub reading : readFrom (firstAt image f) (length f - 2) (length f - 2) 1 ≡ readingOf image ps r
+  pub few : (k : ℕ) → r ≡ Rules k → k ≤ 64
+  pub within : (k : ℕ) → r ≡ Rules k → Within image (take k ps)

@@ -7,11 +7,11 @@ ghost use Prim.Native.Nat.{ℕ, _+_, _-_, _*_, _<_, _≤_};
 ghost use lib.ListN.{length, getD, take, drop};
 ghost use lib.Seq.{paste};
 ghost use Rattle.rules.specs.Shape.{first};
-ghost use Rattle.image.specs.Image.{two, valid};
+ghost use Rattle.image.specs.Image.{two, entriesOf, valid};
 ghost use Rattle.reading.specs.Fitting.{same, starts, ends, frame, fits};
-ghost use Rattle.reading.specs.Reading.{finished};
-ghost use Rattle.reading.specs.Speech.{phonesOf, numbersOf, toldOf, saying, over, delivered};
-ghost use Rattle.reading.specs.Places.{entryAt, entriesAt, Within, Judges};
+ghost use Rattle.reading.specs.Reading.{finished, plain};
+ghost use Rattle.reading.specs.Speech.{phonesOf, numbersOf, toldOf, saying, over, delivered, judgedName, plainSaid};
+ghost use Rattle.reading.specs.Places.{entryAt, entriesAt, Within, Judges, FitAt, ReadInto};
 
 // The answer of a call that speaks a name: how many phones and rule numbers it gave, or why it declined.
 pub enum Speech {
@@ -23,6 +23,18 @@ pub enum Speech {
 pub enum Judged {
     Letters,
     Refused(Refusal),
+}
+
+// A rule that fits, by its place.
+pub enum Fit {
+    Rule(usize),
+    Nothing,
+}
+
+// How many rules were applied, or the letter at which none fits.
+pub enum Applied {
+    Rules(usize),
+    NoFit(usize),
 }
 
 fn wide(x: u8) -> usize

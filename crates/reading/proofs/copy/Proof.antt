@@ -32,7 +32,7 @@ add-dst-2 : tie.Need-add-dst-2 Inv-loop μ-loop
 add-dst-2 c = search needs
 
 slice-write-dst : tie.Need-slice-write-dst Inv-loop μ-loop
-slice-write-dst c = 
+slice-write-dst c =
     let st = c .before .before .before in
     let at = c .before .before in
     omega (arith, same-by (st .args .dst .now) (at .loop .dst) (st .args .to) (drop (st .args .from) (st .args .src .now)) (at .loop .i) (at .loop .inv .1) (omega arith) (simp length-drop (omega arith)))
@@ -44,7 +44,7 @@ loop-less : tie.Need-loop-less Inv-loop μ-loop
 loop-less c = search needs
 
 loop-again : tie.Need-loop-again Inv-loop μ-loop
-loop-again c = 
+loop-again c =
     let st = c .before .before .before in
     let at = c .before .before in
     let t = drop (st .args .from) (st .args .src .now) in (
@@ -54,13 +54,13 @@ loop-again c =
     )
 
 same-length : tie.Need-same-length Inv-loop μ-loop
-same-length c = 
+same-length c =
     let st = c .before .before in
     let at = c .before in
     same-by (st .args .dst .now) (at .loop .dst) (st .args .to) (drop (st .args .from) (st .args .src .now)) (at .loop .i) (at .loop .inv .1) (omega arith) (simp length-drop (omega arith))
 
 returns : tie.Need-returns Inv-loop μ-loop
-returns c = 
+returns c =
     let e : c .before .loop .i ≡ c .before .before .args .len = omega arith in
     rw e at (c .before .loop .inv .1)
 

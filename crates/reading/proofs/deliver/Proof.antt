@@ -1,43 +1,41 @@
+-- `reading::deliver` meets its contract: a case of `delivered` for each way out.
+-- Assumes nothing.
+use Prim.Native.Nat.{ℕ, suc, _+_, _-_, _*_, _≤_, _<_}
+use mathlib.Core.Path.{_≡_, refl, sym, ap, ap₂, _∙_}
+use mathlib.Core.List.{List, [], _∷_, _++_}
+use mathlib.Core.Bool.{Bool, true, false}
+use native.Mathlib.Omega.{arith}
 use borrow.Author.Needs.{needs}
+use borrow.Author.Tests.{not-true, not-false, le-leb, lt-leb}
+use lib.ListN.{length, getD, take, drop, set, replicate, length-drop}
+use Rattle.reading.specs.Places.{entryAt, entriesAt}
+use Rattle.reading.proofs.Delivery.{numbers-count, phones-short, numbers-short, both-written}
 use Rattle.reading.proofs.deliver.Statement.{statement}
 use Rattle.reading.proofs.deliver.Tie as tie
-use Rattle.reading.proofs.deliver.Reads as reads
-use Rattle.reading.proofs.deliver.Lts as lts
-use Rattle.reading.proofs.phone_count.Reads as phone-count-reads
-use Rattle.reading.proofs.write_numbers.Reads as write-numbers-reads
-use Rattle.reading.proofs.write_phones.Reads as write-phones-reads
 
--- src/lib.rt:192:9
 phone-count-requires : tie.Need-phone-count-requires
 phone-count-requires c κs = search needs
 
--- src/lib.rt:194:9
 returns : tie.Need-returns
-returns c = ?
+returns c = phones-short (entriesAt (c .before .before .before .before .before .before .args .image .now) (c .before .before .before .before .before .before .args .places .now)) (c .before .before .before .before .before .before .args .phones .now) (c .before .before .before .before .before .before .args .numbers .now) _ _ (c .before .phone-count .ensures) (numbers-count (entryAt (c .before .before .before .before .before .before .args .image .now)) (c .before .before .before .before .before .before .args .places .now)) (c .if1 .taken)
 
--- src/lib.rt:198:9
 returns-2 : tie.Need-returns-2
-returns-2 c = ?
+returns-2 c = numbers-short (entriesAt (c .before .before .before .before .before .before .before .args .image .now) (c .before .before .before .before .before .before .before .args .places .now)) (c .before .before .before .before .before .before .before .args .phones .now) (c .before .before .before .before .before .before .before .args .numbers .now) _ _ (c .before .before .phone-count .ensures) (numbers-count (entryAt (c .before .before .before .before .before .before .before .args .image .now)) (c .before .before .before .before .before .before .before .args .places .now)) (c .before .if1 .left) (c .if2 .taken)
 
--- src/lib.rt:200:5
 write-phones-requires : tie.Need-write-phones-requires
 write-phones-requires c κs = search needs
 
--- src/lib.rt:201:5
 write-numbers-requires : tie.Need-write-numbers-requires
 write-numbers-requires c κs = search needs
 
--- src/lib.rt:188:1
 same-length : tie.Need-same-length
 same-length c = search needs
 
--- src/lib.rt:188:1
 same-length-2 : tie.Need-same-length-2
 same-length-2 c = search needs
 
--- src/lib.rt:188:1
 returns-3 : tie.Need-returns-3
-returns-3 c = ?
+returns-3 c = both-written (entriesAt (c .before .before .before .before .before .before .before .before .before .before .before .before .before .before .before .args .image .now) (c .before .before .before .before .before .before .before .before .before .before .before .before .before .before .before .args .places .now)) (c .before .before .before .before .before .before .before .before .before .before .before .before .before .before .before .args .phones .now) (c .before .before .before .before .before .before .before .before .before .before .before .before .before .before .before .args .numbers .now) _ _ (c .before .before .before .before .before .before .before .before .before .before .phone-count .ensures) (numbers-count (entryAt (c .before .before .before .before .before .before .before .before .before .before .before .before .before .before .before .args .image .now)) (c .before .before .before .before .before .before .before .before .before .before .before .before .before .before .before .args .places .now)) (c .before .before .before .before .before .before .before .before .before .if1 .left) (c .before .before .before .before .before .before .before .before .if2 .left) _ _ (c .before .before .before .before .before .before .write-phones .ensures) (c .before .before .write-numbers .ensures)
 
 pub deliver-spec : {M : Type 1} → statement M
 deliver-spec =

@@ -60,7 +60,7 @@ loop-less : tie.Need-loop-less Inv-loop μ-loop
 loop-less c = search needs
 
 loop-again : tie.Need-loop-again Inv-loop μ-loop
-loop-again c = 
+loop-again c =
     let l : c .wide .result ≡ length (entryAt (c .before .before .before .before .before .before .before .before .args .image .now) (c .before .before .wide-place .result) .rule .phones) = c .wide .ensures .0 ∙ sym (phones-long (c .before .before .before .before .before .before .before .before .args .image .now) (c .before .before .before .before .before .before .before .before .pre .0) (c .before .before .wide-place .result) (rw (c .before .before .wide-place .ensures .0) (c .before .before .before .before .before .before .before .before .pre .1 .1 (c .before .before .before .before .before .loop .k) (omega arith))) noEntry) in
     counted-next (entryAt (c .before .before .before .before .before .before .before .before .args .image .now)) (c .before .before .before .before .before .before .before .before .args .places .now) (c .before .before .before .before .before .loop .k) (c .before .before .before .before .before .loop .total) (c .wide .result) (c .before .before .before .before .before .loop .inv) (omega arith)
     (l ∙ ap (λ (q : ℕ). length (entryAt (c .before .before .before .before .before .before .before .before .args .image .now) q .rule .phones)) (c .before .before .wide-place .ensures .0))

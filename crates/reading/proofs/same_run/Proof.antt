@@ -35,7 +35,7 @@ shared-slice-read-if1-2 : tie.Need-shared-slice-read-if1-2 Inv-loop μ-loop
 shared-slice-read-if1-2 c = search needs
 
 returns : tie.Need-returns Inv-loop μ-loop
-returns c = 
+returns c =
     let st = c .before .before .before .before .before in
     let at = c .before .before .before .before in
     sym (at .loop .inv .1 ∙ run-off (st .args .a .now) (st .args .b .now) (st .args .at) (st .args .to) (st .args .len) (st .pre .0) (st .pre .1) (at .loop .i) (omega arith) (c .if1 .taken))
@@ -47,13 +47,13 @@ loop-less : tie.Need-loop-less Inv-loop μ-loop
 loop-less c = search needs
 
 loop-again : tie.Need-loop-again Inv-loop μ-loop
-loop-again c = 
+loop-again c =
     let st = c .before .before .before .before .before in
     let at = c .before .before .before .before in
     (omega arith, at .loop .inv .1 ∙ run-on (st .args .a .now) (st .args .b .now) (st .args .at) (st .args .to) (st .args .len) (st .pre .0) (st .pre .1) (at .loop .i) (omega arith) (c .if1 .left))
 
 returns-2 : tie.Need-returns-2 Inv-loop μ-loop
-returns-2 c = 
+returns-2 c =
     let st = c .before .before in
     let at = c .before in
     sym (at .loop .inv .1 ∙ run-end (st .args .a .now) (st .args .b .now) (st .args .at) (st .args .to) (st .args .len) (st .pre .0) (st .pre .1) (at .loop .i) (omega arith))

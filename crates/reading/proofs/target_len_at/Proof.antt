@@ -29,7 +29,7 @@ wide-requires : tie.Need-wide-requires
 wide-requires c κs = search needs
 
 returns : tie.Need-returns
-returns c = 
+returns c =
     let st = c .before .before .before in
     let l = target-long (st .args .image .now) (st .pre .0) (st .args .place) (st .pre .1) noEntry in
     let s = entry-shaped (st .args .image .now) (st .pre .0) (st .args .place) (st .pre .1) noEntry in

@@ -36,7 +36,7 @@ wide-place-requires : tie.Need-wide-place-requires Inv-loop μ-loop
 wide-place-requires c κs = search needs
 
 number-at-requires : tie.Need-number-at-requires Inv-loop μ-loop
-number-at-requires c κs = 
+number-at-requires c κs =
     let h = c .before .before .before .before .before .before .before .pre .1 .0 (c .before .before .before .loop .k) (omega arith) in
     (omega (arith, valid-count (c .before .before .before .before .before .before .before .args .image .now) (c .before .before .before .before .before .before .before .pre .0), c .wide-place .ensures .0), valid-long (c .before .before .before .before .before .before .before .args .image .now) (c .before .before .before .before .before .before .before .pre .0))
 
@@ -53,7 +53,7 @@ loop-less : tie.Need-loop-less Inv-loop μ-loop
 loop-less c = search needs
 
 loop-again : tie.Need-loop-again Inv-loop μ-loop
-loop-again c = 
+loop-again c =
     numbered-next (entryAt (c .before .before .before .before .before .before .before .before .args .image .now)) (c .before .before .before .before .before .before .before .before .args .places .now) (c .before .before .before .before .before .before .before .before .args .numbers .now) (c .before .before .before .before .loop .numbers) (c .before .before .before .before .loop .k) (c .before .before .before .before .loop .inv) (c .before .before .before .before .before .before .before .before .pre .1 .1) (omega arith) (c .number-at .result)
     (c .number-at .ensures ∙ (sym (number-is-at (c .before .before .before .before .before .before .before .before .args .image .now) (c .before .before .before .before .before .before .before .before .pre .0) (c .before .wide-place .result) (rw (c .before .wide-place .ensures .0) (c .before .before .before .before .before .before .before .before .pre .1 .0 (c .before .before .before .before .loop .k) (omega arith))) noEntry) ∙ ap (λ (q : ℕ). entryAt (c .before .before .before .before .before .before .before .before .args .image .now) q .number) (c .before .wide-place .ensures .0)))
 

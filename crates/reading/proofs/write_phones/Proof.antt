@@ -56,9 +56,10 @@ add-copy : tie.Need-add-copy Inv-loop μ-loop
 add-copy c = omega (arith, slot-room (c .before .before .before .before .before .before .before .before .before .args .image .now) (c .before .before .before .before .before .before .before .before .before .pre .0) (c .before .before .wide-place .result) (rw (c .before .before .wide-place .ensures .0) (c .before .before .before .before .before .before .before .before .before .pre .1 .0 (c .before .before .before .before .before .loop .k) (omega arith))))
 
 copy-requires : tie.Need-copy-requires Inv-loop μ-loop
-copy-requires c κs = 
-    (phones-room (c .before .before .before .before .before .before .before .before .before .before .args .image .now) (c .before .before .before .before .before .before .before .before .before .before .pre .0) (c .before .before .before .wide-place .result) (rw (c .before .before .before .wide-place .ensures .0) (c .before .before .before .before .before .before .before .before .before .before .pre .1 .0 (c .before .before .before .before .before .before .loop .k) (omega arith))) _ (c .before .wide .ensures .0),
-    written-room (entryAt (c .before .before .before .before .before .before .before .before .before .before .args .image .now)) (c .before .before .before .before .before .before .before .before .before .before .args .places .now) (c .before .before .before .before .before .before .before .before .before .before .args .phones .now) (c .before .before .before .before .before .before .loop .phones) (c .before .before .before .before .before .before .loop .k) (c .before .before .before .before .before .before .loop .to) (c .before .before .before .before .before .before .loop .inv) (c .before .before .before .before .before .before .before .before .before .before .pre .1 .1) (omega arith) _ (c .before .wide .ensures .0 ∙ (sym (phones-long (c .before .before .before .before .before .before .before .before .before .before .args .image .now) (c .before .before .before .before .before .before .before .before .before .before .pre .0) (c .before .before .before .wide-place .result) (rw (c .before .before .before .wide-place .ensures .0) (c .before .before .before .before .before .before .before .before .before .before .pre .1 .0 (c .before .before .before .before .before .before .loop .k) (omega arith))) noEntry) ∙ ap (λ (q : ℕ). length (entryAt (c .before .before .before .before .before .before .before .before .before .before .args .image .now) q .rule .phones)) (c .before .before .before .wide-place .ensures .0))))
+copy-requires c κs = (
+  phones-room (c .before .before .before .before .before .before .before .before .before .before .args .image .now) (c .before .before .before .before .before .before .before .before .before .before .pre .0) (c .before .before .before .wide-place .result) (rw (c .before .before .before .wide-place .ensures .0) (c .before .before .before .before .before .before .before .before .before .before .pre .1 .0 (c .before .before .before .before .before .before .loop .k) (omega arith))) _ (c .before .wide .ensures .0),
+  written-room (entryAt (c .before .before .before .before .before .before .before .before .before .before .args .image .now)) (c .before .before .before .before .before .before .before .before .before .before .args .places .now) (c .before .before .before .before .before .before .before .before .before .before .args .phones .now) (c .before .before .before .before .before .before .loop .phones) (c .before .before .before .before .before .before .loop .k) (c .before .before .before .before .before .before .loop .to) (c .before .before .before .before .before .before .loop .inv) (c .before .before .before .before .before .before .before .before .before .before .pre .1 .1) (omega arith) _ (c .before .wide .ensures .0 ∙ (sym (phones-long (c .before .before .before .before .before .before .before .before .before .before .args .image .now) (c .before .before .before .before .before .before .before .before .before .before .pre .0) (c .before .before .before .wide-place .result) (rw (c .before .before .before .wide-place .ensures .0) (c .before .before .before .before .before .before .before .before .before .before .pre .1 .0 (c .before .before .before .before .before .before .loop .k) (omega arith))) noEntry) ∙ ap (λ (q : ℕ). length (entryAt (c .before .before .before .before .before .before .before .before .before .before .args .image .now) q .rule .phones)) (c .before .before .before .wide-place .ensures .0))),
+)
 
 add-to : tie.Need-add-to Inv-loop μ-loop
 add-to c = omega (arith, written-room (entryAt (c .before .before .before .before .before .before .before .before .before .before .before .before .before .args .image .now)) (c .before .before .before .before .before .before .before .before .before .before .before .before .before .args .places .now) (c .before .before .before .before .before .before .before .before .before .before .before .before .before .args .phones .now) (c .before .before .before .before .before .before .before .before .before .loop .phones) (c .before .before .before .before .before .before .before .before .before .loop .k) (c .before .before .before .before .before .before .before .before .before .loop .to) (c .before .before .before .before .before .before .before .before .before .loop .inv) (c .before .before .before .before .before .before .before .before .before .before .before .before .before .pre .1 .1) (omega arith) _ (c .before .before .before .before .wide .ensures .0 ∙ (sym (phones-long (c .before .before .before .before .before .before .before .before .before .before .before .before .before .args .image .now) (c .before .before .before .before .before .before .before .before .before .before .before .before .before .pre .0) (c .before .before .before .before .before .before .wide-place .result) (rw (c .before .before .before .before .before .before .wide-place .ensures .0) (c .before .before .before .before .before .before .before .before .before .before .before .before .before .pre .1 .0 (c .before .before .before .before .before .before .before .before .before .loop .k) (omega arith))) noEntry) ∙ ap (λ (q : ℕ). length (entryAt (c .before .before .before .before .before .before .before .before .before .before .before .before .before .args .image .now) q .rule .phones)) (c .before .before .before .before .before .before .wide-place .ensures .0))), written-length (entryAt (c .before .before .before .before .before .before .before .before .before .before .before .before .before .args .image .now)) (c .before .before .before .before .before .before .before .before .before .before .before .before .before .args .places .now) (c .before .before .before .before .before .before .before .before .before .before .before .before .before .args .phones .now) (c .before .before .before .before .before .before .before .before .before .loop .phones) (c .before .before .before .before .before .before .before .before .before .loop .k) (c .before .before .before .before .before .before .before .before .before .loop .to) (c .before .before .before .before .before .before .before .before .before .loop .inv) (c .before .before .before .before .before .before .before .before .before .before .before .before .before .pre .1 .1))
@@ -70,7 +71,7 @@ loop-less : tie.Need-loop-less Inv-loop μ-loop
 loop-less c = search needs
 
 loop-again : tie.Need-loop-again Inv-loop μ-loop
-loop-again c = 
+loop-again c =
     let im = c .before .before .before .before .before .before .before .before .before .before .before .before .before .args .image .now in
     let r = phones-room (c .before .before .before .before .before .before .before .before .before .before .before .before .before .args .image .now) (c .before .before .before .before .before .before .before .before .before .before .before .before .before .pre .0) (c .before .before .before .before .before .before .wide-place .result) (rw (c .before .before .before .before .before .before .wide-place .ensures .0) (c .before .before .before .before .before .before .before .before .before .before .before .before .before .pre .1 .0 (c .before .before .before .before .before .before .before .before .before .loop .k) (omega arith))) _ (c .before .before .before .before .wide .ensures .0) in
     written-next (entryAt (c .before .before .before .before .before .before .before .before .before .before .before .before .before .args .image .now)) (c .before .before .before .before .before .before .before .before .before .before .before .before .before .args .places .now) (c .before .before .before .before .before .before .before .before .before .before .before .before .before .args .phones .now) (c .before .before .before .before .before .before .before .before .before .loop .phones) (c .before .before .before .before .before .before .before .before .before .loop .k) (c .before .before .before .before .before .before .before .before .before .loop .to) (c .before .before .before .before .before .before .before .before .before .loop .inv) (c .before .before .before .before .before .before .before .before .before .before .before .before .before .pre .1 .1) (omega arith) (c .before .before .before .before .wide .result) (c .before .before .before .before .wide .ensures .0 ∙ (sym (phones-long (c .before .before .before .before .before .before .before .before .before .before .before .before .before .args .image .now) (c .before .before .before .before .before .before .before .before .before .before .before .before .before .pre .0) (c .before .before .before .before .before .before .wide-place .result) (rw (c .before .before .before .before .before .before .wide-place .ensures .0) (c .before .before .before .before .before .before .before .before .before .before .before .before .before .pre .1 .0 (c .before .before .before .before .before .before .before .before .before .loop .k) (omega arith))) noEntry) ∙ ap (λ (q : ℕ). length (entryAt (c .before .before .before .before .before .before .before .before .before .before .before .before .before .args .image .now) q .rule .phones)) (c .before .before .before .before .before .before .wide-place .ensures .0)))
