@@ -2,4 +2,5 @@ pub mod Strings
 pub mod Letters
 pub mod Fits
 pub mod Delivery
+pub mod Search
 pub mod Loop

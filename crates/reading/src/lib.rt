@@ -216,3 +216,76 @@ pub fn deliver(image: &[u8], places: &[u16], phones: &mut [u8], numbers: &mut [u
         numbers: count,
     }
 }
+
+// The first rule in order that fits at `i`.
+fn first_fit(image: &[u8], count: usize, frame: &[u8], i: usize) -> Fit
+    requires { ⌜ (valid (now image) ≡ true) × ((count ≡ two 0 (now image)) × (i ≤ length (now frame))) ⌝ }
+    ensures { λ r. ⌜ FitAt (now (image .entry)) (now (frame .entry)) i r ⌝ }
+{
+    let mut p = 0;
+    while p < count {
+        if fits_at(image, p, frame, i) {
+            return Fit::Rule(p);
+        }
+        p += 1;
+    }
+    Fit::Nothing
+}
+
+// The places of the rules applied to a framed name, in order, from its first letter on.
+fn read_places(image: &[u8], frame: &[u8], places: &mut [u16]) -> Applied
+    requires { ⌜ (valid (now image) ≡ true) × ((2 ≤ length (now frame)) × ((length (now frame) ≤ 66) × (length (now places) ≡ 64))) ⌝ }
+    ensures { λ r. ⌜ ReadInto (now (image .entry)) (now (frame .entry)) (now (places .exit)) r ⌝ }
+{
+    let count = wide_place(image::two_at(image, 0));
+    let n = frame.len() - 2;
+    let mut k = 0;
+    let mut i = 1;
+    while i <= n {
+        let fit = first_fit(image, count, frame, i);
+        let Fit::Rule(place) = fit else {
+            return Applied::NoFit(i);
+        };
+        places[k] = place as u16;
+        k += 1;
+        i += target_len_at(image, place);
+    }
+    Applied::Rules(k)
+}
+
+// The plain reading of letters with a ruleset.
+fn read_letters(image: &[u8], name: &[u8], phones: &mut [u8], numbers: &mut [u16]) -> Speech
+    requires { ⌜ (valid (now image) ≡ true) × (length (now name) ≤ 64) ⌝ }
+    ensures { λ r. ⌜ saying (toldOf r) (now (phones .exit)) (now (numbers .exit)) ≡ delivered (plain (entriesOf (now (image .entry))) (now (name .entry))) (now (phones .entry)) (now (numbers .entry)) ⌝ }
+{
+    let frame = framed(name);
+    let end = name.len() + 2;
+    let mut places = [0u16; 64];
+    let applied = read_places(image, &frame[..end], &mut places);
+    match applied {
+        Applied::NoFit(i) => Speech::Refused(Refusal::NoFit(i)),
+        Applied::Rules(k) => deliver(image, &places[..k], phones, numbers),
+    }
+}
+
+// The plain reading of a name, for a caller that knows the image to be a ruleset.
+pub fn read_valid(image: &[u8], name: &[u8], phones: &mut [u8], numbers: &mut [u16]) -> Speech
+    requires { ⌜ valid (now image) ≡ true ⌝ }
+    ensures { λ r. ⌜ saying (toldOf r) (now (phones .exit)) (now (numbers .exit)) ≡ delivered (judgedName (now (name .entry)) (plain (entriesOf (now (image .entry))) (now (name .entry)))) (now (phones .entry)) (now (numbers .entry)) ⌝ }
+{
+    let judged = judge_name(name);
+    match judged {
+        Judged::Refused(x) => Speech::Refused(x),
+        Judged::Letters => read_letters(image, name, phones, numbers),
+    }
+}
+
+// The plain reading of a name: its phones and the numbers of the rules applied, in lent memory.
+pub fn read_name(image: &[u8], name: &[u8], phones: &mut [u8], numbers: &mut [u16]) -> Speech
+    ensures { λ r. ⌜ saying (toldOf r) (now (phones .exit)) (now (numbers .exit)) ≡ plainSaid (now (image .entry)) (now (name .entry)) (now (phones .entry)) (now (numbers .entry)) ⌝ }
+{
+    if !image::is_ruleset(image) {
+        return Speech::Refused(Refusal::NotRuleset(0));
+    }
+    read_valid(image, name, phones, numbers)
+}
