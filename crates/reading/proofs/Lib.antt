@@ -4,3 +4,4 @@ pub mod Fits
 pub mod Delivery
 pub mod Search
 pub mod Loop
+pub mod Plain

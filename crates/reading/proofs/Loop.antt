@@ -30,6 +30,15 @@ after-none (stopped n p) = refl
 ap-lt : {a b c : ℕ} → a ≡ b → b < c → a < c
 ap-lt e h = omega arith
 
+-- What the loop knows at i with k rules applied, whose places are the first k of ps; `g p` is the rule at place p, of m rules.
+pub record Going (f : ℕ → Choice) (n : ℕ) (g : ℕ → Entry) (m : ℕ) (ps : List ℕ) (k i : ℕ) : Type 0 where
+  pub behind : k < i
+  pub near : i ≤ n + 4
+  pub inside : k ≤ n
+  pub sized : length ps ≡ 64
+  pub within : (j : ℕ) → j < k → getD ps j 0 < m
+  pub whole : readFrom f n n 1 ≡ after (map g (take k ps)) (readFrom f n n i)
+
 -- The bound on the number of rules applied does not matter where it is large enough.
 module _ (f : ℕ → Choice) (n : ℕ) (ahead : (i : ℕ) (r : Entry) → f i ≡ chosen r → 0 < length (r .rule .target)) where
   read-past : (k i : ℕ) → n < i → readFrom f n k i ≡ finished []
@@ -56,17 +65,9 @@ module _ (f : ℕ → Choice) (n : ℕ) (ahead : (i : ℕ) (r : Entry) → f i �
   pub read-done : (i : ℕ) → n < i → readFrom f n n i ≡ finished []
   read-done i h = read-past n i h
 
-  -- What the loop knows at i with k rules applied, whose places are the first k of ps; `g p` is the rule at place p, of m rules.
+  -- the loop's steps
   module _ (g : ℕ → Entry) (m : ℕ) where
-    pub record Going (ps : List ℕ) (k i : ℕ) : Type 0 where
-      pub behind : k < i
-      pub near : i ≤ n + 4
-      pub inside : k ≤ n
-      pub sized : length ps ≡ 64
-      pub within : (j : ℕ) → j < k → getD ps j 0 < m
-      pub whole : readFrom f n n 1 ≡ after (map g (take k ps)) (readFrom f n n i)
-
-    pub going-begin : (ps : List ℕ) → length ps ≡ 64 → Going ps 0 1
+    pub going-begin : (ps : List ℕ) → length ps ≡ 64 → Going f n g m ps 0 1
     going-begin ps l = record {
       behind = omega arith;
       near = omega arith;
@@ -76,7 +77,7 @@ module _ (f : ℕ → Choice) (n : ℕ) (ahead : (i : ℕ) (r : Entry) → f i �
       whole = sym (after-none (readFrom f n n 1));
     }
 
-    module _ (few : n ≤ 64) (ps : List ℕ) (k i : ℕ) (s : Going ps k i) where
+    module _ (few : n ≤ 64) (ps : List ℕ) (k i : ℕ) (s : Going f n g m ps k i) where
       pub going-room : i ≤ n → k < 64
       going-room h = omega (arith, s .behind)
 
@@ -85,7 +86,7 @@ module _ (f : ℕ → Choice) (n : ℕ) (ahead : (i : ℕ) (r : Entry) → f i �
         step c e =
             s .whole ∙ ap (after (map g (take k ps))) (read-step i (omega (arith, s .behind)) h ∙ ap (λ (x : Choice). onward x i (readFrom f n n)) e)
 
-        pub going-next : (p : ℕ) → f i ≡ chosen (g p) → p < m → (l : ℕ) → l ≡ length (g p .rule .target) → 1 ≤ l → l ≤ 4 → Going (set ps k p) (k + 1) (i + l)
+        pub going-next : (p : ℕ) → f i ≡ chosen (g p) → p < m → (l : ℕ) → l ≡ length (g p .rule .target) → 1 ≤ l → l ≤ 4 → Going f n g m (set ps k p) (k + 1) (i + l)
         going-next p e b l t lo hi =
             let r : k < length ps = omega (arith, s .behind, s .sized) in
             let q : map g (take (k + 1) (set ps k p)) ≡ map g (take k ps) ++ (g p ∷ []) =
