@@ -56,9 +56,9 @@ module _ (t : Entry → Bool) where
   first-found (x ∷ l) r e =
       byBool (t x)
       (λ q.
-        let h : chosen x ≡ chosen r = rw q at e in
-        let g : x ≡ r = cc in
-        record { place = 0; inside = omega arith; here = g; passes = ap t (sym g) ∙ q; none-before = λ p u. absurd (omega arith) })
+      let h : chosen x ≡ chosen r = rw q at e in
+      let g : x ≡ r = cc in
+      record { place = 0; inside = omega arith; here = g; passes = ap t (sym g) ∙ q; none-before = λ p u. absurd (omega arith) })
       (λ q. later x l r q (first-found l r (rw q at e)))
 
   pub found-first : (l : List Entry) (r : Entry) (p : ℕ) → p < length l → getD l p noEntry ≡ r → t r ≡ true → ((k : ℕ) → k < p → t (getD l k noEntry) ≡ false) → firstRule t l ≡ chosen r

@@ -8,8 +8,8 @@ use native.Mathlib.Omega.{arith}
 use native.Mathlib.Numerals.{add-one}
 use borrow.Author.Tests.{leb-true, leb-false, eq-eqb, ne-eqb}
 use lib.Dec.{eqb, leb}
-use lib.ListN.{length, getD, take, drop, replicate, length-take, length-drop}
-use lib.Seq.{drop-cons, length-take-le, paste, take-nil, take-length}
+use lib.ListN.{length, getD, take, drop, replicate, length-append, length-drop}
+use lib.Seq.{drop-cons, length-take-le, paste, take-nil, take-length, take-at}
 use Rattle.rules.specs.Shape.{first}
 use Rattle.reading.specs.Fitting.{Str, same, starts, ends, frame}
 
@@ -183,3 +183,12 @@ framed-is name f h e =
     e ∙ (ap₂ (λ (t : List ℕ) (k : ℕ). (0 ∷ t) ++ drop k (replicate 66 0)) (take-length name) s
     ∙ (ap (λ (t : List ℕ). (0 ∷ name) ++ t) (drop-zeros (suc (length name)) 66 (omega arith) ∙ ap (λ (k : ℕ). replicate k 0) z)
     ∙ sym (ap (λ (t : List ℕ). 0 ∷ t) (first-zero 65 name ∙ first-pad 65 name (omega arith)))))
+
+pub frame-long : (name : Str) → length (frame name) ≡ length name + 2
+frame-long name = omega (arith, length-append name (0 ∷ []))
+
+-- the padded frame holds the frame
+pub frame-part : (name w : List ℕ) → length name ≤ 64 → w ≡ first 66 (frame name) 0 → take (length name + 2) w ≡ frame name
+frame-part name w h e =
+    ap (take (length name + 2)) (e ∙ first-pad 66 (frame name) (omega (arith, frame-long name)))
+    ∙ take-at (frame name) (replicate (66 - length (frame name)) 0) (length name + 2) (frame-long name)

@@ -59,6 +59,7 @@ readingOf image ps (NoFit i) = stopped 3 i
 
 -- what reading a framed name into lent places gives
 pub record ReadInto (image : List ℕ) (f : Str) (ps : List ℕ) (r : Applied) : Type 0 where
+  pub sized : length ps ≡ 64
   pub reading : readFrom (firstAt image f) (length f - 2) (length f - 2) 1 ≡ readingOf image ps r
   pub few : (k : ℕ) → r ≡ Rules k → k ≤ 64
   pub within : (k : ℕ) → r ≡ Rules k → Within image (take k ps)
