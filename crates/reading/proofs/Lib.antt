@@ -5,3 +5,4 @@ pub mod Delivery
 pub mod Search
 pub mod Loop
 pub mod Plain
+pub mod Meaning
