@@ -70,9 +70,9 @@ module _ (rules : List Entry) (name : Str) where
     ending (suc k) i rs a h =
         byBool (ltb (length name) i) (λ e. rw e (done i rs a (ltb-true (length name) i e)))
         (λ e.
-          rw e
-          (at-letter (readFrom (firstFit rules name) (length name) k) i rs a (ltb-false (length name) i e)
-          (λ j rs′ u b. ending k j rs′ b (omega arith)) (firstFit rules name i) refl))
+        rw e
+        (at-letter (readFrom (firstFit rules name) (length name) k) i rs a (ltb-false (length name) i e)
+        (λ j rs′ u b. ending k j rs′ b (omega arith)) (firstFit rules name i) refl))
 
     from-start : Ending rules name [] (plain rules name)
     unfolding plain

@@ -10,6 +10,5 @@ pub mod Sets
 pub mod Walk
 pub mod Words
 pub mod Steps
-pub mod Loop
 pub mod Theorem
 pub mod Meaning

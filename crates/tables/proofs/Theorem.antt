@@ -28,7 +28,6 @@ use Rattle.tables.proofs.Truth.{byBool}
 use Rattle.tables.proofs.Symbols.{Small, small-append}
 use Rattle.tables.proofs.Count.{within-map, states-length}
 use Rattle.tables.proofs.Walk.{read-ext, choice-is, usable, pass-steps}
-use Rattle.tables.proofs.Loop.{Every}
 use Rattle.tables.proofs.Steps.{plain-ordinary, counted-delivered, Letters, judged-name}
 use Rattle.tables.proofs.Words.{walk-agrees, left-built, right-built, fit-built}
 
@@ -141,7 +140,7 @@ module _ (image ws ss : List ℕ) (name : Str) (phones numbers : List ℕ) (ok :
 
 -- every rule of the list has the shape
 abbrev pub AllShaped : List Entry → Type 0
-AllShaped = Every (λ r. Shaped (r .rule))
+AllShaped rules = (p : ℕ) → p < length rules → Shaped (getD rules p noEntry .rule)
 
 right-most-ten : (r : Entry) → Shaped (r .rule) → length (rightPattern r) ≤ 10
 right-most-ten r s =
