@@ -1,17 +1,16 @@
 -- The phones and the numbers of rules at places, written one rule at a time.
 -- Assumes nothing.
-use Prim.Native.Nat.{ℕ, zero, suc, _+_, _-_, _*_, _≤_, _<_}
+use Prim.Native.Nat.{ℕ, suc, _+_, _*_, _≤_, _<_}
 use mathlib.Core.Path.{_≡_, refl, sym, ap, ap₂, _∙_}
 use mathlib.Core.List.{List, [], _∷_, _++_, map, append-assoc, append-nil}
-use mathlib.Core.Bool.{Bool, true, false}
 use native.Mathlib.Omega.{arith}
 use native.Mathlib.Numerals.{add-one}
 use borrow.Author.Tests.{le-leb, lt-leb}
-use lib.ListN.{length, getD, take, drop, set, length-append, length-take, length-drop, length-map, take-append-drop}
+use lib.ListN.{length, getD, take, drop, set, length-append, length-drop, length-map, take-append-drop}
 use lib.Seq.{drop-cons, take-suc, set-at, take-at, drop-at, drop-drop, paste, length-take-le, take-all}
-use Rattle.rules.specs.Shape.{pick, Entry}
+use Rattle.rules.specs.Shape.{Entry}
 use Rattle.reading.specs.Reading.{finished}
-use Rattle.reading.specs.Speech.{phonesOf, numbersOf, spoken, refused, Said, saying, over, delivered}
+use Rattle.reading.specs.Speech.{phonesOf, numbersOf, spoken, refused, saying, over, delivered}
 
 -- laws of `over`
 module _ (p xs : List ℕ) where

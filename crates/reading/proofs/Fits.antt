@@ -1,16 +1,14 @@
 -- Where a rule fits, told by the bytes of its slot; and how a loop finds the first that fits.
 -- Assumes nothing.
-use Prim.Native.Nat.{ℕ, zero, suc, _+_, _-_, _*_, _≤_, _<_}
+use Prim.Native.Nat.{ℕ, _+_, _≤_, _<_}
 use mathlib.Core.Path.{_≡_, refl, sym, ap, ap₂, _∙_}
-use mathlib.Core.List.{List, [], _∷_, _++_}
+use mathlib.Core.List.{List, _++_}
 use mathlib.Core.Bool.{Bool, true, false, _&&_}
 use native.Mathlib.Omega.{arith}
-use native.Mathlib.Numerals.{add-one}
 use lib.ListN.{length, getD, take, drop, length-drop}
 use lib.Seq.{drop-drop, length-take-le}
-use Rattle.rules.specs.Shape.{Production}
 use Rattle.image.specs.Image.{two, slotStart, valid}
-use Rattle.image.proofs.Entries.{Shaped, slot-inside, entry-shaped, left-is, target-is, right-is, phones-is, left-long, target-long, right-long, phones-long}
+use Rattle.image.proofs.Entries.{slot-inside, entry-shaped, left-is, target-is, right-is, left-long, target-long, right-long, phones-long}
 use Rattle.reading.specs.Fitting.{Str, starts, ends, fits}
 use Rattle.reading.specs.Meaning.{noEntry}
 use Rattle.reading.specs.Places.{entryAt}

@@ -1,12 +1,12 @@
 -- A name is judged byte by byte: what lies ahead decides.
 -- Assumes nothing.
-use Prim.Native.Nat.{ℕ, zero, suc, _+_, _≤_, _<_}
+use Prim.Native.Nat.{ℕ, suc, _+_, _≤_, _<_}
 use mathlib.Core.Path.{_≡_, refl, sym, ap, ap₂, _∙_}
-use mathlib.Core.List.{List, [], _∷_}
+use mathlib.Core.List.{[], _∷_}
 use mathlib.Core.Bool.{Bool, true, false}
 use native.Mathlib.Omega.{arith}
 use native.Mathlib.Numerals.{add-one}
-use borrow.Author.Tests.{le-leb, lt-leb, leb-true, leb-false}
+use borrow.Author.Tests.{le-leb, lt-leb, leb-true}
 use lib.Dec.{leb}
 use lib.ListN.{length, getD, drop, drop-of-length-le}
 use lib.Seq.{drop-cons}
@@ -14,7 +14,7 @@ use Rattle.rules.specs.Shape.{pick, allFrom}
 use Rattle.reading.specs.Fitting.{Str}
 use Rattle.reading.specs.Reading.{Reading, finished, stopped}
 use Rattle.reading.specs.Speech.{letter, judgedLetters, judgedName}
-use Rattle.reading.proofs.Strings.{byBool, clash}
+use Rattle.reading.proofs.Strings.{byBool}
 
 pub name-long : (name : Str) (o : Reading) → 64 < length name → judgedName name o ≡ stopped 2 0
 name-long name o h = rw (lt-leb _ _ h)

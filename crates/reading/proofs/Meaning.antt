@@ -7,18 +7,18 @@
 use Prim.Native.Nat.{ℕ, zero, suc, _+_, _≤_, _<_}
 use mathlib.Core.Path.{_≡_, refl, sym, ap, _∙_, subst}
 use mathlib.Core.List.{List, [], _∷_, _++_, append-nil}
-use mathlib.Core.Bool.{Bool, true, false}
+use mathlib.Core.Bool.{Bool}
 use native.Mathlib.Omega.{arith}
 use borrow.Author.Tests.{ltb-true, ltb-false}
 use lib.Dec.{ltb}
-use lib.ListN.{length, getD}
+use lib.ListN.{length}
 use lib.Seq.{append-snoc}
 use Rattle.rules.specs.Shape.{Entry}
 use Rattle.reading.specs.Fitting.{Str, frame, fits}
 use Rattle.reading.specs.Reading.{Choice, chosen, nothing, unusable, Reading, finished, stopped, cons, onward, readFrom, firstFit, plain}
 use Rattle.reading.specs.Meaning.{AppliedAt, NoneAt, Arrives, begins, goes, Reached, Reads}
 use Rattle.reading.proofs.Strings.{byBool}
-use Rattle.reading.proofs.Search.{Targets, Found, first-found, found-first, first-none, none-first, first-usable, first-target}
+use Rattle.reading.proofs.Search.{Targets, first-found, found-first, first-none, none-first, first-usable, first-target}
 use Rattle.reading.proofs.Loop.{after, after-cons, after-none, read-step, read-done}
 
 -- what a reading that has applied rs comes to, with the meaning of each

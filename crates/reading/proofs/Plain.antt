@@ -1,15 +1,15 @@
 -- The loop of the plain reading: the choice at each letter is the first rule of the image that fits.
 -- Assumes nothing.
-use Prim.Native.Nat.{ℕ, zero, suc, _+_, _-_, _≤_, _<_}
-use mathlib.Core.Path.{_≡_, refl, sym, ap, ap₂, _∙_}
-use mathlib.Core.List.{List, [], _∷_, _++_}
-use mathlib.Core.Bool.{Bool, true, false}
+use Prim.Native.Nat.{ℕ, _+_, _-_, _≤_, _<_}
+use mathlib.Core.Path.{_≡_, sym, ap, _∙_}
+use mathlib.Core.List.{List}
+use mathlib.Core.Bool.{true, false}
 use native.Mathlib.Omega.{arith}
-use lib.ListN.{length, getD, take, set, length-append}
+use lib.ListN.{length, take, set}
 use Rattle.rules.specs.Shape.{first, Entry}
 use Rattle.image.specs.Image.{two, entriesOf, valid}
 use Rattle.reading.specs.Fitting.{Str, frame, fits}
-use Rattle.reading.specs.Reading.{Choice, chosen, nothing, Reading, finished, stopped, readFrom, plain}
+use Rattle.reading.specs.Reading.{chosen, Reading, finished, readFrom, plain}
 use Rattle.reading.specs.declared.Fit.{Fit}
 use Rattle.reading.specs.declared.Fit.the-variants.{Rule, Nothing}
 use Rattle.reading.specs.declared.Applied.{Applied}

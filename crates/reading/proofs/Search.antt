@@ -1,7 +1,7 @@
 -- The first rule of a list that passes a test: as a loop finds it, and said of places.
 -- Assumes nothing.
 use Prim.Native.Nat.{ℕ, zero, suc, _+_, _≤_, _<_}
-use mathlib.Core.Path.{_≡_, refl, sym, ap, ap₂, _∙_, subst}
+use mathlib.Core.Path.{_≡_, refl, sym, ap, _∙_, subst}
 use mathlib.Core.List.{List, [], _∷_}
 use mathlib.Core.Bool.{Bool, true, false, cond}
 use native.Mathlib.Omega.{arith}
@@ -10,14 +10,13 @@ use lib.ListN.{length, getD, drop, drop-of-length-le}
 use lib.Seq.{drop-cons}
 use Rattle.rules.specs.Shape.{Entry}
 use Rattle.image.specs.Image.{two, entriesOf, valid}
-use Rattle.image.proofs.Entries.{Shaped, entry-shaped, entries-length}
+use Rattle.image.proofs.Entries.{entry-shaped, entries-length}
 use Rattle.reading.specs.Fitting.{Str, fits}
 use Rattle.reading.specs.Reading.{Choice, chosen, nothing, unusable, firstRule}
 use Rattle.reading.specs.Meaning.{noEntry}
-use Rattle.reading.specs.declared.Fit.{Fit}
 use Rattle.reading.specs.declared.Fit.the-variants.{Rule, Nothing}
 use Rattle.reading.specs.Places.{entryAt, firstAt, FitAt}
-use Rattle.reading.proofs.Strings.{byBool, clash}
+use Rattle.reading.proofs.Strings.{byBool}
 
 -- each rule of the list has a target
 abbrev pub Targets : List Entry → Type 0

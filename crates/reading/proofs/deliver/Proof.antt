@@ -1,13 +1,6 @@
 -- `reading::deliver` meets its contract: a case of `delivered` for each way out.
 -- Assumes nothing.
-use Prim.Native.Nat.{ℕ, suc, _+_, _-_, _*_, _≤_, _<_}
-use mathlib.Core.Path.{_≡_, refl, sym, ap, ap₂, _∙_}
-use mathlib.Core.List.{List, [], _∷_, _++_}
-use mathlib.Core.Bool.{Bool, true, false}
-use native.Mathlib.Omega.{arith}
 use borrow.Author.Needs.{needs}
-use borrow.Author.Tests.{not-true, not-false, le-leb, lt-leb}
-use lib.ListN.{length, getD, take, drop, set, replicate, length-drop}
 use Rattle.reading.specs.Places.{entryAt, entriesAt}
 use Rattle.reading.proofs.Delivery.{numbers-count, phones-short, numbers-short, both-written}
 use Rattle.reading.proofs.deliver.Statement.{statement}

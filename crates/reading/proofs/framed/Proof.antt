@@ -1,13 +1,6 @@
 -- `reading::framed` meets its contract: the name stored from 1 on in zeros is its frame.
 -- Assumes nothing.
-use Prim.Native.Nat.{ℕ, suc, _+_, _-_, _*_, _≤_, _<_}
-use mathlib.Core.Path.{_≡_, refl, sym, ap, ap₂, _∙_}
-use mathlib.Core.List.{List, [], _∷_, _++_}
-use mathlib.Core.Bool.{Bool, true, false}
-use native.Mathlib.Omega.{arith}
 use borrow.Author.Needs.{needs}
-use borrow.Author.Tests.{not-true, not-false, le-leb, lt-leb}
-use lib.ListN.{length, getD, take, drop, set, replicate, length-drop}
 use Rattle.reading.proofs.Strings.{framed-is}
 use Rattle.reading.proofs.framed.Statement.{statement}
 use Rattle.reading.proofs.framed.Tie as tie

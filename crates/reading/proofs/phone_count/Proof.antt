@@ -1,17 +1,13 @@
 -- `reading::phone_count` meets its contract: after k places the phones of their rules are counted.
 -- Assumes nothing.
-use Prim.Native.Nat.{ℕ, suc, _+_, _-_, _*_, _≤_, _<_}
-use mathlib.Core.Path.{_≡_, refl, sym, ap, ap₂, _∙_}
-use mathlib.Core.List.{List, [], _∷_, _++_}
-use mathlib.Core.Bool.{Bool, true, false}
+use Prim.Native.Nat.{ℕ, _-_}
+use mathlib.Core.Path.{_≡_, sym, ap, _∙_}
 use native.Mathlib.Omega.{arith}
 use borrow.Author.Needs.{needs}
-use borrow.Author.Tests.{not-true, not-false, le-leb, lt-leb}
-use lib.ListN.{length, getD, take, drop, set, replicate, length-drop}
-use Rattle.image.specs.Image.{slotStart}
+use lib.ListN.{length}
 use Rattle.reading.specs.Places.{entryAt}
 use Rattle.reading.specs.Meaning.{noEntry}
-use Rattle.image.proofs.Entries.{Shaped, entry-shaped, phones-long}
+use Rattle.image.proofs.Entries.{entry-shaped, phones-long}
 use Rattle.reading.proofs.Fits.{slot-room}
 use Rattle.reading.proofs.Delivery.{Counted, counted-begin, counted-next, counted-end}
 use Rattle.reading.proofs.phone_count.Statement.{statement}

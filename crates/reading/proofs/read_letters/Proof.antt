@@ -1,15 +1,10 @@
 -- `reading::read_letters` meets its contract: the reading of the frame, then its delivery.
 -- Assumes nothing.
-use Prim.Native.Nat.{ℕ, suc, _+_, _-_, _*_, _≤_, _<_}
-use mathlib.Core.Path.{_≡_, refl, sym, ap, ap₂, _∙_}
-use mathlib.Core.List.{List, [], _∷_, _++_}
-use mathlib.Core.Bool.{Bool, true, false}
+use Prim.Native.Nat.{_≤_}
+use mathlib.Core.Path.{refl, sym}
 use native.Mathlib.Omega.{arith}
 use borrow.Author.Needs.{needs}
-use borrow.Author.Tests.{not-true, not-false, le-leb, lt-leb}
-use lib.ListN.{length, getD, take, drop, set, replicate, length-drop}
 use lib.Seq.{length-take-le}
-use Rattle.reading.specs.Places.{ReadInto}
 use Rattle.reading.proofs.Plain.{part-length, said-none, said-rules}
 use Rattle.reading.proofs.read_letters.Statement.{statement}
 use Rattle.reading.proofs.read_letters.Tie as tie

@@ -1,14 +1,10 @@
 -- `reading::write_numbers` meets its contract: after k places the numbers of their rules are written.
 -- Assumes nothing.
-use Prim.Native.Nat.{ℕ, suc, _+_, _-_, _*_, _≤_, _<_}
-use mathlib.Core.Path.{_≡_, refl, sym, ap, ap₂, _∙_}
-use mathlib.Core.List.{List, [], _∷_, _++_}
-use mathlib.Core.Bool.{Bool, true, false}
+use Prim.Native.Nat.{ℕ, _-_}
+use mathlib.Core.Path.{sym, ap, _∙_}
 use native.Mathlib.Omega.{arith}
 use borrow.Author.Needs.{needs}
-use borrow.Author.Tests.{not-true, not-false, le-leb, lt-leb}
-use lib.ListN.{length, getD, take, drop, set, replicate, length-drop}
-use Rattle.image.specs.Image.{slotStart}
+use lib.ListN.{length}
 use Rattle.reading.specs.Places.{entryAt}
 use Rattle.reading.specs.Meaning.{noEntry}
 use Rattle.image.proofs.Tests.{valid-long, valid-count}

@@ -1,20 +1,15 @@
 -- `reading::write_phones` meets its contract: after k places the phones of their rules are written.
 -- Assumes nothing.
-use Prim.Native.Nat.{ℕ, suc, _+_, _-_, _*_, _≤_, _<_}
-use mathlib.Core.Path.{_≡_, refl, sym, ap, ap₂, _∙_}
-use mathlib.Core.List.{List, [], _∷_, _++_}
-use mathlib.Core.Bool.{Bool, true, false}
+use Prim.Native.Nat.{ℕ, _+_, _-_}
+use mathlib.Core.Path.{sym, ap, _∙_}
 use native.Mathlib.Omega.{arith}
 use borrow.Author.Needs.{needs}
-use borrow.Author.Tests.{not-true, not-false, le-leb, lt-leb}
-use lib.ListN.{length, getD, take, drop, set, replicate, length-drop}
+use lib.ListN.{length, take, drop, length-drop}
 use Rattle.image.specs.Image.{slotStart}
 use Rattle.reading.specs.Places.{entryAt}
 use Rattle.reading.specs.Meaning.{noEntry}
-use lib.Seq.{getD-drop}
-use Rattle.image.proofs.Entries.{Shaped, entry-shaped, phones-is, phones-long}
+use Rattle.image.proofs.Entries.{phones-is, phones-long}
 use Rattle.reading.proofs.Fits.{slot-room, phones-room}
-use Rattle.reading.specs.Speech.{phonesOf}
 use Rattle.reading.proofs.Delivery.{Written, written-begin, written-length, written-room, written-next, written-end}
 use Rattle.reading.proofs.write_phones.Statement.{statement}
 use Rattle.reading.proofs.write_phones.Tie as tie
