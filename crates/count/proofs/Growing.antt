@@ -99,3 +99,23 @@ pub another : (ps ls : List ℕ) (i : ℕ) (fi nx sy fi′ nx′ sy′ fi″ nx�
     → Counted ps ls i fi nx sy count fi′ nx′ sy′ → Counted ps ls (i + 1) fi′ nx′ sy′ r fi″ nx″ sy″ → Counted ps ls (i + 1) fi nx sy r fi″ nx″ sy″
 another ps ls i fi nx sy fi′ nx′ sy′ fi″ nx″ sy″ count r a b =
     record { count = b .count; chains = b .chains; children = b .children; alike = alike-more fi nx sy fi′ nx′ sy′ fi″ nx″ sy″ (a .alike) (b .alike) }
+
+pub some-room : (ps ls : List ℕ) (n : ℕ) (fi nx sy : List ℕ) → Room (stateCount ps ls n) fi nx sy → 0 < length fi
+some-room ps ls n fi nx sy room = omega (arith, room .firsts, I.count-some ps ls n)
+
+-- there is room for the states of the next pattern, and what the loop over the patterns gives in the end
+module _ (ps ls : List ℕ) (n : ℕ) (fi nx sy : List ℕ) (room : Room (stateCount ps ls n) fi nx sy) (i count : ℕ) (fi′ nx′ sy′ : List ℕ) (c : Counted ps ls i (set fi 0 0) nx sy count fi′ nx′ sy′) where
+  pub room-next : i + 1 ≤ n → Room (stateCount ps ls (i + 1)) fi′ nx′ sy′
+  room-next h =
+      room-for (stateCount ps ls (i + 1)) (stateCount ps ls n) fi nx sy fi′ nx′ sy′
+      (record { firsts = c .alike .firsts ∙ length-set fi 0 0; nexts = c .alike .nexts; symbols = c .alike .symbols })
+      room (I.count-grows ps ls (i + 1) n h)
+
+pub counted : (ps ls : List ℕ) (n i r : ℕ) → i ≡ n → r ≡ stateCount ps ls i → r ≡ stateCount ps ls n
+counted ps ls n i r e f = f ∙ ap (stateCount ps ls) e
+
+-- arrays of the greatest number of states are enough
+pub enough : (ps ls : List ℕ) (n : ℕ) → Patterns ps ls n → (fi nx sy : List ℕ) → length fi ≡ 5121 → length nx ≡ 5121 → length sy ≡ 5121 → Room (stateCount ps ls n) fi nx sy
+enough ps ls n ok fi nx sy a b c =
+    let h = I.count-few ps ls n ok in
+    record { firsts = omega arith; nexts = omega arith; symbols = omega arith }

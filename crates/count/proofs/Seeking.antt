@@ -1,6 +1,6 @@
 -- A chain of siblings with falling numbers: what is found in it, and that a new state leaves the other chains as they were.
 -- Assumes nothing.
-use mathlib.Core.Path.{_≡_, refl, sym, ap, ap₂, _∙_, subst}
+use mathlib.Core.Path.{_≡_, refl, sym, ap, ap₂, _∙_, subst, subst₂}
 use mathlib.Core.Logic.{_≢_, _⊎_, inl, inr}
 use Prim.Native.Nat.{ℕ, zero, suc, _+_, _-_, _≤_, _<_}
 use native.Mathlib.Omega.{arith}
@@ -10,14 +10,11 @@ use mathlib.Core.List.{List}
 use lib.Dec.{eqb, eqb→eq}
 use lib.ListN.{length, getD, set, length-set}
 use lib.Seq.{getD-set-same, getD-set-other}
-use borrow.Author.Tests.{eqb-false, eq-eqb}
+use borrow.Author.Tests.{eqb-false, eq-eqb, ne-eqb}
 use Rattle.tables.proofs.Truth.{byBool, true-eq}
 use Rattle.side.specs.Steps.{Step, NewChild}
 use Rattle.side.specs.declared.Place.{Place}
 use Rattle.count.specs.Chains.{seek, childOf, Room, Chains, Alike, Descended}
-
-eqb-not : (m n : ℕ) → (m ≡ n → ⊥) → eqb m n ≡ false
-eqb-not m n d = byBool (eqb m n) (λ t. absurd (d (eqb→eq m n (true-eq (eqb m n) t)))) (λ t. t)
 
 pub seek-zero : (k : ℕ) (nx sy : List ℕ) (c : ℕ) → seek k nx sy 0 c ≡ 0
 unfolding seek
@@ -33,11 +30,11 @@ lower nx s t h f k p l = f k p (omega arith)
 
 seek-here : (k : ℕ) (nx sy : List ℕ) (s c : ℕ) → 0 < s → getD sy s 0 ≡ c → seek (suc k) nx sy s c ≡ s
 unfolding seek
-seek-here k nx sy s c p e = rw (eqb-not s 0 (λ z. omega arith), eq-eqb (getD sy s 0) c e)
+seek-here k nx sy s c p e = rw (ne-eqb s 0 (λ z. omega arith), eq-eqb (getD sy s 0) c e)
 
 seek-there : (k : ℕ) (nx sy : List ℕ) (s c : ℕ) → 0 < s → (getD sy s 0 ≡ c → ⊥) → seek (suc k) nx sy s c ≡ seek k nx sy (getD nx s 0) c
 unfolding seek
-seek-there k nx sy s c p e = rw (eqb-not s 0 (λ z. omega arith), eqb-not (getD sy s 0) c e)
+seek-there k nx sy s c p e = rw (ne-eqb s 0 (λ z. omega arith), ne-eqb (getD sy s 0) c e)
 
 -- no more than s states can be looked at
 seek-enough : (k : ℕ) (nx sy : List ℕ) (s c : ℕ) → Falling nx s → s ≤ k → seek (suc k) nx sy s c ≡ seek k nx sy s c
@@ -231,3 +228,25 @@ found fi nx sy q n c r ch d e f =
       chains = subst (λ (m : ℕ). Chains fi nx sy m) (sym f) ch;
       alike = record { firsts = refl; nexts = refl; symbols = refl };
     }
+
+-- ---- the same, where w is a copy of q's latest child and s what was found from there
+
+module _ (fi nx sy : List ℕ) (q n c w : ℕ) (ch : Chains fi nx sy n) (l : q < n) (e : w ≡ getD fi q 0) where
+  pub may-seek : (w < length nx) × (w < length sy) × Falling nx w
+  may-seek =
+      let g = ch .heads q l in
+      (omega (arith, ch .room .nexts), omega (arith, ch .room .symbols), λ k p m. ch .falling k p (omega arith))
+
+  module _ (s : ℕ) (f : s ≡ seek (length nx) nx sy w c) where
+    pub sought : s ≡ childOf fi nx sy q c
+    sought = f ∙ ap (λ (k : ℕ). seek (length nx) nx sy k c) e
+
+    pub found-child : (r : Place) → (s ≡ 0 → ⊥) → r .state ≡ s → r .count ≡ n → Descended fi nx sy q n c r fi nx sy
+    found-child r d g h = found fi nx sy q n c r ch (λ z. d (sought ∙ z)) (g ∙ sought) h
+
+    pub new-state : s ≡ 0 → Room (n + 1) fi nx sy → (r : Place) → r .state ≡ n → r .count ≡ n + 1 → (fi₂ nx₂ sy₂ : List ℕ)
+        → fi₂ ≡ set (set fi q n) n 0 → nx₂ ≡ set nx n (getD fi q 0) → sy₂ ≡ set sy n c → Descended fi nx sy q n c r fi₂ nx₂ sy₂
+    new-state z room r g h fi₂ nx₂ sy₂ a b o =
+        subst (λ (x : List ℕ). Descended fi nx sy q n c r x nx₂ sy₂) (sym a)
+        (subst₂ (λ (x y : List ℕ). Descended fi nx sy q n c r (set (set fi q n) n 0) x y) (sym b) (sym o)
+        (attached fi nx sy q n c l ch room r (sym sought ∙ z) g h))

@@ -1,3 +1,5 @@
+use mathlib.Core.Path.{_≡_, refl, sym, _∙_}
+use Rattle.count.proofs.Seeking as S
 use borrow.Author.Needs.{needs}
 use Rattle.count.proofs.descend.Statement.{statement}
 use Rattle.count.proofs.descend.Tie as tie
@@ -21,7 +23,9 @@ wide16-requires c κs = search needs
 
 -- src/lib.rt:58:9
 find-requires : tie.Need-find-requires
-find-requires c κs = ?
+find-requires c κs =
+    let st = c .before .before .before .before .before .before .before in
+    S.may-seek _ _ _ _ _ (st .args .c) _ (st .pre .2) (st .pre .0) (c .wide16 .ensures)
 
 -- src/lib.rt:60:9
 same-length : tie.Need-same-length
@@ -33,11 +37,16 @@ same-length-2 c = search needs
 
 -- src/lib.rt:60:9
 returns : tie.Need-returns
-returns c = ?
+returns c =
+    let st = c .before .before .before .before .before .before .before .before .before in
+    S.found-child _ _ _ _ _ _ _ (st .pre .2) (st .pre .0) (c .before .before .wide16 .ensures) _ (c .before .find .ensures) _ (c .if1 .taken) refl refl
 
 -- src/lib.rt:62:5
 attach-requires : tie.Need-attach-requires
-attach-requires c κs = ?
+attach-requires c κs =
+    let st = c .before .before .before .before .before .before .before .before .before .before .before .before in
+    let e = S.sought _ _ _ _ _ _ _ (st .pre .2) (st .pre .0) (c .before .before .before .before .before .wide16 .ensures) _ (c .before .before .before .before .find .ensures) in
+    (st .pre .0, st .pre .1, st .pre .3 (sym e ∙ c .before .before .before .if1 .left))
 
 -- src/lib.rt:65:16
 add-t13 : tie.Need-add-t13
@@ -57,7 +66,12 @@ same-length-5 c = search needs
 
 -- src/lib.rt:52:1
 returns-2 : tie.Need-returns-2
-returns-2 c = ?
+returns-2 c =
+    let st = c .before .before .before .before .before .before .before .before .before .before .before .before .before .before .before .before .before .before .before in
+    let e = S.sought _ _ _ _ _ _ _ (st .pre .2) (st .pre .0) (c .before .before .before .before .before .before .before .before .before .before .before .before .wide16 .ensures) _ (c .before .before .before .before .before .before .before .before .before .before .before .find .ensures) in
+    let a = c .before .before .before .before .before .before .attach in
+    S.new-state _ _ _ _ _ _ _ (st .pre .2) (st .pre .0) (c .before .before .before .before .before .before .before .before .before .before .before .before .wide16 .ensures) _ (c .before .before .before .before .before .before .before .before .before .before .before .find .ensures) (c .before .before .before .before .before .before .before .before .before .before .if1 .left)
+    (st .pre .3 (sym e ∙ c .before .before .before .before .before .before .before .before .before .before .if1 .left)) _ refl refl _ _ _ (a .ensures .0) (a .ensures .1 .0) (a .ensures .1 .1)
 
 pub descend-spec : {M : Type 1} → statement M
 descend-spec =
