@@ -18,7 +18,8 @@ use Rattle.tables.proofs.Words.{length-tab, getD-tab}
 use Rattle.side.specs.Patterns.{patternAt, patternsOf, Patterns, stateCount}
 use Rattle.side.specs.Wrote.{Wrote, Past}
 use Rattle.side.specs.Steps.{cell, run, part, Inside, Symbols, Numbered}
-use Rattle.side.specs.Filled.{Level, Final, Owned, Finished, holds, word, over, sideRows, sideSets}
+use Rattle.side.specs.Filled.{Level, Final, Owned, Finished, holds, word, sideRows, sideSets}
+use Rattle.reading.specs.Speech.{over}
 use Rattle.side.proofs.Inserting.{patterns-length, pattern-length}
 use Rattle.side.proofs.Parts.{patterns-at, part-is, part-tail, small-part, symbols-of, symbols-rest}
 use Rattle.side.proofs.Levels.{Cells, level-cells, numbered-cells, inside, run-own, run-fail}

@@ -31,9 +31,6 @@ holds pats s = atPlace (λ x. ends x s) pats
 abbrev pub word : (ℕ → Bool) → ℕ → ℕ
 word f j = pack (λ b. f (64 * j + b)) 64
 
-abbrev pub over : List ℕ → List ℕ → List ℕ
-over ys xs = ys ++ drop (length ys) xs
-
 -- the rows and the sets of a list of patterns
 abbrev pub sideRows : List Str → List ℕ
 sideRows pats = tab (64 * length (states pats)) (λ k. entry (states pats) (k / 64) (k % 64))

@@ -9,7 +9,8 @@ ghost use Rattle.side.specs.Patterns.{patternsOf, Patterns, stateCount};
 ghost use Rattle.side.specs.Wrote.{Wrote, Past};
 ghost use Rattle.side.specs.Steps.{cell, run, part, Inside, Symbols, Descended, Numbered, Counted, completed, united};
 ghost use Rattle.tables.specs.States.{states};
-ghost use Rattle.side.specs.Filled.{Level, Owned, Finished, sideRows, sideSets, over};
+ghost use Rattle.side.specs.Filled.{Level, Owned, Finished, sideRows, sideSets};
+ghost use Rattle.reading.specs.Speech.{over};
 
 fn wide(x: u8) -> usize
     ensures { λ r. ⌜ r ≡ x ⌝ }
