@@ -113,3 +113,7 @@ zeros (suc n) (suc k) = zeros n k
 
 pub laid-at : {d : List ℕ} {right : Bool} {ps₀ ls₀ ps ls : List ℕ} {i : ℕ} (n : ℕ) → i ≡ n → Laying d right ps₀ ls₀ ps ls i → Laying d right ps₀ ls₀ ps ls n
 laid-at {d} {right} {ps₀} {ls₀} {ps} {ls} {i} n e y = subst (Laying d right ps₀ ls₀ ps ls) e y
+
+-- the scratch arrays have room for all patterns
+pub scratch : (d : List ℕ) → valid d ≡ true → (n : ℕ) → n ≡ two 0 d → (ps ls : List ℕ) → length ps ≡ 5120 → length ls ≡ 512 → (10 * n ≤ length ps) × (n ≤ length ls)
+scratch d ok n e ps ls a b = let h = valid-count d ok in (omega arith, omega arith)

@@ -17,7 +17,7 @@ use Rattle.tables.specs.States.{states}
 use Rattle.tables.specs.Tables.{Table, at, tableOf, leftPattern, rightPattern}
 use Rattle.tables.specs.Words.{tab, rowsOf, setsOf, builtWords, builtSets, neededWords, neededSets, wordsFor, setsFor, building, builtFrom, built}
 use Rattle.tables.proofs.Words.{length-tab}
-use Rattle.side.specs.Patterns.{patternsOf, stateCount}
+use Rattle.side.specs.Patterns.{patternsOf, Patterns, stateCount}
 use Rattle.side.specs.Filled.{atPlace, holds, sideRows, sideSets}
 use Rattle.side.proofs.Levels.{word-ext}
 use Rattle.side.proofs.Inserting.{count-few}
@@ -47,8 +47,11 @@ module _ (d : List ℕ) (right : Bool) (ps ls : List ℕ) (n : ℕ) (e : n ≡ t
   pub side-count : stateCount ps ls n ≡ sideTable d right .count
   side-count = ap (λ (l : List Str). length (states l)) are-n
 
+  pub side-ok : Patterns ps ls n
+  side-ok = subst (Patterns ps ls) (sym e) (a .ok)
+
   pub side-few : stateCount ps ls n ≤ 5121
-  side-few = subst (λ (k : ℕ). stateCount ps ls k ≤ 5121) (sym e) (count-few ps ls (two 0 d) (a .ok))
+  side-few = count-few ps ls n side-ok
 
   pub side-rows : sideRows (patternsOf ps ls n) ≡ rowsOf (sideTable d right)
   side-rows = ap sideRows are-n
