@@ -1,0 +1,33 @@
+-- The two sides of a ruleset's tables, and the patterns of one as they are laid out for the row filler.
+-- Assumes nothing.
+use mathlib.Core.Path.{_≡_}
+use Prim.Native.Nat.{ℕ, _<_}
+use mathlib.Core.Bool.{Bool, true, false}
+use mathlib.Core.List.{List, map}
+use lib.ListN.{length, getD}
+use Rattle.rules.specs.Shape.{Entry}
+use Rattle.image.specs.Image.{two, entriesOf}
+use Rattle.reading.specs.Fitting.{Str}
+use Rattle.reading.specs.Meaning.{noEntry}
+use Rattle.tables.specs.Tables.{Table, tableOf, leftPattern, rightPattern}
+use Rattle.side.specs.Patterns.{patternsOf, Patterns}
+
+-- the right pattern of a rule, or the left
+abbrev pub sideOf : Bool → Entry → Str
+sideOf true = rightPattern
+sideOf false = leftPattern
+
+-- the pattern of the rule at a place
+abbrev pub patternIn : List ℕ → Bool → ℕ → Str
+patternIn image right place = sideOf right (getD (entriesOf image) place noEntry)
+
+abbrev pub sideTable : List ℕ → Bool → Table
+sideTable image right = tableOf (sideOf right) (entriesOf image)
+
+abbrev pub Small : List ℕ → Type 0
+Small xs = (k : ℕ) → getD xs k 0 < 64
+
+-- the patterns of a side lie in the two lists
+pub record Laid (image : List ℕ) (right : Bool) (ps ls : List ℕ) : Type 0 where
+  pub ok : Patterns ps ls (two 0 image)
+  pub are : patternsOf ps ls (two 0 image) ≡ map (sideOf right) (entriesOf image)
