@@ -46,7 +46,7 @@ module _ (f : ℕ → Choice) (n : ℕ) (ahead : (i : ℕ) (r : Entry) → f i �
   read-past (suc k) i h = rw (lt-ltb n i h)
 
   onward-same : (c : Choice) (i : ℕ) → f i ≡ c → (g h : ℕ → Reading) → ((j : ℕ) → i < j → g j ≡ h j) → onward c i g ≡ onward c i h
-  onward-same (chosen r) i e g h s = let l = ahead i r e in rw (s (i + length (r .rule .target)) (omega arith))
+  onward-same (chosen r) i e g h s = let l = ahead i r e in ap (cons r) (s _ (omega arith))
   onward-same nothing i e g h s = refl
   onward-same unusable i e g h s = refl
 
