@@ -14,7 +14,7 @@ use Rattle.image.proofs.Tests.{valid-count}
 use Rattle.image.proofs.Entries as E
 use Rattle.reading.specs.Fitting.{Str}
 use Rattle.reading.specs.Meaning.{noEntry}
-use Rattle.build.specs.Sides.{patternIn, Small}
+use Rattle.build.specs.Sides.{patternIn}
 
 getD-reverse : (l : Str) (k : ℕ) → k < length l → getD (reverse l) k 0 ≡ getD l (length l - 1 - k) 0
 getD-reverse [] k h = absurd (omega arith)

@@ -21,7 +21,7 @@ use Rattle.side.specs.Patterns.{patternsOf, Patterns, stateCount}
 use Rattle.side.specs.Filled.{atPlace, holds, sideRows, sideSets}
 use Rattle.side.proofs.Levels.{word-ext}
 use Rattle.side.proofs.Inserting.{count-few}
-use Rattle.build.specs.Sides.{sideOf, sideTable, Laid}
+use Rattle.build.specs.Sides.{sideOf, sideTable, Laid, Counted}
 
 -- ---- one side
 
@@ -50,8 +50,8 @@ module _ (d : List ℕ) (right : Bool) (ps ls : List ℕ) (n : ℕ) (e : n ≡ t
   pub side-ok : Patterns ps ls n
   side-ok = subst (Patterns ps ls) (sym e) (a .ok)
 
-  pub side-few : stateCount ps ls n ≤ 5121
-  side-few = count-few ps ls n side-ok
+  pub side-counted : (r : ℕ) → r ≡ stateCount ps ls n → Counted d right r ps ls
+  side-counted r f = record { is = f ∙ side-count; few = omega (arith, count-few ps ls n side-ok); scratch = a .scratch }
 
   pub side-rows : sideRows (patternsOf ps ls n) ≡ rowsOf (sideTable d right)
   side-rows = ap sideRows are-n
