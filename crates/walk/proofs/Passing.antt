@@ -7,13 +7,14 @@ use native.Mathlib.Omega.{arith}
 use native.Mathlib.Decide.{decLe}
 use native.Mathlib.Numerals.{add-one}
 use mathlib.Core.Bool.{Bool, true, false, _&&_, and-false}
-use mathlib.Core.List.{List, [], _∷_, _++_, reverse, reverse-cons}
+use mathlib.Core.List.{List, [], _∷_, reverse, reverse-cons}
 use lib.Dec.{ltb}
 use borrow.Author.Tests.{lt-ltb, le-ltb}
-use lib.ListN.{length, getD, take, drop, set, replicate, length-set, length-replicate}
+use lib.ListN.{length, getD, take, drop, set, replicate, length-set}
 use lib.Seq.{getD-set-same, getD-set-other, take-suc, drop-cons, drop-length}
 use Rattle.tables.specs.Tables.{Table}
 use Rattle.tables.specs.Walk.{Step as State, step, pass, allBelow}
+use Rattle.tables.proofs.Walk.{pass-append}
 use Rattle.walk.specs.Passes.{Stepped, rowsAt, leftOn, rightOn, Passed}
 use Rattle.walk.specs.declared.Step.{Step}
 use Rattle.walk.specs.declared.Pass.{Pass}
@@ -35,10 +36,6 @@ not-below f k (suc n) a b e = go (decLe k n) (λ y. not-below f k n a y e)
         ap (λ (b : Bool). b && allBelow f n) (ap f (sym q) ∙ e)
 
 -- ---- a pass reads one symbol more
-
-pub pass-append : (t : Table) (s : State) (v w : List ℕ) → pass t s (v ++ w) ≡ pass t (pass t s v) w
-pass-append t s [] w = refl
-pass-append t s (c ∷ v) w = pass-append t (step t s c) v w
 
 left-next : (t : Table) (f : List ℕ) (i : ℕ) → i < length f → leftOn t f (i + 1) ≡ step t (leftOn t f i) (getD f i 0)
 left-next t f i h =

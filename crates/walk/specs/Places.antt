@@ -1,0 +1,20 @@
+-- STUB of reading/specs/Places.antt
+use Prim.Native.Nat.{ℕ, zero, suc, _-_, _≤_, _<_}
+use mathlib.Core.Path.{_≡_}
+use mathlib.Core.List.{List, [], _∷_, map}
+use lib.ListN.{length, getD, take}
+use Rattle.rules.specs.Shape.{Entry}
+use Rattle.image.specs.Image.{two, entriesOf}
+use Rattle.reading.specs.Meaning.{noEntry}
+
+-- the rule at a place of an image
+abbrev pub entryAt : List ℕ → ℕ → Entry
+entryAt image p = getD (entriesOf image) p noEntry
+
+-- the rules at places of an image
+abbrev pub entriesAt : List ℕ → List ℕ → List Entry
+entriesAt image ps = map (entryAt image) ps
+
+-- each place is one of the image's rules
+abbrev pub Within : List ℕ → List ℕ → Type 0
+Within image ps = (k : ℕ) → k < length ps → getD ps k 0 < two 0 image
