@@ -1,3 +1,4 @@
 pub mod Passes
 pub mod Places
 pub mod Letters
+pub mod Walked

@@ -1,14 +1,23 @@
 // The walk of a name through lent tables (document 01, "The walk", and refusal 16).
+use reading::Speech;
 use rules::Refusal;
 ghost use mathlib.Core.Path.{_≡_};
 ghost use mathlib.Core.Bool.{true, false};
-ghost use Prim.Native.Nat.{_+_, _-_, _*_, _<_, _≤_};
-ghost use lib.ListN.{length};
-ghost use Rattle.image.specs.Image.{two, valid};
-ghost use Rattle.reading.specs.Fitting.{fits};
+ghost use Prim.Native.Nat.{_+_, _-_, _*_, _<_, _≤_, ℕ};
+ghost use lib.ListN.{length, getD, take};
+ghost use Rattle.rules.specs.Refusals.{refusalNumber, refusalPlace};
+ghost use Rattle.rules.specs.Shape.{first};
+ghost use Rattle.image.specs.Image.{two, valid, entriesOf};
+ghost use Rattle.reading.specs.Reading.{finished};
+ghost use Rattle.reading.specs.Speech.{toldOf, saying, delivered, refused};
+ghost use Rattle.tables.specs.Words.{leftCount, rightCount};
+ghost use Rattle.tables.specs.Walk.{counted, walkedAs, walkSaid, walkSteps, walk as walkBy};
+ghost use Rattle.reading.specs.Fitting.{fits, frame};
 ghost use Rattle.walk.specs.Places.{entryAt, entriesAt, Within};
 ghost use Rattle.walk.specs.Passes.{Stepped, Symbols, rowsAt, leftOn, rightOn, Passed};
-ghost use Rattle.walk.specs.Letters.{foundOf, lowestShared, choiceBy, Chooses, refusalAt, choicesBy, ReadBy, Bounded};
+ghost use Rattle.walk.specs.Letters.{foundOf, lowestShared, choiceBy, Chooses, refusalAt, choicesBy, endingAs, ReadBy, Bounded};
+ghost use Rattle.walk.specs.Walked.{walkedOf, lengthsFor, leftFor, rightFor, walkFor, walkOn, Both, Fit};
+ghost use Rattle.walk.specs.Places.{Judges};
 
 fn wide(x: u16) -> usize
     ensures { λ r. ⌜ r ≡ x ⌝ }
@@ -232,4 +241,289 @@ fn read_letters(
         count,
         ending: Ending::Finished,
     }
+}
+
+// The states that both passes remember, and how many entries they looked up.
+pub struct Passes {
+    pub usable: bool,
+    pub left: [u16; 66],
+    pub right: [u16; 66],
+    pub steps: usize,
+}
+
+// The left pass, then the right pass, whose count goes on from the left's.
+fn run_passes(words: &[u16], left_states: usize, right_states: usize, frame: &[u8]) -> Passes
+    requires { ⌜ (0 < «left_states») × (0 < «right_states») × (2 + 64 * («left_states» + «right_states») ≤ length (now words)) × (2 ≤ length (now frame)) × (length (now frame) ≤ 66) × Symbols (now frame) ⌝ }
+    ensures { λ r. ⌜ Both (now (words .entry)) «left_states» «right_states» (now (frame .entry)) (length (now (frame .entry)) - 2) r ⌝ }
+{
+    let first = left_pass(words, 2, left_states, frame);
+    let left = first.states;
+    if !first.usable {
+        return Passes {
+            usable: false,
+            left,
+            right: left,
+            steps: 0,
+        };
+    }
+    let second = right_pass(words, 2 + 64 * left_states, right_states, frame, first.steps);
+    let right = second.states;
+    Passes {
+        usable: second.usable,
+        left,
+        right,
+        steps: second.steps,
+    }
+}
+
+// The answer of a walk: the entries looked up, and what was said.
+pub struct WalkAnswer {
+    pub steps: usize,
+    pub speech: Speech,
+}
+
+// The steps that go with a refusal: none with 0, 1, 2 and 16.
+fn steps_with(x: Refusal, steps: usize) -> usize
+    ensures { λ r. ⌜ r ≡ counted (refused (refusalNumber x) (refusalPlace x)) steps ⌝ }
+{
+    let n = rules::refusal_number(x);
+    if n < 3 {
+        return 0;
+    }
+    if 5 < n {
+        return 0;
+    }
+    steps
+}
+
+// STUB
+fn deliver(image: &[u8], places: &[u16], phones: &mut [u8], numbers: &mut [u16]) -> Speech
+    requires { ⌜ (valid (now image) ≡ true) × ((length (now places) ≤ 64) × Within (now image) (now places)) ⌝ }
+    ensures { λ r. ⌜ saying (toldOf r) (now (phones .exit)) (now (numbers .exit)) ≡ delivered (finished (entriesAt (now (image .entry)) (now (places .entry)))) (now (phones .entry)) (now (numbers .entry)) ⌝ }
+{
+    Speech::Spoken { phones: 0, numbers: 0 }
+}
+
+// What was read is spoken, with the steps that were carried.
+fn speak(image: &[u8], reached: Reached, steps: usize, phones: &mut [u8], numbers: &mut [u16]) -> WalkAnswer
+    requires { ⌜ (valid (now image) ≡ true) × (reached .count ≤ 64) × ((k : ℕ) → k < reached .count → getD (reached .places) k 0 < two 0 (now image)) ⌝ }
+    ensures { λ r. ⌜ walkedOf r (now (phones .exit)) (now (numbers .exit)) ≡ walkedAs (delivered (endingAs (reached .ending) (entriesAt (now (image .entry)) (take (reached .count) (reached .places)))) (now (phones .entry)) (now (numbers .entry))) steps ⌝ }
+{
+    let ending = reached.ending;
+    match ending {
+        Ending::Refused(x) => {
+            let speech = Speech::Refused(x);
+            WalkAnswer {
+                steps: steps_with(x, steps),
+                speech,
+            }
+        }
+        Ending::Finished => {
+            let places = reached.places;
+            let count = reached.count;
+            let speech = deliver(image, &places[..count], phones, numbers);
+            WalkAnswer { steps, speech }
+        }
+    }
+}
+
+// The walk over a frame.
+fn walk_frame<'a>(
+    words: &'a [u16],
+    sets: &'a [u64],
+    left_states: usize,
+    right_states: usize,
+    image: &[u8],
+    frame: &[u8],
+    phones: &mut [u8],
+    numbers: &mut [u16],
+) -> WalkAnswer
+    requires { ⌜ Fit (length (now words)) (length (now sets)) «left_states» «right_states» × (valid (now image) ≡ true) × (2 ≤ length (now frame)) × (length (now frame) ≤ 66) × Symbols (now frame) ⌝ }
+    ensures { λ r. ⌜ walkedOf r (now (phones .exit)) (now (numbers .exit)) ≡ walkOn (leftFor (now (words .entry)) (now (sets .entry)) «left_states») (rightFor (now (words .entry)) (now (sets .entry)) «left_states» «right_states») (now (frame .entry)) (length (now (frame .entry)) - 2) (entriesOf (now (image .entry))) (now (phones .entry)) (now (numbers .entry)) ⌝ }
+{
+    let passes = run_passes(words, left_states, right_states, frame);
+    if !passes.usable {
+        return WalkAnswer {
+            steps: 0,
+            speech: Speech::Refused(Refusal::BadTables(0)),
+        };
+    }
+    let left = passes.left;
+    let right = passes.right;
+    let reached = read_letters(sets, 8 * left_states, image, frame, left, right);
+    speak(image, reached, passes.steps, phones, numbers)
+}
+
+// STUB
+pub enum Judged {
+    Letters,
+    Refused(Refusal),
+}
+
+// STUB
+fn judge_name(name: &[u8]) -> Judged
+    ensures { λ r. ⌜ Judges (now (name .entry)) r ⌝ }
+{
+    Judged::Letters
+}
+
+// STUB
+fn framed(name: &[u8]) -> [u8; 66]
+    requires { ⌜ length (now name) ≤ 64 ⌝ }
+    ensures { λ r. ⌜ r ≡ first 66 (frame (now (name .entry))) 0 ⌝ }
+{
+    [0u8; 66]
+}
+
+// The walk of a name of letters through tables whose lengths fit.
+fn walk_letters<'a>(
+    words: &'a [u16],
+    sets: &'a [u64],
+    left_states: usize,
+    right_states: usize,
+    image: &[u8],
+    name: &[u8],
+    phones: &mut [u8],
+    numbers: &mut [u16],
+) -> WalkAnswer
+    requires { ⌜ Fit (length (now words)) (length (now sets)) «left_states» «right_states» × (valid (now image) ≡ true) × (length (now name) ≤ 64) × Symbols (now name) ⌝ }
+    ensures { λ r. ⌜ walkedOf r (now (phones .exit)) (now (numbers .exit)) ≡ walkedAs (delivered (walkBy (leftFor (now (words .entry)) (now (sets .entry)) «left_states») (rightFor (now (words .entry)) (now (sets .entry)) «left_states» «right_states») (now (name .entry)) (entriesOf (now (image .entry)))) (now (phones .entry)) (now (numbers .entry))) (walkSteps (leftFor (now (words .entry)) (now (sets .entry)) «left_states») (rightFor (now (words .entry)) (now (sets .entry)) «left_states» «right_states») (now (name .entry))) ⌝ }
+{
+    let frame = framed(name);
+    let end = name.len() + 2;
+    walk_frame(
+        words,
+        sets,
+        left_states,
+        right_states,
+        image,
+        &frame[..end],
+        phones,
+        numbers,
+    )
+}
+
+// Whether words and set words are long enough for the state counts, of which none may be 0.
+fn lengths_fit(words: usize, sets: usize, left_states: usize, right_states: usize) -> bool
+    ensures { λ r. ⌜ r ≡ lengthsFor words sets «left_states» «right_states» ⌝ }
+{
+    if words < 2 {
+        return false;
+    }
+    if left_states < 1 {
+        return false;
+    }
+    if right_states < 1 {
+        return false;
+    }
+    let rows = (words - 2) / 64;
+    if rows < left_states {
+        return false;
+    }
+    if rows - left_states < right_states {
+        return false;
+    }
+    let states = sets / 8;
+    if states < left_states {
+        return false;
+    }
+    if states - left_states < right_states {
+        return false;
+    }
+    true
+}
+
+// The walk of a name through lent tables with their state counts, for a caller that knows the image valid.
+pub fn walk_tables<'a>(
+    words: &'a [u16],
+    sets: &'a [u64],
+    left_states: usize,
+    right_states: usize,
+    image: &[u8],
+    name: &[u8],
+    phones: &mut [u8],
+    numbers: &mut [u16],
+) -> WalkAnswer
+    requires { ⌜ valid (now image) ≡ true ⌝ }
+    ensures { λ r. ⌜ walkedOf r (now (phones .exit)) (now (numbers .exit)) ≡ walkFor «left_states» «right_states» (now (image .entry)) (now (words .entry)) (now (sets .entry)) (now (name .entry)) (now (phones .entry)) (now (numbers .entry)) ⌝ }
+{
+    let judged = judge_name(name);
+    if let Judged::Refused(x) = judged {
+        return WalkAnswer {
+            steps: 0,
+            speech: Speech::Refused(x),
+        };
+    }
+    if !lengths_fit(words.len(), sets.len(), left_states, right_states) {
+        return WalkAnswer {
+            steps: 0,
+            speech: Speech::Refused(Refusal::BadTables(0)),
+        };
+    }
+    walk_letters(
+        words,
+        sets,
+        left_states,
+        right_states,
+        image,
+        name,
+        phones,
+        numbers,
+    )
+}
+
+// The state count that stands at a place of the words; 0 where they are too short.
+fn state_count(words: &[u16], at: usize) -> usize
+    ensures { λ r. ⌜ r ≡ getD (now (words .entry)) at 0 ⌝ }
+{
+    if words.len() <= at {
+        return 0;
+    }
+    wide(words[at])
+}
+
+// The walk of a name for a caller that knows the image valid; nothing in it grows with the number of rules.
+pub fn walk_valid<'a>(
+    image: &[u8],
+    words: &'a [u16],
+    sets: &'a [u64],
+    name: &[u8],
+    phones: &mut [u8],
+    numbers: &mut [u16],
+) -> WalkAnswer
+    requires { ⌜ valid (now image) ≡ true ⌝ }
+    ensures { λ r. ⌜ walkedOf r (now (phones .exit)) (now (numbers .exit)) ≡ walkSaid (now (image .entry)) (now (words .entry)) (now (sets .entry)) (now (name .entry)) (now (phones .entry)) (now (numbers .entry)) ⌝ }
+{
+    let left_states = state_count(words, 0);
+    let right_states = state_count(words, 1);
+    walk_tables(
+        words,
+        sets,
+        left_states,
+        right_states,
+        image,
+        name,
+        phones,
+        numbers,
+    )
+}
+
+// The walk of a name through lent tables, built or not: document 01's refusals 0; 2, 1; 16, 3; 4, 5.
+pub fn walk<'a>(
+    image: &[u8],
+    words: &'a [u16],
+    sets: &'a [u64],
+    name: &[u8],
+    phones: &mut [u8],
+    numbers: &mut [u16],
+) -> WalkAnswer
+    ensures { λ r. ⌜ walkedOf r (now (phones .exit)) (now (numbers .exit)) ≡ walkSaid (now (image .entry)) (now (words .entry)) (now (sets .entry)) (now (name .entry)) (now (phones .entry)) (now (numbers .entry)) ⌝ }
+{
+    if !image::is_ruleset(image) {
+        return WalkAnswer {
+            steps: 0,
+            speech: Speech::Refused(Refusal::NotRuleset(0)),
+        };
+    }
+    walk_valid(image, words, sets, name, phones, numbers)
 }
