@@ -131,7 +131,7 @@ module _ (image ws ss : List ℕ) (l r : ℕ) (f : List ℕ) (n : ℕ) (p : Pass
   unfolding walkOn readOn
   walk-unusable e phones numbers a g =
       let u : usableOn (leftFor ws ss l) (rightFor ws ss l r) f n ≡ false = sym usable-is ∙ e in
-      g ∙ sym (ap (λ (t : Bool). walkedAs (delivered (cond t (readFrom (choiceOn (leftFor ws ss l) (rightFor ws ss l r) f n (entriesOf image)) n n 1) (stopped 16 0)) phones numbers) _) u)
+      g ∙ sym (ap (λ (t : Bool). walkedAs (delivered (cond t (readFrom (choiceOn (leftFor ws ss l) (rightFor ws ss l r) f n (entriesOf image)) n n 1) (stopped 16 0)) phones numbers) (rightOn (rightFor ws ss l r) (stepsOn (leftFor ws ss l) f n) f 1 .steps)) u)
 
   module _ (e : p .usable ≡ true) where
     choice-is : (i : ℕ) → 1 ≤ i → i ≤ n
@@ -214,7 +214,7 @@ letter-symbol : (c : ℕ) → letter c ≡ true → c < 64
 letter-symbol c e =
     byBool (leb 1 c)
     (λ t. let g : leb c 63 ≡ true = rw t at e in omega (arith, leb-true c 63 g))
-    (λ t. let g : false ≡ true = rw t at e in clash (sym g) refl)
+    (λ t. let g : false ≡ true = rw t at e in clash g refl)
 
 letters-symbols : (i : ℕ) (w : Str) → judgedLetters i w (finished []) ≡ finished [] → Symbols w
 letters-symbols i [] e k l = absurd (omega arith)

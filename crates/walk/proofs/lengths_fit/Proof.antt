@@ -1,0 +1,41 @@
+use Rattle.walk.proofs.lengths_fit.Statement.{statement}
+use Rattle.walk.proofs.lengths_fit.Tie as tie
+use Rattle.walk.proofs.lengths_fit.Reads as reads
+use Rattle.walk.proofs.lengths_fit.Lts as lts
+
+-- src/lib.rt:411:9
+returns : tie.Need-returns
+returns c = ?
+
+-- src/lib.rt:414:9
+returns-2 : tie.Need-returns-2
+returns-2 c = ?
+
+-- src/lib.rt:417:9
+returns-3 : tie.Need-returns-3
+returns-3 c = ?
+
+-- src/lib.rt:421:9
+returns-4 : tie.Need-returns-4
+returns-4 c = ?
+
+-- src/lib.rt:424:9
+returns-5 : tie.Need-returns-5
+returns-5 c = ?
+
+-- src/lib.rt:428:9
+returns-6 : tie.Need-returns-6
+returns-6 c = ?
+
+-- src/lib.rt:431:9
+returns-7 : tie.Need-returns-7
+returns-7 c = ?
+
+-- src/lib.rt:407:1
+returns-8 : tie.Need-returns-8
+returns-8 c = ?
+
+pub lengths-fit-spec : {M : Type 1} → statement M
+lengths-fit-spec =
+    tie.close
+    (tie.spec returns returns-2 returns-3 returns-4 returns-5 returns-6 returns-7 returns-8)
