@@ -1,12 +1,14 @@
 -- How many states a list of patterns has: no more than its symbols and one, so no more than 3,073 left and 5,121 right.
 -- Assumes nothing.
 use mathlib.Core.Path.{_≡_, refl, sym, ap, _∙_}
-use Prim.Native.Nat.{ℕ, _+_, _*_, _≤_}
+use Prim.Native.Nat.{ℕ, suc, _+_, _*_, _≤_, _<_, zero-le, suc-le-suc}
 use native.Mathlib.Omega.{arith}
-use mathlib.Core.Bool.{Bool, true, false}
-use mathlib.Core.List.{List, [], _∷_, _++_}
-use lib.ListN.{length, length-append}
+use mathlib.Core.Bool.{true}
+use mathlib.Core.List.{List, [], _∷_, _++_, map}
+use lib.ListN.{length, getD, length-append}
+use Rattle.rules.specs.Shape.{Entry}
 use Rattle.reading.specs.Fitting.{Str}
+use Rattle.reading.specs.Meaning.{noEntry}
 use Rattle.tables.specs.States.{member, numberOne, numberAll, prefixes, allPrefixes, states}
 use Rattle.tables.proofs.Truth.{byBool}
 use Rattle.tables.proofs.Trie.{insert}
@@ -61,3 +63,10 @@ states-length b pats h =
     let s = states-total pats in
     let t = total-within b pats h in
     omega arith
+
+-- the patterns of a list of rules
+pub within-map : (b : ℕ) (pattern : Entry → Str) (rules : List Entry) → ((p : ℕ) → p < length rules → length (pattern (getD rules p noEntry)) ≤ b)
+    → Within b (map pattern rules)
+unfolding Within
+within-map b pattern [] h = tt
+within-map b pattern (r ∷ rs) h = (h 0 (suc-le-suc zero-le), within-map b pattern rs (λ p l. h (suc p) (suc-le-suc l)))

@@ -9,3 +9,7 @@ pub mod Count
 pub mod Sets
 pub mod Walk
 pub mod Words
+pub mod Steps
+pub mod Loop
+pub mod Theorem
+pub mod Meaning

@@ -1,7 +1,7 @@
 -- A table that is completed up to a depth: the rows of shorter strings are finished, the others hold their children.
 -- A builder finds a prefix's state and its failure state by running such a table, with no memory of its own.
 -- Assumes nothing.
-use mathlib.Core.Path.{_≡_, refl, sym, ap, _∙_, subst}
+use mathlib.Core.Path.{_≡_, sym, ap, _∙_, subst}
 use Prim.Native.Nat.{ℕ, suc, _+_, _≤_, _<_}
 use native.Mathlib.Omega.{arith}
 use native.Mathlib.Decide.{decLe}

@@ -2,23 +2,23 @@
 -- numbered suffix of w, and its set holds the places of the rules whose pattern ends w.
 -- Assumes nothing.
 use mathlib.Core.Path.{_≡_, refl, sym, ap, ap₂, _∙_}
-use Prim.Native.Nat.{ℕ, zero, suc, _+_, _*_, _≤_, _<_}
+use Prim.Native.Nat.{ℕ, zero, suc, _+_, _≤_, _<_}
 use native.Mathlib.Nat.{le-of-suc-le-suc, not-suc-le-zero}
 use native.Mathlib.Omega.{arith}
 use native.Mathlib.Numerals.{add-one}
-use mathlib.Core.Bool.{Bool, true, false, cond, _&&_, _||_, or-false, or-true, and-or-distrib-left}
+use mathlib.Core.Bool.{Bool, true, cond, _&&_, _||_, or-false, or-true, and-or-distrib-left}
 use mathlib.Core.List.{List, [], _∷_, _++_, map, reverse, append-nil, reverse-cons}
 use mathlib.Core.Option.{Option, none, some, Option·map}
 use borrow.Author.Tests.{lt-ltb}
 use lib.Dec.{eqb, ltb}
-use lib.Seq.{append-snoc, length-take-le, take-suc}
-use lib.ListN.{length, getD, take, drop, length-append, length-reverse}
+use lib.Seq.{append-snoc, take-suc}
+use lib.ListN.{length, getD, take, drop}
 use Rattle.rules.specs.Shape.{Entry}
 use Rattle.reading.specs.Fitting.{Str, same, starts, ends, frame, fits}
-use Rattle.reading.specs.Reading.{Choice, chosen, nothing, unusable, Reading, finished, onward, readFrom, firstRule, firstFit, plain}
+use Rattle.reading.specs.Reading.{Choice, chosen, nothing, unusable, Reading, finished, onward, readFrom, firstRule, firstFit}
 use Rattle.tables.specs.States.{longest, member, index, states, numbered, entry}
 use Rattle.tables.specs.Tables.{Table, at, tableOf, leftPattern, rightPattern, leftTable, rightTable}
-use Rattle.tables.specs.Walk.{lowest, lookup, places, Step, step, pass, allBelow, leftAt, rightAt, walkChoice, walkUsable, walk, walkSteps}
+use Rattle.tables.specs.Walk.{lowest, lookup, places, Step, step, pass, allBelow, leftAt, rightAt, walkChoice, walkUsable}
 use Rattle.tables.proofs.Truth.{byBool}
 use Rattle.tables.proofs.Suffix.{same-refl, same-snoc, snoc-not-nil, longest-snoc, longest-passes, ends-longest}
 use Rattle.tables.proofs.Numbering.{numbered-closed, numbered-nil, numbered-pattern, getD-index, index-lt, index-nil}
@@ -144,7 +144,7 @@ ends-reverse (x ∷ s) [] = ap (λ (r : Str). same r []) (reverse-cons x s) ∙ 
 ends-reverse (x ∷ s) (y ∷ w) =
     ap₂ ends (reverse-cons x s) (reverse-cons y w) ∙ ends-snoc (reverse s) (reverse w) x y ∙ rw (ends-reverse s w)
 
--- ---- the theorem
+-- ---- the choice at a letter
 
 allBelow-true : (g : ℕ → ℕ) (k : ℕ) → ((i : ℕ) → g i < k) → (n : ℕ) → allBelow (λ i. ltb (g i) k) n ≡ true
 allBelow-true g k h zero = refl
@@ -160,35 +160,19 @@ module _ (rules : List Entry) (name : Str) where
       ∙ at-and (λ r. ends (r .rule .left) (take i (frame name))) (λ r. ends (reverse (r .rule .target ++ r .rule .right)) (reverse (drop i (frame name)))) rules p
       ∙ at-ext _ _ rules p (λ r. ap (λ (b : Bool). ends (r .rule .left) (take i (frame name)) && b) (ends-reverse (r .rule .target ++ r .rule .right) (drop i (frame name))))
 
-  module _ (few : length rules ≤ places) where
-    choice-is : (i : ℕ) → walkChoice (leftTable rules) (rightTable rules) name rules i ≡ firstFit rules name i
-    choice-is i =
-        ap (lookup (λ r. fits (r .rule) (frame name) i) rules) (lowest-ext places _ (at (λ r. fits (r .rule) (frame name) i) rules) (λ p l. meet-is i p))
-        ∙ lookup-lowest (λ r. fits (r .rule) (frame name) i) rules places few
+  -- so the walk chooses the first rule that fits
+  pub choice-is : length rules ≤ places → (i : ℕ) → walkChoice (leftTable rules) (rightTable rules) name rules i ≡ firstFit rules name i
+  choice-is few i =
+      ap (lookup (λ r. fits (r .rule) (frame name) i) rules) (lowest-ext places _ (at (λ r. fits (r .rule) (frame name) i) rules) (λ p l. meet-is i p))
+      ∙ lookup-lowest (λ r. fits (r .rule) (frame name) i) rules places few
 
-    usable : walkUsable (leftTable rules) (rightTable rules) name ≡ true
-    usable =
-        ap₂ _&&_
-        (allBelow-true (λ i. leftAt (leftTable rules) (rightTable rules) name i .state) (leftTable rules .count)
-        (λ i. pass-below leftPattern rules (take i (frame name)) 0) (suc (length name)))
-        (allBelow-true (λ i. rightAt (leftTable rules) (rightTable rules) name i .state) (rightTable rules .count)
-        (λ i. pass-below rightPattern rules (reverse (drop i (frame name))) (leftAt (leftTable rules) (rightTable rules) name (suc (length name)) .steps)) (suc (length name)))
-
-    -- the walk by the tables of the rules is the plain reading
-    pub walk-is-plain : walk (leftTable rules) (rightTable rules) name rules ≡ plain rules name
-    unfolding walk plain
-    walk-is-plain =
-        rw usable (read-ext (walkChoice (leftTable rules) (rightTable rules) name rules) (firstFit rules name) (length name) choice-is (length name) 1)
-
--- for any tables: n + 1 entries in each pass
-pub walk-steps : (tl tr : Table) (name : Str) → walkSteps tl tr name ≡ 2 * length name + 2
-walk-steps tl tr name =
-    let a = pass-steps tl (record { state = 0; steps = 0 }) (take (suc (length name)) (frame name)) in
-    let b = pass-steps tr (record { state = 0; steps = leftAt tl tr name (suc (length name)) .steps }) (reverse (drop 1 (frame name))) in
-    let l = length-append name (0 ∷ []) in
-    let c = length-take-le (suc (length name)) (frame name) (omega arith) in
-    let d = length-reverse (name ++ (0 ∷ [])) in
-    omega arith
+  pub usable : walkUsable (leftTable rules) (rightTable rules) name ≡ true
+  usable =
+      ap₂ _&&_
+      (allBelow-true (λ i. leftAt (leftTable rules) (rightTable rules) name i .state) (leftTable rules .count)
+      (λ i. pass-below leftPattern rules (take i (frame name)) 0) (suc (length name)))
+      (allBelow-true (λ i. rightAt (leftTable rules) (rightTable rules) name i .state) (rightTable rules .count)
+      (λ i. pass-below rightPattern rules (reverse (drop i (frame name))) (leftAt (leftTable rules) (rightTable rules) name (suc (length name)) .steps)) (suc (length name)))
 
 -- ---- a pass as a loop goes through it
 

@@ -1,0 +1,112 @@
+-- The six rules of document 01 and its marked examples M1 to M12, as one list of questions with one list of answers.
+-- Letters: k is 0B, n 0E, e 05, a 01, b 02; 0 is the word boundary #.
+-- Assumes nothing.
+use Prim.Native.Nat.{ℕ, _+_, _*_}
+use mathlib.Core.List.{List, [], _∷_, map}
+use lib.ListN.{getD}
+use Rattle.rules.specs.Shape.{Entry}
+use Rattle.reading.specs.Fitting.{Str}
+use Rattle.reading.specs.Reading.{Reading, finished, stopped, plain}
+use Rattle.reading.specs.Speech.{phonesOf, numbersOf, judgedName}
+use Rattle.tables.specs.States.{states}
+use Rattle.tables.specs.Tables.{rightPattern}
+use Rattle.tables.specs.Words.{leftCount, rightCount, leftOf, rightOf, builtWords, builtSets}
+use Rattle.tables.specs.Walk.{walkSteps, walkWords}
+
+abbrev numberedRule : ℕ → Str → Str → Str → Str → Entry
+numberedRule number left target right phones =
+    record { number = number; rule = record { left = left; target = target; right = right; phones = phones } }
+
+-- 1 #[k]n gives nothing; 2 [k] 6B; 3 [e]# nothing; 4 [ee] 69; 5 [e] 65; 6 [n] 6E
+abbrev pub sixRules : List Entry
+sixRules =
+    numberedRule 1 (0 ∷ []) (0x0b ∷ []) (0x0e ∷ []) []
+    ∷ numberedRule 2 [] (0x0b ∷ []) [] (0x6b ∷ [])
+    ∷ numberedRule 3 [] (0x05 ∷ []) (0 ∷ []) []
+    ∷ numberedRule 4 [] (0x05 ∷ 0x05 ∷ []) [] (0x69 ∷ [])
+    ∷ numberedRule 5 [] (0x05 ∷ []) [] (0x65 ∷ [])
+    ∷ numberedRule 6 [] (0x0e ∷ []) [] (0x6e ∷ [])
+    ∷ []
+
+-- the words and set words that a build of the six rules writes
+abbrev pub words : List ℕ
+words = builtWords sixRules
+
+abbrev pub sets : List ℕ
+sets = builtSets sixRules
+
+-- ---- what is asked
+
+pub data Question : Type 0 where
+  -- of a name: its plain reading, its walk through the built words, and the walk's steps
+  spoken : Str → Question
+  -- L, R and the right strings in state order
+  strings : Question
+  -- the right entry of a state under a symbol
+  step : ℕ → ℕ → Question
+  -- the first words of the right sets of some states
+  firstWords : List ℕ → Question
+
+-- phones and rule numbers, or a refusal's number and place
+pub data Outcome : Type 0 where
+  phones : Str → List ℕ → Outcome
+  refused : ℕ → ℕ → Outcome
+
+pub data Answer : Type 0 where
+  heard : Outcome → Outcome → ℕ → Answer
+  counted : ℕ → ℕ → List Str → Answer
+  state : ℕ → Answer
+  held : List ℕ → Answer
+
+abbrev outcome : Reading → Outcome
+outcome (finished rs) = phones (phonesOf rs) (numbersOf rs)
+outcome (stopped n p) = refused n p
+
+abbrev pub answer : Question → Answer
+answer (spoken name) =
+    heard
+    (outcome (judgedName name (plain sixRules name)))
+    (outcome (judgedName name (walkWords words sets sixRules name)))
+    (walkSteps (leftOf words sets) (rightOf words sets) name)
+answer strings = counted (leftCount words) (rightCount words) (states (map rightPattern sixRules))
+answer (step q c) = state (rightOf words sets .next q c)
+answer (firstWords qs) = held (map (λ q. getD sets (8 * (leftCount words + q)) 0) qs)
+
+-- M1 to M12
+abbrev pub questions : List Question
+questions =
+    spoken (0x0b ∷ 0x0e ∷ 0x05 ∷ 0x05 ∷ [])
+    ∷ spoken (0x0b ∷ 0x05 ∷ 0x05 ∷ 0x0e ∷ [])
+    ∷ spoken (0x05 ∷ 0x0b ∷ 0x05 ∷ [])
+    ∷ spoken (0x0e ∷ 0x01 ∷ 0x02 ∷ [])
+    ∷ spoken []
+    ∷ spoken (0x05 ∷ [])
+    ∷ spoken (0x05 ∷ 0x05 ∷ 0x05 ∷ [])
+    ∷ spoken (0x0b ∷ 0x0e ∷ [])
+    ∷ spoken (0x0b ∷ 0x0b ∷ 0x0e ∷ [])
+    ∷ strings
+    ∷ step 5 0x05
+    ∷ firstWords (2 ∷ 5 ∷ 7 ∷ [])
+    ∷ []
+
+-- ---- what document 01 marks
+
+-- plain reading and walk alike, with so many steps
+abbrev both : Outcome → ℕ → Answer
+both o n = heard o o n
+
+abbrev pub answers : List Answer
+answers =
+    both (phones (0x6e ∷ 0x69 ∷ []) (1 ∷ 6 ∷ 4 ∷ [])) 10
+    ∷ both (phones (0x6b ∷ 0x69 ∷ 0x6e ∷ []) (2 ∷ 4 ∷ 6 ∷ [])) 10
+    ∷ both (phones (0x65 ∷ 0x6b ∷ []) (5 ∷ 2 ∷ 3 ∷ [])) 8
+    ∷ both (refused 3 2) 8
+    ∷ both (phones [] []) 2
+    ∷ both (phones [] (3 ∷ [])) 4
+    ∷ both (phones (0x69 ∷ []) (4 ∷ 3 ∷ [])) 8
+    ∷ both (phones (0x6e ∷ []) (1 ∷ 6 ∷ [])) 6
+    ∷ both (phones (0x6b ∷ 0x6b ∷ 0x6e ∷ []) (2 ∷ 2 ∷ 6 ∷ [])) 8
+    ∷ counted 2 8 ([] ∷ (0x0e ∷ []) ∷ (0x0e ∷ 0x0b ∷ []) ∷ (0x0b ∷ []) ∷ (0 ∷ []) ∷ (0 ∷ 0x05 ∷ []) ∷ (0x05 ∷ []) ∷ (0x05 ∷ 0x05 ∷ []) ∷ [])
+    ∷ state 7
+    ∷ held (3 ∷ 20 ∷ 24 ∷ [])
+    ∷ []
