@@ -20,7 +20,7 @@ use Rattle.image.proofs.Entries.{entries-length}
 use Rattle.reading.specs.Fitting.{fits}
 use Rattle.reading.specs.Reading.{Choice, chosen, nothing, unusable, Reading, finished, stopped, cons, onward, readFrom}
 use Rattle.reading.specs.Meaning.{noEntry}
-use Rattle.walk.specs.Places.{entryAt, entriesAt}
+use Rattle.reading.specs.Places.{entryAt, entriesAt}
 use Rattle.tables.specs.Walk.{lookup}
 use Rattle.walk.specs.Letters.{foundOf, lowestShared, choiceBy, choiceOf, refusalAt}
 use Rattle.walk.specs.declared.Found.the-variants.{Place, Empty}

@@ -9,7 +9,7 @@ use mathlib.Core.Option.{Option}
 use lib.Dec.{ltb, leb}
 use lib.ListN.{length, getD, take, drop, length-append}
 use borrow.Author.Tests.{ltb-false, ltb-true, leb-true, le-leb, lt-leb, lt-ltb}
-use Rattle.rules.specs.Shape.{pick, first, Entry}
+use Rattle.rules.specs.Shape.{Entry}
 use Rattle.rules.specs.Refusals.{refusalNumber, refusalPlace}
 use Rattle.rules.specs.declared.Refusal.{Refusal}
 use Rattle.rules.specs.declared.Refusal.the-variants.{NotRuleset}
@@ -17,6 +17,7 @@ use Rattle.image.specs.Image.{entriesOf, valid}
 use Rattle.reading.specs.Fitting.{Str, frame, fits}
 use Rattle.reading.specs.Reading.{Choice, chosen, nothing, unusable, Reading, finished, stopped, cons, onward, readFrom}
 use Rattle.reading.specs.Speech.{phonesOf, numbersOf, Told, spoken, refused, toldOf, Said, saying, delivered, letter, judgedLetters, judgedName}
+use Rattle.reading.proofs.Strings.{frame-long}
 use Rattle.reading.specs.declared.Speech.{Speech}
 use Rattle.reading.specs.declared.Speech.the-variants.{Spoken, Refused}
 use Rattle.tables.specs.Tables.{Table}
@@ -24,7 +25,7 @@ use Rattle.tables.specs.Words.{tableAt, leftCount, rightCount}
 use Rattle.tables.specs.Walk.{Step as State, step, pass, allBelow, lookup, lowest, places, walk, walkSteps, walkWords, Walked, counted, walkedAs, walkSaid}
 use Rattle.tables.proofs.Truth.{byBool, clash, and-left, and-right}
 use Rattle.tables.proofs.Sets.{choice-tables}
-use Rattle.walk.specs.Places.{entriesAt}
+use Rattle.reading.specs.Places.{entriesAt}
 use Rattle.walk.specs.Passes.{Symbols, rowsAt, leftOn, rightOn, Passed}
 use Rattle.walk.specs.Letters.{lowestShared, choiceBy, choicesBy, endingAs, ReadBy, Bounded}
 use Rattle.walk.specs.Walked.{walkedOf, lengthsFor, leftFor, rightFor, walkFor, stepsOn, usableOn, choiceOn, readOn, walkOn, Both, Fit}
@@ -166,22 +167,11 @@ module _ (image ws ss : List ℕ) (l r : ℕ) (f : List ℕ) (n : ℕ) (p : Pass
 
 -- ---- the walk of a name of letters
 
-pub take-frame : (name : Str) → length name ≤ 64 → take (length name + 2) (first 66 (frame name) 0) ≡ frame name
-take-frame name h =
-    let e : length name + 2 ≡ length (frame name) = omega (arith, length-append name (0 ∷ [])) in
-    ap (λ (k : ℕ). take k (first 66 (frame name) 0)) e ∙ front 66 (frame name) (omega (arith, length-append name (0 ∷ [])))
-  where
-    front : (m : ℕ) (s : List ℕ) → length s ≤ m → take (length s) (first m s 0) ≡ s
-    front zero [] h = refl
-    front (suc m) [] h = refl
-    front zero (x ∷ s) h = absurd (omega arith)
-    front (suc m) (x ∷ s) h = ap (λ (t : List ℕ). x ∷ t) (front m s (omega arith))
-
 pub walk-name : (tl tr : Table) (name : Str) (rules : List Entry) (phones numbers : List ℕ)
     → walkOn tl tr (frame name) (length (frame name) - 2) rules phones numbers ≡ walkedAs (delivered (walk tl tr name rules) phones numbers) (walkSteps tl tr name)
 unfolding walkOn readOn walk
 walk-name tl tr name rules phones numbers =
-    let e : length (frame name) - 2 ≡ length name = omega (arith, length-append name (0 ∷ [])) in
+    let e : length (frame name) - 2 ≡ length name = omega (arith, frame-long name) in
     ap (λ (n : ℕ). walkOn tl tr (frame name) n rules phones numbers) e
 
 symbols-end : (name : Str) → Symbols name → Symbols (name ++ (0 ∷ []))
@@ -217,7 +207,7 @@ letter-symbol c e =
     (λ t. let g : false ≡ true = rw t at e in clash g refl)
 
 letters-symbols : (i : ℕ) (w : Str) → judgedLetters i w (finished []) ≡ finished [] → Symbols w
-letters-symbols i [] e k l = absurd (omega arith)
+letters-symbols i [] e = λ k l. absurd (omega arith)
 letters-symbols i (c ∷ w) e =
     byBool (letter c)
     (λ t. both (letter-symbol c t) (letters-symbols (suc i) w (rw t at e)))

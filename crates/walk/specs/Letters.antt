@@ -12,7 +12,7 @@ use Rattle.rules.specs.declared.Refusal.the-variants.{NoFit, BadTables}
 use Rattle.image.specs.Image.{two, entriesOf}
 use Rattle.reading.specs.Fitting.{fits}
 use Rattle.reading.specs.Reading.{Choice, chosen, nothing, unusable, Reading, finished, stopped, readFrom}
-use Rattle.walk.specs.Places.{entryAt, entriesAt}
+use Rattle.reading.specs.Places.{entryAt, entriesAt}
 use Rattle.tables.specs.Walk.{lookup}
 use Rattle.tables.specs.Lowest.{lowestFrom, meetWord}
 use Rattle.walk.specs.declared.Found.{Found}

@@ -1,4 +1,3 @@
 pub mod Passes
-pub mod Places
 pub mod Letters
 pub mod Walked

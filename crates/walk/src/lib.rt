@@ -1,4 +1,5 @@
 // The walk of a name through lent tables (document 01, "The walk", and refusal 16).
+use reading::Judged;
 use reading::Speech;
 use rules::Refusal;
 ghost use mathlib.Core.Path.{_≡_};
@@ -6,18 +7,13 @@ ghost use mathlib.Core.Bool.{true, false};
 ghost use Prim.Native.Nat.{_+_, _-_, _*_, _<_, _≤_, ℕ};
 ghost use lib.ListN.{length, getD, take};
 ghost use Rattle.rules.specs.Refusals.{refusalNumber, refusalPlace};
-ghost use Rattle.rules.specs.Shape.{first};
 ghost use Rattle.image.specs.Image.{two, valid, entriesOf};
-ghost use Rattle.reading.specs.Reading.{finished};
-ghost use Rattle.reading.specs.Speech.{toldOf, saying, delivered, refused};
-ghost use Rattle.tables.specs.Words.{leftCount, rightCount};
+ghost use Rattle.reading.specs.Speech.{delivered, refused};
 ghost use Rattle.tables.specs.Walk.{counted, walkedAs, walkSaid, walkSteps, walk as walkBy};
-ghost use Rattle.reading.specs.Fitting.{fits, frame};
-ghost use Rattle.walk.specs.Places.{entryAt, entriesAt, Within};
+ghost use Rattle.reading.specs.Places.{entriesAt};
 ghost use Rattle.walk.specs.Passes.{Stepped, Symbols, rowsAt, leftOn, rightOn, Passed};
 ghost use Rattle.walk.specs.Letters.{foundOf, lowestShared, choiceBy, Chooses, refusalAt, choicesBy, endingAs, ReadBy, Bounded};
 ghost use Rattle.walk.specs.Walked.{walkedOf, lengthsFor, leftFor, rightFor, walkFor, walkOn, Both, Fit};
-ghost use Rattle.walk.specs.Places.{Judges};
 
 fn wide(x: u16) -> usize
     ensures { λ r. ⌜ r ≡ x ⌝ }
@@ -140,22 +136,6 @@ pub enum Chosen {
     Unusable,
 }
 
-// STUB
-fn fits_at(image: &[u8], place: usize, frame: &[u8], i: usize) -> bool
-    requires { ⌜ (valid (now image) ≡ true) × ((place < two 0 (now image)) × (i ≤ length (now frame))) ⌝ }
-    ensures { λ r. ⌜ r ≡ fits (entryAt (now (image .entry)) place .rule) (now (frame .entry)) i ⌝ }
-{
-    false
-}
-
-// STUB
-fn target_len_at(image: &[u8], place: usize) -> usize
-    requires { ⌜ (valid (now image) ≡ true) × (place < two 0 (now image)) ⌝ }
-    ensures { λ r. ⌜ (r ≡ length (entryAt (now (image .entry)) place .rule .target)) × ((1 ≤ r) × (r ≤ 4)) ⌝ }
-{
-    1
-}
-
 // The rule count of an image.
 fn rule_count(image: &[u8]) -> usize
     requires { ⌜ valid (now image) ≡ true ⌝ }
@@ -176,7 +156,7 @@ fn choose(sets: &[u64], s: usize, t: usize, image: &[u8], frame: &[u8], i: usize
     if rule_count(image) <= place {
         return Chosen::Unusable;
     }
-    if !fits_at(image, place, frame, i) {
+    if !reading::fits_at(image, place, frame, i) {
         return Chosen::Unusable;
     }
     Chosen::Rule(place)
@@ -234,7 +214,7 @@ fn read_letters(
         };
         places[count] = place as u16;
         count += 1;
-        i += target_len_at(image, place);
+        i += reading::target_len_at(image, place);
     }
     Reached {
         places,
@@ -296,14 +276,6 @@ fn steps_with(x: Refusal, steps: usize) -> usize
     steps
 }
 
-// STUB
-fn deliver(image: &[u8], places: &[u16], phones: &mut [u8], numbers: &mut [u16]) -> Speech
-    requires { ⌜ (valid (now image) ≡ true) × ((length (now places) ≤ 64) × Within (now image) (now places)) ⌝ }
-    ensures { λ r. ⌜ saying (toldOf r) (now (phones .exit)) (now (numbers .exit)) ≡ delivered (finished (entriesAt (now (image .entry)) (now (places .entry)))) (now (phones .entry)) (now (numbers .entry)) ⌝ }
-{
-    Speech::Spoken { phones: 0, numbers: 0 }
-}
-
 // What was read is spoken, with the steps that were carried.
 fn speak(image: &[u8], reached: Reached, steps: usize, phones: &mut [u8], numbers: &mut [u16]) -> WalkAnswer
     requires { ⌜ (valid (now image) ≡ true) × (reached .count ≤ 64) × ((k : ℕ) → k < reached .count → getD (reached .places) k 0 < two 0 (now image)) ⌝ }
@@ -321,7 +293,7 @@ fn speak(image: &[u8], reached: Reached, steps: usize, phones: &mut [u8], number
         Ending::Finished => {
             let places = reached.places;
             let count = reached.count;
-            let speech = deliver(image, &places[..count], phones, numbers);
+            let speech = reading::deliver(image, &places[..count], phones, numbers);
             WalkAnswer { steps, speech }
         }
     }
@@ -354,27 +326,6 @@ fn walk_frame<'a>(
     speak(image, reached, passes.steps, phones, numbers)
 }
 
-// STUB
-pub enum Judged {
-    Letters,
-    Refused(Refusal),
-}
-
-// STUB
-fn judge_name(name: &[u8]) -> Judged
-    ensures { λ r. ⌜ Judges (now (name .entry)) r ⌝ }
-{
-    Judged::Letters
-}
-
-// STUB
-fn framed(name: &[u8]) -> [u8; 66]
-    requires { ⌜ length (now name) ≤ 64 ⌝ }
-    ensures { λ r. ⌜ r ≡ first 66 (frame (now (name .entry))) 0 ⌝ }
-{
-    [0u8; 66]
-}
-
 // The walk of a name of letters through tables whose lengths fit.
 fn walk_letters<'a>(
     words: &'a [u16],
@@ -389,7 +340,7 @@ fn walk_letters<'a>(
     requires { ⌜ Fit (length (now words)) (length (now sets)) «left_states» «right_states» × (valid (now image) ≡ true) × (length (now name) ≤ 64) × Symbols (now name) ⌝ }
     ensures { λ r. ⌜ walkedOf r (now (phones .exit)) (now (numbers .exit)) ≡ walkedAs (delivered (walkBy (leftFor (now (words .entry)) (now (sets .entry)) «left_states») (rightFor (now (words .entry)) (now (sets .entry)) «left_states» «right_states») (now (name .entry)) (entriesOf (now (image .entry)))) (now (phones .entry)) (now (numbers .entry))) (walkSteps (leftFor (now (words .entry)) (now (sets .entry)) «left_states») (rightFor (now (words .entry)) (now (sets .entry)) «left_states» «right_states») (now (name .entry))) ⌝ }
 {
-    let frame = framed(name);
+    let frame = reading::framed(name);
     let end = name.len() + 2;
     walk_frame(
         words,
@@ -447,7 +398,7 @@ pub fn walk_tables<'a>(
     requires { ⌜ valid (now image) ≡ true ⌝ }
     ensures { λ r. ⌜ walkedOf r (now (phones .exit)) (now (numbers .exit)) ≡ walkFor «left_states» «right_states» (now (image .entry)) (now (words .entry)) (now (sets .entry)) (now (name .entry)) (now (phones .entry)) (now (numbers .entry)) ⌝ }
 {
-    let judged = judge_name(name);
+    let judged = reading::judge_name(name);
     if let Judged::Refused(x) = judged {
         return WalkAnswer {
             steps: 0,

@@ -11,7 +11,7 @@ use Rattle.walk.proofs.choose.Statement.{statement}
 use Rattle.walk.proofs.choose.Tie as tie
 use Rattle.walk.proofs.choose.Reads as reads
 use Rattle.walk.proofs.choose.Lts as lts
-use Rattle.walk.proofs.fits_at.Reads as fits-at-reads
+use Rattle.reading.proofs.fits_at.Reads as fits-at-reads
 use Rattle.walk.proofs.lowest_place.Reads as lowest-place-reads
 use Rattle.walk.proofs.rule_count.Reads as rule-count-reads
 

@@ -10,7 +10,7 @@ use Rattle.rules.specs.declared.Refusal.{Refusal}
 use Rattle.image.specs.Image.{two}
 use Rattle.image.proofs.Tests.{valid-count}
 use Rattle.reading.specs.Reading.{chosen, stopped}
-use Rattle.walk.specs.Places.{entryAt}
+use Rattle.reading.specs.Places.{entryAt}
 use Rattle.walk.specs.Letters.{choiceOf, choiceBy, choicesBy}
 use Rattle.walk.specs.declared.Chosen.{Chosen}
 use Rattle.walk.specs.declared.Chosen.the-variants.{Rule}
@@ -22,7 +22,7 @@ use Rattle.walk.proofs.read_letters.Reads as reads
 use Rattle.walk.proofs.read_letters.Lts as lts
 use Rattle.walk.proofs.choose.Reads as choose-reads
 use Rattle.walk.proofs.refusal_at.Reads as refusal-at-reads
-use Rattle.walk.proofs.target_len_at.Reads as target-len-at-reads
+use Rattle.reading.proofs.target_len_at.Reads as target-len-at-reads
 use Rattle.walk.proofs.wide.Reads as wide-reads
 
 abbrev Inv-loop : tie.InvT-loop

@@ -5,13 +5,13 @@ use native.Mathlib.Omega.{arith}
 use lib.ListN.{length, getD, take}
 use lib.Seq.{length-take-le, getD-take}
 use Rattle.image.specs.Image.{two}
-use Rattle.walk.specs.Places.{entriesAt}
+use Rattle.reading.specs.Places.{entriesAt}
 use Rattle.walk.proofs.Walked.{say-refused, say-finished}
 use Rattle.walk.proofs.speak.Statement.{statement}
 use Rattle.walk.proofs.speak.Tie as tie
 use Rattle.walk.proofs.speak.Reads as reads
 use Rattle.walk.proofs.speak.Lts as lts
-use Rattle.walk.proofs.deliver.Reads as deliver-reads
+use Rattle.reading.proofs.deliver.Reads as deliver-reads
 use Rattle.walk.proofs.steps_with.Reads as steps-with-reads
 
 -- src/lib.rt:314:25

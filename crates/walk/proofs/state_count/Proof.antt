@@ -1,3 +1,5 @@
+use mathlib.Core.Path.{sym}
+use lib.ListN.{List·getD-eq-default}
 use borrow.Author.Needs.{needs}
 use Rattle.walk.proofs.state_count.Statement.{statement}
 use Rattle.walk.proofs.state_count.Tie as tie
@@ -7,7 +9,7 @@ use Rattle.walk.proofs.wide.Reads as wide-reads
 
 -- src/lib.rt:480:9
 returns : tie.Need-returns
-returns c = ?
+returns c = sym (List·getD-eq-default (c .before .before .args .words .now) 0 (c .if1 .taken))
 
 -- src/lib.rt:482:10
 mul-wide : tie.Need-mul-wide

@@ -1,4 +1,7 @@
+use mathlib.Core.Path.{sym, _∙_}
 use borrow.Author.Needs.{needs}
+use borrow.Author.Tests.{not-true, not-false}
+use Rattle.walk.proofs.Walked.{said-invalid}
 use Rattle.walk.proofs.walk.Statement.{statement}
 use Rattle.walk.proofs.walk.Tie as tie
 use Rattle.walk.proofs.walk.Reads as reads
@@ -12,11 +15,13 @@ is-ruleset-requires c κs = search needs
 
 -- src/lib.rt:523:9
 returns : tie.Need-returns
-returns c = ?
+returns c =
+    let a = c .before .before .before .before .before .before .before .before .args in
+    said-invalid (a .image .now) (a .words .now) (a .sets .now) (a .name .now) (a .phones .now) (a .numbers .now) (sym (c .before .is-ruleset .ensures) ∙ not-true _ (c .if1 .taken))
 
 -- src/lib.rt:528:5
 walk-valid-requires : tie.Need-walk-valid-requires
-walk-valid-requires c κs = ?
+walk-valid-requires c κs = sym (c .before .before .before .is-ruleset .ensures) ∙ not-false _ (c .before .before .if1 .left)
 
 -- src/lib.rt:512:1
 same-length : tie.Need-same-length

@@ -1,4 +1,8 @@
+use Prim.Native.Nat.{ℕ}
+use mathlib.Core.Path.{ap₂, _∙_}
 use borrow.Author.Needs.{needs}
+use Rattle.walk.specs.Walked.{walkFor}
+use Rattle.walk.proofs.Walked.{said-valid}
 use Rattle.walk.proofs.walk_valid.Statement.{statement}
 use Rattle.walk.proofs.walk_valid.Tie as tie
 use Rattle.walk.proofs.walk_valid.Reads as reads
@@ -28,7 +32,11 @@ same-length-2 c = search needs
 
 -- src/lib.rt:486:1
 returns : tie.Need-returns
-returns c = ?
+returns c =
+    let a = c .before .before .before .before .before .before .before .before .before .before .before .before .before .before .before .args in
+    c .before .before .before .before .walk-tables .ensures
+    ∙ (ap₂ (λ (l r : ℕ). walkFor l r (a .image .now) (a .words .now) (a .sets .now) (a .name .now) (a .phones .now) (a .numbers .now)) (c .before .before .before .before .before .before .before .before .state-count .ensures) (c .before .before .before .before .before .before .before .state-count2 .ensures)
+    ∙ said-valid (a .image .now) (a .words .now) (a .sets .now) (a .name .now) (a .phones .now) (a .numbers .now) (c .before .before .before .before .before .before .before .before .before .before .before .before .before .before .before .pre))
 
 pub walk-valid-spec : {M : Type 1} → statement M
 walk-valid-spec =
