@@ -54,4 +54,3 @@ over-mid p xs ys w z a k e l g h =
     let r : z ++ q ≡ over ys (drop a w) =
     ap (λ (v : List ℕ). v ++ q) h ∙ (append-assoc ys (drop (length ys) m) q ∙ ap (λ (v : List ℕ). ys ++ v) (sym (drop-append-le (length ys) m q g) ∙ ap (λ (v : List ℕ). drop (length ys) v) (take-append-drop k (drop a w)))) in
     ap (λ (v : List ℕ). v ++ (z ++ q)) t ∙ (ap (λ (v : List ℕ). p ++ v) (r ∙ ap (λ (v : List ℕ). over ys v) d) ∙ over-part p xs ys)
-

@@ -52,11 +52,11 @@ module _ (ps ls : List ℕ) (i : ℕ) (fi nx sy : List ℕ) where
 
         pub asks : (at .state < at .count) × (at .count < 65536) × Chains fi′ nx′ sy′ (at .count) × (childOf fi′ nx′ sy′ (at .state) c ≡ 0 → Room (at .count + 1) fi′ nx′ sy′)
         asks = (
-            I.symbols-below ps ls i ok (childOf fi′ nx′ sy′) (at .state) (at .count) m (s .numbered),
-            omega (arith, few, I.count-few ps ls (i + 1) ok),
-            s .chains,
-            λ z. room-for (at .count + 1) (stateCount ps ls (i + 1)) fi nx sy fi′ nx′ sy′ (s .alike) room (I.symbols-more ps ls i ok (childOf fi′ nx′ sy′) (at .state) (at .count) m (s .numbered) h z),
-          )
+          I.symbols-below ps ls i ok (childOf fi′ nx′ sy′) (at .state) (at .count) m (s .numbered),
+          omega (arith, few, I.count-few ps ls (i + 1) ok),
+          s .chains,
+          λ z. room-for (at .count + 1) (stateCount ps ls (i + 1)) fi nx sy fi′ nx′ sy′ (s .alike) room (I.symbols-more ps ls i ok (childOf fi′ nx′ sy′) (at .state) (at .count) m (s .numbered) h z),
+        )
 
         pub next : (fi″ nx″ sy″ : List ℕ) (r : Place) → Descended fi′ nx′ sy′ (at .state) (at .count) c r fi″ nx″ sy″ → Symbols fi″ nx″ sy″ r (m + 1)
         next fi″ nx″ sy″ r d =

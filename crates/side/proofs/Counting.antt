@@ -46,12 +46,12 @@ module _ (ps ls : List ℕ) (i : ℕ) (ok : Patterns ps ls (i + 1)) (xs : List �
 
       pub asks : (c < 64) × (at .state < at .count) × (at .count < 65536) × (64 * at .count ≤ length ys) × (cell ys (at .state) c ≡ 0 → 64 * at .count + 64 ≤ length ys)
       asks = (
-          small,
-          lt,
-          omega (arith, few, I.count-few ps ls (i + 1) ok),
-          omega (arith, few, s .past .len),
-          λ z. let e = I.symbols-more ps ls i ok (cell ys) (at .state) (at .count) m (s .numbered) h z in omega (arith, s .past .len),
-        )
+        small,
+        lt,
+        omega (arith, few, I.count-few ps ls (i + 1) ok),
+        omega (arith, few, s .past .len),
+        λ z. let e = I.symbols-more ps ls i ok (cell ys) (at .state) (at .count) m (s .numbered) h z in omega (arith, s .past .len),
+      )
 
       pub next : (zs : List ℕ) (r : Place) → Descended ys (at .state) (at .count) c r zs → Symbols ps ls i xs zs r (m + 1)
       next zs r d =

@@ -55,7 +55,7 @@ module _ (ws : List ℕ) (l r : ℕ) (f : List ℕ) (n : ℕ) (one : Pass) (a : 
       → (p : Passes) → p .usable ≡ two .usable → p .left ≡ one .states → p .right ≡ two .states → p .steps ≡ two .steps → Both ws l r f n p
   both-good e two b′ p u x y z =
       let b : Passed (rightOn (rowsAt ws (2 + 64 * l) r) (stepsOn (rowsAt ws 2 l) f n) f) r (suc n) 1 (stepsOn (rowsAt ws 2 l) f n) two =
-          subst (λ (k : ℕ). Passed (rightOn (rowsAt ws (2 + 64 * l) r) k f) r (suc n) 1 k two) (a .looked e) b′ in
+      subst (λ (k : ℕ). Passed (rightOn (rowsAt ws (2 + 64 * l) r) k f) r (suc n) 1 k two) (a .looked e) b′ in
       record {
         usable = u ∙ b .usable ∙ sym (ap (λ (t : Bool). t && allBelow (λ i. ltb (rightOn (rowsAt ws (2 + 64 * l) r) (stepsOn (rowsAt ws 2 l) f n) f i .state) r) (suc n)) (sym (a .usable) ∙ e));
         lefts = λ q k s t. ap (λ (w : List ℕ). getD w k 0) x ∙ a .all e k s t;

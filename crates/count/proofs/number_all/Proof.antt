@@ -31,8 +31,7 @@ number-one-requires : tie.Need-number-one-requires Inv-loop μ-loop
 number-one-requires c κs =
     let l = c .before .before .before .before .loop in
     let st = c .before .before .before .before .before .before .before .before .before .before in
-    let h : l .i + 1 ≤ st .args .n = omega (arith, c .before .before .before .loop-test .taken) in
-    (
+    let h : l .i + 1 ≤ st .args .n = omega (arith, c .before .before .before .loop-test .taken) in (
       patterns-less (st .args .pats .now) (st .args .lens .now) (l .i + 1) (st .args .n) h (st .pre .0),
       l .inv .1 .count,
       G.room-next _ _ _ _ _ _ (st .pre .1) _ _ _ _ _ (l .inv .1) h,

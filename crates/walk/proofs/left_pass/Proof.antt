@@ -78,14 +78,13 @@ loop-again c =
     let k = c .before .before .before .before .before .loop in
     let r = c .before .before .look-up in
     let p = k .inv .2 in
-    let b : r .result .state < a .count = omega (arith, c .before .wide .ensures) in
-    (
+    let b : r .result .state < a .count = omega (arith, c .before .wide .ensures) in (
       omega arith,
       omega (arith, r .ensures .more),
       go-on (leftOn (rowsAt (a .words .now) (a .rows) (a .count)) (a .frame .now)) (a .count) p 0 (k .i + 1) (r .result) (k .i + 1)
-      (left-state (a .words .now) (a .rows) (a .count) (a .frame .now) (k .at) (k .i) (p .here) (p .looked) (omega arith) (r .result) (r .ensures))
-      (left-steps (a .words .now) (a .rows) (a .count) (a .frame .now) (k .at) (k .i) (p .here) (p .looked) (omega arith) (r .result) (r .ensures))
-      b (omega arith) (λ j l m d. (omega arith, omega arith)),
+          (left-state (a .words .now) (a .rows) (a .count) (a .frame .now) (k .at) (k .i) (p .here) (p .looked) (omega arith) (r .result) (r .ensures))
+          (left-steps (a .words .now) (a .rows) (a .count) (a .frame .now) (k .at) (k .i) (p .here) (p .looked) (omega arith) (r .result) (r .ensures))
+          b (omega arith) (λ j l m d. (omega arith, omega arith)),
     )
 
 -- src/lib.rt:40:1

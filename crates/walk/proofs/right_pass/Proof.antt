@@ -74,15 +74,14 @@ loop-again c =
     let k = c .before .before .before .before .before .loop in
     let r = c .before .before .look-up in
     let p = k .inv .3 in
-    let b : r .result .state < a .count = omega (arith, c .before .wide .ensures) in
-    (
+    let b : r .result .state < a .count = omega (arith, c .before .wide .ensures) in (
       omega arith,
       omega arith,
       omega (arith, r .ensures .more, k .inv .2),
       go-on (rightOn (rowsAt (a .words .now) (a .rows) (a .count)) (a .steps) (a .frame .now)) (a .count) p (k .i - 1) (length (a .frame .now) - 1) (r .result) (k .i - 1)
-      (right-state (a .words .now) (a .rows) (a .count) (a .frame .now) (a .steps) (k .at) (k .i) (p .here) (p .looked) (omega arith) (omega arith) (r .result) (r .ensures))
-      (right-steps (a .words .now) (a .rows) (a .count) (a .frame .now) (a .steps) (k .at) (k .i) (p .here) (p .looked) (omega arith) (omega arith) (r .result) (r .ensures))
-      b (omega arith) (λ j l m d. (omega arith, omega arith)),
+          (right-state (a .words .now) (a .rows) (a .count) (a .frame .now) (a .steps) (k .at) (k .i) (p .here) (p .looked) (omega arith) (omega arith) (r .result) (r .ensures))
+          (right-steps (a .words .now) (a .rows) (a .count) (a .frame .now) (a .steps) (k .at) (k .i) (p .here) (p .looked) (omega arith) (omega arith) (r .result) (r .ensures))
+          b (omega arith) (λ j l m d. (omega arith, omega arith)),
     )
 
 -- src/lib.rt:70:1

@@ -48,8 +48,7 @@ returns-2 c =
 walk-letters-requires : tie.Need-walk-letters-requires
 walk-letters-requires c κs =
     let a = c .before .before .before .before .before .before .before .before .before .before .before .before .before .args in
-    let only = letters-only (a .name .now) (subst (λ (j : Judged). Judges (a .name .now) j) (c .before .before .before .before .enum-told .given .1) (c .before .before .before .before .before .before .judge-name .ensures)) in
-    (
+    let only = letters-only (a .name .now) (subst (λ (j : Judged). Judges (a .name .now) j) (c .before .before .before .before .enum-told .given .1) (c .before .before .before .before .before .before .judge-name .ensures)) in (
       fit-true (length (a .words .now)) (length (a .sets .now)) (a .left-states) (a .right-states) (sym (c .before .before .before .lengths-fit .ensures) ∙ not-false _ (c .before .before .if1 .left)),
       c .before .before .before .before .before .before .before .before .before .before .before .before .before .pre,
       only .0,
