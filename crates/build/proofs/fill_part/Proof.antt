@@ -1,6 +1,6 @@
 -- One side is filled from its patterns.
 -- Assumes nothing.
-use mathlib.Core.Path.{_≡_, ap, _∙_}
+use mathlib.Core.Path.{ap, _∙_}
 use mathlib.Core.List.{List}
 use Prim.Native.Nat.{ℕ, _*_, _≤_}
 use native.Mathlib.Omega.{arith}
@@ -40,8 +40,7 @@ returns : tie.Need-returns
 returns c =
     let st = c .before .before .before .before .before .before .before .before .before .before .before .before .before .before .before .before .before .before .before .before .before in
     let p = c .before .before .before .before .before .before .before .before .before .before .before .before .before .patterns .ensures in
-    let f = c .before .before .before .before .fill-side .ensures in
-    (
+    let f = c .before .before .before .before .fill-side .ensures in (
       f .0 ∙ ap (λ (x : List ℕ). over x (st .args .rows .now)) (side-rows _ _ _ _ _ (st .pre .1) p),
       (f .1 ∙ ap (λ (x : List ℕ). over x (st .args .sets .now)) (side-sets _ _ _ _ _ (st .pre .1) p), p .scratch),
     )
