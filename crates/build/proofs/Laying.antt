@@ -4,7 +4,7 @@ use mathlib.Core.Path.{_≡_, refl, sym, ap, ap₂, _∙_, subst}
 use Prim.Native.Nat.{ℕ, zero, suc, _+_, _-_, _*_, _≤_, _<_}
 use native.Mathlib.Omega.{arith}
 use native.Mathlib.Decide.{decLe}
-use mathlib.Core.Bool.{Bool, true, false}
+use mathlib.Core.Bool.{Bool, true}
 use mathlib.Core.List.{List, [], _∷_, _++_, map, map-append}
 use lib.ListN.{length, getD, take, drop, set, replicate, length-replicate, length-set, length-take, length-drop}
 use lib.Seq.{getD-set-same, getD-set-other, getD-take, getD-drop, take-suc, take-all, ext-getD}
@@ -14,7 +14,7 @@ use Rattle.image.proofs.Tests.{valid-count}
 use Rattle.image.proofs.Entries.{entries-length}
 use Rattle.reading.specs.Fitting.{Str}
 use Rattle.reading.specs.Meaning.{noEntry}
-use Rattle.side.specs.Patterns.{patternAt, patternsOf, Patterns}
+use Rattle.side.specs.Patterns.{patternAt, patternsOf}
 use Rattle.side.specs.Wrote.{Wrote}
 use Rattle.build.specs.Sides.{sideOf, patternIn, Scratch, Laid}
 use Rattle.build.proofs.Symbols.{short, small}

@@ -1,12 +1,11 @@
 -- The loop over the symbols of pattern i, and the loop over the patterns, in a tree of sibling chains.
 -- Assumes nothing.
-use mathlib.Core.Path.{_≡_, refl, sym, ap, _∙_, subst}
-use Prim.Native.Nat.{ℕ, zero, suc, _+_, _*_, _≤_, _<_}
+use mathlib.Core.Path.{_≡_, refl, ap, _∙_}
+use Prim.Native.Nat.{ℕ, _+_, _*_, _≤_, _<_}
 use native.Mathlib.Omega.{arith}
 use mathlib.Core.List.{List}
 use lib.ListN.{length, getD, set, length-set}
 use lib.Seq.{getD-set-same}
-use Rattle.reading.specs.Fitting.{Str}
 use Rattle.tables.specs.States.{states}
 use Rattle.side.specs.Patterns.{patternAt, patternsOf, Patterns, stateCount}
 use Rattle.side.specs.Steps.{Children}

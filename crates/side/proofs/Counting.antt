@@ -1,15 +1,11 @@
 -- The loop over the symbols of pattern i, and the loop over the patterns.
 -- Assumes nothing.
-use mathlib.Core.Path.{_≡_, refl, sym, ap, ap₂, _∙_, subst}
-use Prim.Native.Nat.{ℕ, zero, suc, _+_, _-_, _*_, _≤_, _<_}
+use mathlib.Core.Path.{_≡_, refl, _∙_, subst}
+use Prim.Native.Nat.{ℕ, _+_, _*_, _≤_, _<_}
 use native.Mathlib.Omega.{arith}
-use native.Mathlib.Numerals.{add-one}
-use native.Mathlib.Nat.{zero-add}
-use mathlib.Core.List.{List, [], _∷_, _++_}
-use lib.ListN.{length, getD, take, drop}
-use Rattle.reading.specs.Fitting.{Str}
+use mathlib.Core.List.{List}
+use lib.ListN.{length, getD}
 use Rattle.tables.specs.States.{states}
-use Rattle.tables.proofs.Trie.{child}
 use Rattle.side.specs.Patterns.{patternAt, patternsOf, Patterns, stateCount}
 use Rattle.side.specs.Wrote.{Wrote, Past}
 use Rattle.side.specs.Steps.{cell, Descended, Numbered, Counted}
