@@ -5,9 +5,8 @@ use native.Mathlib.Omega.{arith}
 use mathlib.Core.Path.{_≡_, refl, sym, ap, ap₂, _∙_, subst}
 use mathlib.Core.Bool.{Bool, true, false, cond, _&&_}
 use mathlib.Core.List.{List, [], _∷_, _++_, reverse}
-use mathlib.Core.Option.{Option}
 use lib.Dec.{ltb, leb}
-use lib.ListN.{length, getD, take, drop, length-append}
+use lib.ListN.{length, getD, take, drop}
 use borrow.Author.Tests.{ltb-false, ltb-true, leb-true, le-leb, lt-leb, lt-ltb}
 use Rattle.rules.specs.Shape.{Entry}
 use Rattle.rules.specs.Refusals.{refusalNumber, refusalPlace}
@@ -16,10 +15,10 @@ use Rattle.rules.specs.declared.Refusal.the-variants.{NotRuleset}
 use Rattle.image.specs.Image.{entriesOf, valid}
 use Rattle.reading.specs.Fitting.{Str, frame, fits}
 use Rattle.reading.specs.Reading.{Choice, chosen, nothing, unusable, Reading, finished, stopped, cons, onward, readFrom}
-use Rattle.reading.specs.Speech.{phonesOf, numbersOf, Told, spoken, refused, toldOf, Said, saying, delivered, letter, judgedLetters, judgedName}
+use Rattle.reading.specs.Speech.{phonesOf, numbersOf, Told, refused, toldOf, Said, saying, delivered, letter, judgedLetters, judgedName}
 use Rattle.reading.proofs.Strings.{frame-long}
 use Rattle.reading.specs.declared.Speech.{Speech}
-use Rattle.reading.specs.declared.Speech.the-variants.{Spoken, Refused}
+use Rattle.reading.specs.declared.Speech.the-variants.{Refused}
 use Rattle.tables.specs.Tables.{Table}
 use Rattle.tables.specs.Words.{tableAt, leftCount, rightCount}
 use Rattle.tables.specs.Walk.{Step as State, step, pass, allBelow, lookup, lowest, places, walk, walkSteps, walkWords, Walked, counted, walkedAs, walkSaid}
@@ -55,7 +54,7 @@ module _ (ws : List ℕ) (l r : ℕ) (f : List ℕ) (n : ℕ) (one : Pass) (a : 
       → (p : Passes) → p .usable ≡ two .usable → p .left ≡ one .states → p .right ≡ two .states → p .steps ≡ two .steps → Both ws l r f n p
   both-good e two b′ p u x y z =
       let b : Passed (rightOn (rowsAt ws (2 + 64 * l) r) (stepsOn (rowsAt ws 2 l) f n) f) r (suc n) 1 (stepsOn (rowsAt ws 2 l) f n) two =
-          subst (λ (k : ℕ). Passed (rightOn (rowsAt ws (2 + 64 * l) r) k f) r (suc n) 1 k two) (a .looked e) b′ in
+      subst (λ (k : ℕ). Passed (rightOn (rowsAt ws (2 + 64 * l) r) k f) r (suc n) 1 k two) (a .looked e) b′ in
       record {
         usable = u ∙ b .usable ∙ sym (ap (λ (t : Bool). t && allBelow (λ i. ltb (rightOn (rowsAt ws (2 + 64 * l) r) (stepsOn (rowsAt ws 2 l) f n) f i .state) r) (suc n)) (sym (a .usable) ∙ e));
         lefts = λ q k s t. ap (λ (w : List ℕ). getD w k 0) x ∙ a .all e k s t;

@@ -246,7 +246,13 @@ fn run_passes(words: &[u16], left_states: usize, right_states: usize, frame: &[u
             steps: 0,
         };
     }
-    let second = right_pass(words, 2 + 64 * left_states, right_states, frame, first.steps);
+    let second = right_pass(
+        words,
+        2 + 64 * left_states,
+        right_states,
+        frame,
+        first.steps,
+    );
     let right = second.states;
     Passes {
         usable: second.usable,
@@ -277,7 +283,13 @@ fn steps_with(x: Refusal, steps: usize) -> usize
 }
 
 // What was read is spoken, with the steps that were carried.
-fn speak(image: &[u8], reached: Reached, steps: usize, phones: &mut [u8], numbers: &mut [u16]) -> WalkAnswer
+fn speak(
+    image: &[u8],
+    reached: Reached,
+    steps: usize,
+    phones: &mut [u8],
+    numbers: &mut [u16],
+) -> WalkAnswer
     requires { ⌜ (valid (now image) ≡ true) × (reached .count ≤ 64) × ((k : ℕ) → k < reached .count → getD (reached .places) k 0 < two 0 (now image)) ⌝ }
     ensures { λ r. ⌜ walkedOf r (now (phones .exit)) (now (numbers .exit)) ≡ walkedAs (delivered (endingAs (reached .ending) (entriesAt (now (image .entry)) (take (reached .count) (reached .places)))) (now (phones .entry)) (now (numbers .entry))) steps ⌝ }
 {
