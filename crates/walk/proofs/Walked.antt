@@ -5,9 +5,8 @@ use native.Mathlib.Omega.{arith}
 use mathlib.Core.Path.{_≡_, refl, sym, ap, ap₂, _∙_, subst}
 use mathlib.Core.Bool.{Bool, true, false, cond, _&&_}
 use mathlib.Core.List.{List, [], _∷_, _++_, reverse}
-use mathlib.Core.Option.{Option}
 use lib.Dec.{ltb, leb}
-use lib.ListN.{length, getD, take, drop, length-append}
+use lib.ListN.{length, getD, take, drop}
 use borrow.Author.Tests.{ltb-false, ltb-true, leb-true, le-leb, lt-leb, lt-ltb}
 use Rattle.rules.specs.Shape.{Entry}
 use Rattle.rules.specs.Refusals.{refusalNumber, refusalPlace}
@@ -16,10 +15,10 @@ use Rattle.rules.specs.declared.Refusal.the-variants.{NotRuleset}
 use Rattle.image.specs.Image.{entriesOf, valid}
 use Rattle.reading.specs.Fitting.{Str, frame, fits}
 use Rattle.reading.specs.Reading.{Choice, chosen, nothing, unusable, Reading, finished, stopped, cons, onward, readFrom}
-use Rattle.reading.specs.Speech.{phonesOf, numbersOf, Told, spoken, refused, toldOf, Said, saying, delivered, letter, judgedLetters, judgedName}
+use Rattle.reading.specs.Speech.{phonesOf, numbersOf, Told, refused, toldOf, Said, saying, delivered, letter, judgedLetters, judgedName}
 use Rattle.reading.proofs.Strings.{frame-long}
 use Rattle.reading.specs.declared.Speech.{Speech}
-use Rattle.reading.specs.declared.Speech.the-variants.{Spoken, Refused}
+use Rattle.reading.specs.declared.Speech.the-variants.{Refused}
 use Rattle.tables.specs.Tables.{Table}
 use Rattle.tables.specs.Words.{tableAt, leftCount, rightCount}
 use Rattle.tables.specs.Walk.{Step as State, step, pass, allBelow, lookup, lowest, places, walk, walkSteps, walkWords, Walked, counted, walkedAs, walkSaid}

@@ -4,7 +4,7 @@ use Prim.Native.Nat.{ℕ, _+_, _*_, _≤_, _<_}
 use mathlib.Core.Path.{_≡_}
 use mathlib.Core.List.{List}
 use mathlib.Core.Option.{Option, none, some}
-use lib.ListN.{length, getD, take}
+use lib.ListN.{getD, take}
 use Rattle.rules.specs.Shape.{Entry}
 use Rattle.rules.specs.Refusals.{refusalNumber, refusalPlace}
 use Rattle.rules.specs.declared.Refusal.{Refusal}

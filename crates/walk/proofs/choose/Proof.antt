@@ -1,4 +1,6 @@
-use Prim.Native.Nat.{ℕ, _≤_, _<_}
+-- `walk::choose` meets its contract: the three cases of the rule at the place found.
+-- Assumes nothing.
+use Prim.Native.Nat.{ℕ, _<_}
 use mathlib.Core.Path.{_≡_, refl, sym, _∙_, subst}
 use borrow.Author.Needs.{needs}
 use borrow.Author.Tests.{not-true, not-false}
@@ -9,11 +11,6 @@ use Rattle.walk.specs.declared.Chosen.the-variants.{Rule, Nothing, Unusa
 use Rattle.walk.proofs.Letters.{found-none, found-some, none-shared, place-past, place-unfit, place-fits}
 use Rattle.walk.proofs.choose.Statement.{statement}
 use Rattle.walk.proofs.choose.Tie as tie
-use Rattle.walk.proofs.choose.Reads as reads
-use Rattle.walk.proofs.choose.Lts as lts
-use Rattle.reading.proofs.fits_at.Reads as fits-at-reads
-use Rattle.walk.proofs.lowest_place.Reads as lowest-place-reads
-use Rattle.walk.proofs.rule_count.Reads as rule-count-reads
 
 never : (x : Chosen) (p : ℕ) → x ≡ Rule p → x ≡ Nothing → ⊥
 never x p e g = let z : _≡_ {A = ℕ} 0 1 = cc in omega arith
@@ -24,19 +21,15 @@ never-2 x p e g = let z : _≡_ {A = ℕ} 0 1 = cc in omega arith
 same-place : (p q : ℕ) → Rule p ≡ Rule q → p ≡ q
 same-place p q e = cc
 
--- src/lib.rt:163:9
 lowest-place-requires : tie.Need-lowest-place-requires
 lowest-place-requires c κs = search needs
 
--- src/lib.rt:164:22
 enum-known-found : tie.Need-enum-known-found
 enum-known-found c = search needs
 
--- src/lib.rt:165:9
 enum-told : tie.Need-enum-told
 enum-told c = search needs
 
--- src/lib.rt:165:9
 returns : tie.Need-returns
 returns c =
     record {
@@ -44,11 +37,9 @@ returns c =
       inside = λ p e. absurd (never Nothing p e refl);
     }
 
--- src/lib.rt:167:8
 rule-count-requires : tie.Need-rule-count-requires
 rule-count-requires c κs = search needs
 
--- src/lib.rt:168:9
 returns-2 : tie.Need-returns-2
 returns-2 c =
     record {
@@ -58,11 +49,9 @@ returns-2 c =
       inside = λ p e. absurd (never-2 Unusable p e refl);
     }
 
--- src/lib.rt:170:9
 fits-at-requires : tie.Need-fits-at-requires
 fits-at-requires c κs = search needs
 
--- src/lib.rt:171:9
 returns-3 : tie.Need-returns-3
 returns-3 c =
     record {
@@ -72,7 +61,6 @@ returns-3 c =
       inside = λ p e. absurd (never-2 Unusable p e refl);
     }
 
--- src/lib.rt:159:1
 returns-4 : tie.Need-returns-4
 returns-4 c =
     let place = c .before .before .before .before .before .found .given .0 .0 in

@@ -1,16 +1,13 @@
+-- `walk::left_pass` meets its contract, by the loop invariant `Passing`: the states of positions 0 to i are remembered.
+-- Assumes nothing.
 use Prim.Native.Nat.{_+_, _-_, _≤_, _<_}
 use mathlib.Core.Path.{_≡_, refl}
-use borrow.Author.Needs.{needs}
 use native.Mathlib.Omega.{arith}
 use lib.ListN.{length}
 use Rattle.walk.specs.Passes.{rowsAt, leftOn}
 use Rattle.walk.proofs.Passing.{Passing, go-on, stop, finished, left-begin, left-state, left-steps}
 use Rattle.walk.proofs.left_pass.Statement.{statement}
 use Rattle.walk.proofs.left_pass.Tie as tie
-use Rattle.walk.proofs.left_pass.Reads as reads
-use Rattle.walk.proofs.left_pass.Lts as lts
-use Rattle.walk.proofs.look_up.Reads as look-up-reads
-use Rattle.walk.proofs.wide.Reads as wide-reads
 
 abbrev Inv-loop : tie.InvT-loop
 Inv-loop words rows count frame states₀ at₀ end i₀ states at i = (i ≤ end) × (at .steps ≡ i) × Passing (leftOn (rowsAt words rows count) frame) count 0 i states at i
@@ -18,32 +15,26 @@ Inv-loop words rows count frame states₀ at₀ end i₀ states at i = (i ≤ en
 abbrev μ-loop : tie.MeasureT-loop
 μ-loop words rows count frame states₀ at₀ end i₀ states at i = end - i
 
--- src/lib.rt:46:15
 sub-end : tie.Need-sub-end Inv-loop μ-loop
 sub-end c = omega arith
 
--- src/lib.rt:48:5
 loop-holds : tie.Need-loop-holds Inv-loop μ-loop
 loop-holds c =
     let a = c .before .before .args in
     (omega arith, refl, left-begin (a .words .now) (a .rows) (a .count) (a .frame .now) (omega arith))
 
--- src/lib.rt:49:39
 shared-slice-read-look-up : tie.Need-shared-slice-read-look-up Inv-loop μ-loop
 shared-slice-read-look-up c = omega arith
 
--- src/lib.rt:49:9
 look-up-requires : tie.Need-look-up-requires Inv-loop μ-loop
 look-up-requires c κs =
     let l = c .before .before .before .before .before .pre .4 (c .before .before .loop .i) (omega arith) in
     let b = c .before .before .loop .inv .2 .below in
     (omega arith, omega arith)
 
--- src/lib.rt:51:21
 wide-requires : tie.Need-wide-requires Inv-loop μ-loop
 wide-requires c κs = tt
 
--- src/lib.rt:52:13
 returns : tie.Need-returns Inv-loop μ-loop
 returns c =
     let a = c .before .before .before .before .before .before .before .before .args in
@@ -55,23 +46,18 @@ returns c =
     (left-state (a .words .now) (a .rows) (a .count) (a .frame .now) (k .at) (k .i) (p .here) (p .looked) (omega arith) (r .result) (r .ensures))
     (omega arith) (omega arith) b _ refl
 
--- src/lib.rt:58:9
 add-i : tie.Need-add-i Inv-loop μ-loop
 add-i c = omega arith
 
--- src/lib.rt:59:9
 mul-states : tie.Need-mul-states Inv-loop μ-loop
 mul-states c = omega arith
 
--- src/lib.rt:59:9
 array-write-states : tie.Need-array-write-states Inv-loop μ-loop
 array-write-states c = omega arith
 
--- src/lib.rt:48:5
 loop-less : tie.Need-loop-less Inv-loop μ-loop
 loop-less c = omega arith
 
--- src/lib.rt:48:5
 loop-again : tie.Need-loop-again Inv-loop μ-loop
 loop-again c =
     let a = c .before .before .before .before .before .before .before .before .args in
@@ -87,7 +73,6 @@ loop-again c =
           b (omega arith) (λ j l m d. (omega arith, omega arith)),
     )
 
--- src/lib.rt:40:1
 returns-2 : tie.Need-returns-2 Inv-loop μ-loop
 returns-2 c =
     let a = c .before .before .before .before .args in

@@ -1,8 +1,10 @@
-use Prim.Native.Nat.{ℕ, _+_, _-_, _*_, _≤_, _<_}
+-- `walk::read_letters` meets its contract, by the loop invariant `Gone`: the rules applied so far, then the reading from i, are the whole reading.
+-- Assumes nothing.
+use Prim.Native.Nat.{ℕ, _+_, _-_, _*_, _<_}
 use mathlib.Core.Path.{_≡_, sym, ap, ap₂, _∙_}
 use borrow.Author.Needs.{needs}
 use native.Mathlib.Omega.{arith}
-use lib.ListN.{length, getD}
+use lib.ListN.{length}
 use mathlib.Core.Logic.{_⊎_, ⊎-elim}
 use denote.Enum.Declared.{tagOf}
 use Rattle.rules.specs.Refusals.{refusalNumber, refusalPlace}
@@ -59,66 +61,51 @@ not-rule x k p e =
     let z : tagOf the-type x ≡ 0 = ap (tagOf the-type) e in
     ⊎-elim (λ w. omega arith) (λ w. omega arith) k
 
--- src/lib.rt:213:15
 sub-end : tie.Need-sub-end Inv-loop μ-loop
 sub-end c = omega arith
 
--- src/lib.rt:215:5
 loop-holds : tie.Need-loop-holds Inv-loop μ-loop
 loop-holds c = begin (c .before .before .before .args .image .now) (choicesBy (c .before .before .before .args .image .now) (c .before .before .before .args .sets .now) (c .before .before .before .args .right-sets) (c .before .before .before .args .t5) (c .before .before .before .args .t6) (c .before .before .before .args .frame .now)) (length (c .before .before .before .args .frame .now) - 2)
 
--- src/lib.rt:216:26
 mul-wide : tie.Need-mul-wide Inv-loop μ-loop
 mul-wide c = omega arith
 
--- src/lib.rt:216:26
 array-read-wide : tie.Need-array-read-wide Inv-loop μ-loop
 array-read-wide c = omega arith
 
--- src/lib.rt:216:21
 wide-requires : tie.Need-wide-requires Inv-loop μ-loop
 wide-requires c κs = tt
 
--- src/lib.rt:216:17
 mul-s : tie.Need-mul-s Inv-loop μ-loop
 mul-s c = omega (arith, c .wide .ensures, c .before .before .before .before .before .before .pre .3 .lefts (c .before .before .loop .i))
 
--- src/lib.rt:217:39
 mul-wide-2 : tie.Need-mul-wide-2 Inv-loop μ-loop
 mul-wide-2 c = omega arith
 
--- src/lib.rt:217:39
 array-read-wide-2 : tie.Need-array-read-wide-2 Inv-loop μ-loop
 array-read-wide-2 c = omega arith
 
--- src/lib.rt:217:34
 wide-requires-2 : tie.Need-wide-requires-2 Inv-loop μ-loop
 wide-requires-2 c κs = tt
 
--- src/lib.rt:217:30
 mul-t : tie.Need-mul-t Inv-loop μ-loop
 mul-t c = omega (arith, c .wide2 .ensures, c .before .before .before .before .before .before .before .pre .3 .rights (c .before .before .before .loop .i))
 
--- src/lib.rt:217:17
 add-t : tie.Need-add-t Inv-loop μ-loop
 add-t c = omega (arith, c .wide2 .ensures, c .before .before .before .before .before .before .before .pre .3 .rights (c .before .before .before .loop .i))
 
--- src/lib.rt:218:13
 choose-requires : tie.Need-choose-requires Inv-loop μ-loop
 choose-requires c κs =
     let l = c .before .before .before .before .before .before .before .pre .3 .lefts (c .before .before .before .loop .i) in
     let r = c .before .before .before .before .before .before .before .pre .3 .rights (c .before .before .before .loop .i) in
     (omega (arith, c .before .wide .ensures), omega (arith, c .wide2 .ensures), c .before .before .before .before .before .before .before .pre .0, omega arith)
 
--- src/lib.rt:219:26
 enum-known-choice : tie.Need-enum-known-choice Inv-loop μ-loop
 enum-known-choice c = search needs
 
--- src/lib.rt:223:41
 refusal-at-requires : tie.Need-refusal-at-requires Inv-loop μ-loop
 refusal-at-requires c κs = tt
 
--- src/lib.rt:220:13
 returns : tie.Need-returns Inv-loop μ-loop
 returns c =
     let a = c .before .before .before .before .before .before .before .before .before .before .args in
@@ -132,35 +119,27 @@ returns c =
           (c .before .before .choose .result) (is-choice (c .before .before)) (not-rule (c .before .before .choose .result) (c .before .match .keys2));
     }
 
--- src/lib.rt:226:25
 cast-places : tie.Need-cast-places Inv-loop μ-loop
 cast-places c = omega (arith, place-lt c, valid-count (c .before .before .before .before .before .before .before .before .before .before .before .args .image .now) (c .before .before .before .before .before .before .before .before .before .before .before .pre .0))
 
--- src/lib.rt:226:9
 mul-places : tie.Need-mul-places Inv-loop μ-loop
 mul-places c = omega (arith, c .before .before .before .before .before .before .before .loop .inv .ahead)
 
--- src/lib.rt:226:9
 array-write-places : tie.Need-array-write-places Inv-loop μ-loop
 array-write-places c = omega (arith, c .before .before .before .before .before .before .before .loop .inv .ahead)
 
--- src/lib.rt:227:9
 add-count : tie.Need-add-count Inv-loop μ-loop
 add-count c = omega (arith, c .before .before .before .before .before .before .before .loop .inv .ahead)
 
--- src/lib.rt:228:14
 target-len-at-requires : tie.Need-target-len-at-requires Inv-loop μ-loop
 target-len-at-requires c κs = (c .before .before .before .before .before .before .before .before .before .before .before .pre .0, place-lt c)
 
--- src/lib.rt:228:9
 add-i : tie.Need-add-i Inv-loop μ-loop
 add-i c = omega (arith, c .target-len-at .ensures .1 .1)
 
--- src/lib.rt:215:5
 loop-less : tie.Need-loop-less Inv-loop μ-loop
 loop-less c = omega (arith, c .target-len-at .ensures .1 .0, c .before .before .before .before .before .before .before .before .loop .inv .near)
 
--- src/lib.rt:215:5
 loop-again : tie.Need-loop-again Inv-loop μ-loop
 loop-again c =
     let a = c .before .before .before .before .before .before .before .before .before .before .before .before .args in
@@ -168,7 +147,6 @@ loop-again c =
     next (a .image .now) (choicesBy (c .before .before .before .before .before .before .before .before .before .before .before .before .args .image .now) (c .before .before .before .before .before .before .before .before .before .before .before .before .args .sets .now) (c .before .before .before .before .before .before .before .before .before .before .before .before .args .right-sets) (c .before .before .before .before .before .before .before .before .before .before .before .before .args .t5) (c .before .before .before .before .before .before .before .before .before .before .before .before .args .t6) (c .before .before .before .before .before .before .before .before .before .before .before .before .args .frame .now)) (length (a .frame .now) - 2) (k .places) (k .count) (k .i) (k .inv) (omega arith) (omega arith)
     (place (c .before)) (rule-chosen (c .before)) (place-lt (c .before)) (c .target-len-at .result) (c .target-len-at .ensures .0) (c .target-len-at .ensures .1 .0) (c .target-len-at .ensures .1 .1)
 
--- src/lib.rt:200:1
 returns-2 : tie.Need-returns-2 Inv-loop μ-loop
 returns-2 c =
     let a = c .before .before .before .before .before .args in

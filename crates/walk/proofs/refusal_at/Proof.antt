@@ -1,33 +1,27 @@
+-- `walk::refusal_at` meets its contract, case by case.
+-- Assumes nothing.
 use mathlib.Core.Path.{sym, ap}
 use borrow.Author.Needs.{needs}
 use Rattle.walk.specs.Letters.{refusalAt}
 use Rattle.walk.specs.declared.Chosen.{Chosen}
 use Rattle.walk.proofs.refusal_at.Statement.{statement}
 use Rattle.walk.proofs.refusal_at.Tie as tie
-use Rattle.walk.proofs.refusal_at.Reads as reads
-use Rattle.walk.proofs.refusal_at.Lts as lts
 
--- src/lib.rt:181:28
 enum-told : tie.Need-enum-told
 enum-told c = search needs
 
--- src/lib.rt:182:28
 enum-told-2 : tie.Need-enum-told-2
 enum-told-2 c = search needs
 
--- src/lib.rt:183:29
 enum-told-3 : tie.Need-enum-told-3
 enum-told-3 c = search needs
 
--- src/lib.rt:177:1
 returns : tie.Need-returns
 returns c = sym (ap (λ (x : Chosen). refusalAt x (c .before .before .args .i)) (c .enum-told .given .1))
 
--- src/lib.rt:177:1
 returns-2 : tie.Need-returns-2
 returns-2 c = sym (ap (λ (x : Chosen). refusalAt x (c .before .before .args .i)) (c .enum-told2 .given .1))
 
--- src/lib.rt:177:1
 returns-3 : tie.Need-returns-3
 returns-3 c = search needs
 

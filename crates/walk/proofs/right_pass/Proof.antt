@@ -1,16 +1,13 @@
+-- `walk::right_pass` meets its contract, by the loop invariant `Passing`: the states of the positions from i on are remembered.
+-- Assumes nothing.
 use Prim.Native.Nat.{_+_, _-_, _≤_, _<_}
 use mathlib.Core.Path.{_≡_, refl}
-use borrow.Author.Needs.{needs}
 use native.Mathlib.Omega.{arith}
 use lib.ListN.{length}
 use Rattle.walk.specs.Passes.{rowsAt, rightOn}
 use Rattle.walk.proofs.Passing.{Passing, go-on, stop, finished, right-start, right-state, right-steps}
 use Rattle.walk.proofs.right_pass.Statement.{statement}
 use Rattle.walk.proofs.right_pass.Tie as tie
-use Rattle.walk.proofs.right_pass.Reads as reads
-use Rattle.walk.proofs.right_pass.Lts as lts
-use Rattle.walk.proofs.look_up.Reads as look-up-reads
-use Rattle.walk.proofs.wide.Reads as wide-reads
 
 abbrev Inv-loop : tie.InvT-loop
 Inv-loop words rows count frame steps states₀ at₀ i₀ states at i = (0 < i) × (i ≤ length frame) × (at .steps + i ≡ steps + length frame) × Passing (rightOn (rowsAt words rows count) steps frame) count i (length frame - 1) states at i
@@ -18,32 +15,26 @@ Inv-loop words rows count frame steps states₀ at₀ i₀ states at i = (0 < i)
 abbrev μ-loop : tie.MeasureT-loop
 μ-loop words rows count frame steps states₀ at₀ i₀ states at i = i
 
--- src/lib.rt:77:5
 loop-holds : tie.Need-loop-holds Inv-loop μ-loop
 loop-holds c =
     let a = c .before .before .args in
     (omega arith, omega arith, refl, right-start (a .words .now) (a .rows) (a .count) (a .frame .now) (a .steps) (omega arith) (omega arith))
 
--- src/lib.rt:78:9
 sub-i : tie.Need-sub-i Inv-loop μ-loop
 sub-i c = omega arith
 
--- src/lib.rt:79:39
 shared-slice-read-look-up : tie.Need-shared-slice-read-look-up Inv-loop μ-loop
 shared-slice-read-look-up c = omega arith
 
--- src/lib.rt:79:9
 look-up-requires : tie.Need-look-up-requires Inv-loop μ-loop
 look-up-requires c κs =
     let l = c .before .before .before .before .before .pre .5 (c .before .before .loop .i - 1) (omega arith) in
     let b = c .before .before .loop .inv .3 .below in
     (omega arith, omega (arith, c .before .before .loop .inv .2))
 
--- src/lib.rt:81:21
 wide-requires : tie.Need-wide-requires Inv-loop μ-loop
 wide-requires c κs = tt
 
--- src/lib.rt:82:13
 returns : tie.Need-returns Inv-loop μ-loop
 returns c =
     let a = c .before .before .before .before .before .before .before .before .args in
@@ -55,19 +46,15 @@ returns c =
     (right-state (a .words .now) (a .rows) (a .count) (a .frame .now) (a .steps) (k .at) (k .i) (p .here) (p .looked) (omega arith) (omega arith) (r .result) (r .ensures))
     (omega arith) (omega arith) b _ refl
 
--- src/lib.rt:88:9
 mul-states : tie.Need-mul-states Inv-loop μ-loop
 mul-states c = omega arith
 
--- src/lib.rt:88:9
 array-write-states : tie.Need-array-write-states Inv-loop μ-loop
 array-write-states c = omega arith
 
--- src/lib.rt:77:5
 loop-less : tie.Need-loop-less Inv-loop μ-loop
 loop-less c = omega arith
 
--- src/lib.rt:77:5
 loop-again : tie.Need-loop-again Inv-loop μ-loop
 loop-again c =
     let a = c .before .before .before .before .before .before .before .before .args in
@@ -84,7 +71,6 @@ loop-again c =
           b (omega arith) (λ j l m d. (omega arith, omega arith)),
     )
 
--- src/lib.rt:70:1
 returns-2 : tie.Need-returns-2 Inv-loop μ-loop
 returns-2 c =
     let a = c .before .before .before .before .args in

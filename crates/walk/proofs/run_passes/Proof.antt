@@ -1,3 +1,5 @@
+-- `walk::run_passes` meets its contract, from those of the two passes.
+-- Assumes nothing.
 use Prim.Native.Nat.{ℕ, suc, _+_, _-_, _*_, _≤_}
 use mathlib.Core.Path.{_≡_, refl, subst}
 use borrow.Author.Needs.{needs}
@@ -8,19 +10,13 @@ use Rattle.walk.specs.Passes.{rowsAt, leftOn, rightOn, Passed}
 use Rattle.walk.proofs.Walked.{both-bad, both-good}
 use Rattle.walk.proofs.run_passes.Statement.{statement}
 use Rattle.walk.proofs.run_passes.Tie as tie
-use Rattle.walk.proofs.run_passes.Reads as reads
-use Rattle.walk.proofs.run_passes.Lts as lts
-use Rattle.walk.proofs.left_pass.Reads as left-pass-reads
-use Rattle.walk.proofs.right_pass.Reads as right-pass-reads
 
 shorter : (k : ℕ) → 2 ≤ k → k - 1 ≡ suc (k - 2)
 shorter k h = omega arith
 
--- src/lib.rt:259:9
 left-pass-requires : tie.Need-left-pass-requires
 left-pass-requires c κs = search needs
 
--- src/lib.rt:262:9
 returns : tie.Need-returns
 returns c =
     let a = c .before .before .before .before .before .before .args in
@@ -28,20 +24,16 @@ returns c =
     (subst (λ (n : ℕ). Passed (leftOn (rowsAt (a .words .now) 2 (a .left-states)) (a .frame .now)) (a .left-states) n n 0 (c .before .before .before .left-pass .result)) (shorter (length (a .frame .now)) (c .before .before .before .before .before .before .pre .3)) (c .before .before .before .left-pass .ensures))
     (not-true _ (c .if1 .taken)) _ refl
 
--- src/lib.rt:269:40
 mul-right-pass : tie.Need-mul-right-pass
 mul-right-pass c = search needs
 
--- src/lib.rt:269:36
 add-right-pass : tie.Need-add-right-pass
 add-right-pass c = search needs
 
--- src/lib.rt:269:9
 right-pass-requires : tie.Need-right-pass-requires
 right-pass-requires c κs =
     (omega arith, c .before .before .before .before .before .before .pre .1, c .before .before .before .before .before .before .pre .3, c .before .before .before .before .before .before .pre .4, omega (arith, c .before .before .before .left-pass .ensures .many (not-false _ (c .if1 .left))), c .before .before .before .before .before .before .pre .5)
 
--- src/lib.rt:255:1
 returns-2 : tie.Need-returns-2
 returns-2 c =
     let a = c .before .before .before .before .before .before .before .before .args in

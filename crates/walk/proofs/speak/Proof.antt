@@ -1,44 +1,36 @@
+-- `walk::speak` meets its contract: a refusal with its steps, or what `deliver` gives with the steps carried.
+-- Assumes nothing.
 use Prim.Native.Nat.{ℕ, _<_}
 use mathlib.Core.Path.{_≡_, refl, sym, subst}
 use borrow.Author.Needs.{needs}
 use native.Mathlib.Omega.{arith}
-use lib.ListN.{length, getD, take}
+use lib.ListN.{length, take}
 use lib.Seq.{length-take-le, getD-take}
 use Rattle.image.specs.Image.{two}
 use Rattle.reading.specs.Places.{entriesAt}
 use Rattle.walk.proofs.Walked.{say-refused, say-finished}
 use Rattle.walk.proofs.speak.Statement.{statement}
 use Rattle.walk.proofs.speak.Tie as tie
-use Rattle.walk.proofs.speak.Reads as reads
-use Rattle.walk.proofs.speak.Lts as lts
-use Rattle.reading.proofs.deliver.Reads as deliver-reads
-use Rattle.walk.proofs.steps_with.Reads as steps-with-reads
 
--- src/lib.rt:314:25
 enum-known-ending : tie.Need-enum-known-ending
 enum-known-ending c = search needs
 
--- src/lib.rt:317:24
 steps-with-requires : tie.Need-steps-with-requires
 steps-with-requires c κs = search needs
 
--- src/lib.rt:322:17
 enum-told : tie.Need-enum-told
 enum-told c = search needs
 
--- src/lib.rt:324:41
 array-share-prefix-places : tie.Need-array-share-prefix-places
 array-share-prefix-places c =
     let l : length (c .before .before .before .before .before .before .args .reached .places) ≡ 64 = search needs in
     omega arith
 
--- src/lib.rt:324:41
 slice-aggregate-deliver : tie.Need-slice-aggregate-deliver
 slice-aggregate-deliver c =
     let l : length (c .before .before .before .before .before .before .before .args .reached .places) ≡ 64 = search needs in
     sym (length-take-le (c .before .before .before .before .before .before .before .args .reached .count) (c .before .before .before .before .before .before .before .args .reached .places) (omega arith))
 
--- src/lib.rt:324:17
 deliver-requires : tie.Need-deliver-requires
 deliver-requires c κs =
     let a = c .before .before .before .before .before .before .before .before .before .args .reached in
@@ -46,22 +38,18 @@ deliver-requires c κs =
     let e = length-take-le (a .count) (a .places) (omega arith) in
     (c .before .before .before .before .before .before .before .before .before .pre .0, (omega arith, λ k h. subst (λ (q : ℕ). q < two 0 (c .before .before .before .before .before .before .before .before .before .args .image .now)) (sym (getD-take (a .count) (a .places) k 0 (omega arith))) (c .before .before .before .before .before .before .before .before .before .pre .2 k (omega arith))))
 
--- src/lib.rt:308:1
 returns : tie.Need-returns
 returns c =
     let a = c .before .before .before .before .before .before .before .args in
     say-refused (a .reached .ending) (c .before .before .ending .given .0 .0) (entriesAt (a .image .now) (take (a .reached .count) (a .reached .places))) (a .phones .now) (a .numbers .now) (a .steps)
     (c .before .before .ending .given .1) _ (c .steps-with .ensures) refl
 
--- src/lib.rt:308:1
 same-length : tie.Need-same-length
 same-length c = search needs
 
--- src/lib.rt:308:1
 same-length-2 : tie.Need-same-length-2
 same-length-2 c = search needs
 
--- src/lib.rt:308:1
 returns-2 : tie.Need-returns-2
 returns-2 c =
     let a = c .before .before .before .before .before .before .before .before .before .before .before .before .before .before .args in

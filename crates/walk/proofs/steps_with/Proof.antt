@@ -1,3 +1,5 @@
+-- `walk::steps_with` meets its contract: the three cases of a refusal's number.
+-- Assumes nothing.
 use borrow.Author.Needs.{needs}
 use Prim.Native.Nat.{_≤_, _<_}
 use native.Mathlib.Omega.{arith}
@@ -5,21 +7,15 @@ use borrow.Author.Tests.{le-leb, lt-leb}
 use Rattle.rules.specs.Refusals.{refusalNumber}
 use Rattle.walk.proofs.steps_with.Statement.{statement}
 use Rattle.walk.proofs.steps_with.Tie as tie
-use Rattle.walk.proofs.steps_with.Reads as reads
-use Rattle.walk.proofs.steps_with.Lts as lts
-use Rattle.rules.proofs.refusal_number.Reads as refusal-number-reads
 
--- src/lib.rt:289:9
 refusal-number-requires : tie.Need-refusal-number-requires
 refusal-number-requires c κs = search needs
 
--- src/lib.rt:291:9
 returns : tie.Need-returns
 returns c =
     let h : refusalNumber (c .before .before .args .x) < 3 = omega (arith, c .before .refusal-number .ensures) in
     rw (lt-leb 3 (refusalNumber (c .before .before .args .x)) h)
 
--- src/lib.rt:294:9
 returns-2 : tie.Need-returns-2
 returns-2 c =
     let n = refusalNumber (c .before .before .before .args .x) in
@@ -27,7 +23,6 @@ returns-2 c =
     let h : 5 < n = omega (arith, c .before .before .refusal-number .ensures) in
     rw (le-leb 3 n g, lt-leb n 5 h)
 
--- src/lib.rt:286:1
 returns-3 : tie.Need-returns-3
 returns-3 c =
     let n = refusalNumber (c .before .before .before .args .x) in

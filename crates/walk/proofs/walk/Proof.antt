@@ -1,37 +1,29 @@
+-- `walk::walk` meets its contract: refusal 0, or the walk with a valid image.
+-- Assumes nothing.
 use mathlib.Core.Path.{sym, _∙_}
 use borrow.Author.Needs.{needs}
 use borrow.Author.Tests.{not-true, not-false}
 use Rattle.walk.proofs.Walked.{said-invalid}
 use Rattle.walk.proofs.walk.Statement.{statement}
 use Rattle.walk.proofs.walk.Tie as tie
-use Rattle.walk.proofs.walk.Reads as reads
-use Rattle.walk.proofs.walk.Lts as lts
-use Rattle.image.proofs.is_ruleset.Reads as is-ruleset-reads
-use Rattle.walk.proofs.walk_valid.Reads as walk-valid-reads
 
--- src/lib.rt:522:9
 is-ruleset-requires : tie.Need-is-ruleset-requires
 is-ruleset-requires c κs = search needs
 
--- src/lib.rt:523:9
 returns : tie.Need-returns
 returns c =
     let a = c .before .before .before .before .before .before .before .before .args in
     said-invalid (a .image .now) (a .words .now) (a .sets .now) (a .name .now) (a .phones .now) (a .numbers .now) (sym (c .before .is-ruleset .ensures) ∙ not-true _ (c .if1 .taken))
 
--- src/lib.rt:528:5
 walk-valid-requires : tie.Need-walk-valid-requires
 walk-valid-requires c κs = sym (c .before .before .before .is-ruleset .ensures) ∙ not-false _ (c .before .before .if1 .left)
 
--- src/lib.rt:512:1
 same-length : tie.Need-same-length
 same-length c = search needs
 
--- src/lib.rt:512:1
 same-length-2 : tie.Need-same-length-2
 same-length-2 c = search needs
 
--- src/lib.rt:512:1
 returns-2 : tie.Need-returns-2
 returns-2 c = search needs
 

@@ -1,3 +1,5 @@
+-- `walk::walk_letters` meets its contract: the lent part of the frame is the framed name.
+-- Assumes nothing.
 use Prim.Native.Nat.{ℕ, _+_, _-_}
 use mathlib.Core.Path.{_≡_, sym, ap, _∙_, subst}
 use mathlib.Core.List.{List}
@@ -11,28 +13,19 @@ use Rattle.walk.specs.Walked.{leftFor, rightFor, walkOn}
 use Rattle.walk.proofs.Walked.{frame-symbols, walk-name}
 use Rattle.walk.proofs.walk_letters.Statement.{statement}
 use Rattle.walk.proofs.walk_letters.Tie as tie
-use Rattle.walk.proofs.walk_letters.Reads as reads
-use Rattle.walk.proofs.walk_letters.Lts as lts
-use Rattle.reading.proofs.framed.Reads as framed-reads
-use Rattle.walk.proofs.walk_frame.Reads as walk-frame-reads
 
--- src/lib.rt:392:17
 framed-requires : tie.Need-framed-requires
 framed-requires c κs = search needs
 
--- src/lib.rt:393:15
 add-end : tie.Need-add-end
 add-end c = search needs
 
--- src/lib.rt:400:9
 array-share-prefix-frame : tie.Need-array-share-prefix-frame
 array-share-prefix-frame c = search needs
 
--- src/lib.rt:400:9
 slice-aggregate-walk-frame : tie.Need-slice-aggregate-walk-frame
 slice-aggregate-walk-frame c = sym (ap length (frame-part (c .before .before .before .before .before .before .before .before .args .name .now) (c .before .framed .result) (c .before .before .before .before .before .before .before .before .pre .2) (c .before .framed .ensures)) ∙ frame-long (c .before .before .before .before .before .before .before .before .args .name .now))
 
--- src/lib.rt:394:5
 walk-frame-requires : tie.Need-walk-frame-requires
 walk-frame-requires c κs =
     let q = c .before .before .before .before .before .before .before .before .before .before .pre in
@@ -40,15 +33,12 @@ walk-frame-requires c κs =
     let l : length (take (length (c .before .before .before .before .before .before .before .before .before .before .args .name .now) + 2) (c .before .before .before .framed .result)) ≡ length (c .before .before .before .before .before .before .before .before .before .before .args .name .now) + 2 = ap length e ∙ frame-long (c .before .before .before .before .before .before .before .before .before .before .args .name .now) in
     (q .0, q .1, omega arith, omega arith, subst Symbols (sym e) (frame-symbols (c .before .before .before .before .before .before .before .before .before .before .args .name .now) (q .3)))
 
--- src/lib.rt:379:1
 same-length : tie.Need-same-length
 same-length c = search needs
 
--- src/lib.rt:379:1
 same-length-2 : tie.Need-same-length-2
 same-length-2 c = search needs
 
--- src/lib.rt:379:1
 returns : tie.Need-returns
 returns c =
     let a = c .before .before .before .before .before .before .before .before .before .before .before .before .before .before .before .args in

@@ -1,3 +1,5 @@
+-- `walk::walk_tables` meets its contract: a refused name, lengths that do not fit, and the walk of a name of letters.
+-- Assumes nothing.
 use mathlib.Core.Path.{refl, sym, _∙_, subst}
 use borrow.Author.Needs.{needs}
 use borrow.Author.Tests.{not-true, not-false}
@@ -9,21 +11,13 @@ use Rattle.reading.specs.declared.Speech.the-variants.{Refused}
 use Rattle.walk.proofs.Walked.{letters-only, fit-true, for-refused, for-lengths, for-walk}
 use Rattle.walk.proofs.walk_tables.Statement.{statement}
 use Rattle.walk.proofs.walk_tables.Tie as tie
-use Rattle.walk.proofs.walk_tables.Reads as reads
-use Rattle.walk.proofs.walk_tables.Lts as lts
-use Rattle.reading.proofs.judge_name.Reads as judge-name-reads
-use Rattle.walk.proofs.lengths_fit.Reads as lengths-fit-reads
-use Rattle.walk.proofs.walk_letters.Reads as walk-letters-reads
 
--- src/lib.rt:450:9
 judge-name-requires : tie.Need-judge-name-requires
 judge-name-requires c κs = search needs
 
--- src/lib.rt:451:28
 enum-known-judged : tie.Need-enum-known-judged
 enum-known-judged c = search needs
 
--- src/lib.rt:452:9
 returns : tie.Need-returns
 returns c =
     let a = c .before .before .before .before .before .before .before .before .before .before .args in
@@ -33,18 +27,15 @@ returns c =
 enum-told : tie.Need-enum-told
 enum-told c = search needs
 
--- src/lib.rt:457:9
 lengths-fit-requires : tie.Need-lengths-fit-requires
 lengths-fit-requires c κs = search needs
 
--- src/lib.rt:458:9
 returns-2 : tie.Need-returns-2
 returns-2 c =
     let a = c .before .before .before .before .before .before .before .before .before .before .before .args in
     for-lengths (a .left-states) (a .right-states) (a .image .now) (a .words .now) (a .sets .now) (a .name .now) (a .phones .now) (a .numbers .now) (subst (λ (j : Judged). Judges (a .name .now) j) (c .before .before .enum-told .given .1) (c .before .before .before .before .judge-name .ensures))
     (Refused (BadTables 0)) refl (sym (c .before .lengths-fit .ensures) ∙ not-true _ (c .if1 .taken))
 
--- src/lib.rt:463:5
 walk-letters-requires : tie.Need-walk-letters-requires
 walk-letters-requires c κs =
     let a = c .before .before .before .before .before .before .before .before .before .before .before .before .before .args in
@@ -55,15 +46,12 @@ walk-letters-requires c κs =
       only .1,
     )
 
--- src/lib.rt:437:1
 same-length : tie.Need-same-length
 same-length c = search needs
 
--- src/lib.rt:437:1
 same-length-2 : tie.Need-same-length-2
 same-length-2 c = search needs
 
--- src/lib.rt:437:1
 returns-3 : tie.Need-returns-3
 returns-3 c =
     let a = c .before .before .before .before .before .before .before .before .before .before .before .before .before .before .before .before .before .before .args in
