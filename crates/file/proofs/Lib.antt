@@ -1,0 +1,5 @@
+pub mod Bodies
+pub mod Numbers
+pub mod Accepts
+pub mod Parts
+pub mod Example
