@@ -2,4 +2,6 @@ pub mod Bodies
 pub mod Numbers
 pub mod Accepts
 pub mod Parts
+pub mod Reading
+pub mod Writing
 pub mod Example

@@ -385,13 +385,10 @@ fn put_front(body: &mut [u8], number: u16, l: u8, t: u8, r: u8, p: u8)
     requires { ⌜ 7 ≤ length (now body) ⌝ }
     ensures { λ _. ⌜ now (body .exit) ≡ over (ruleFront number l t r p) (now (body .entry)) ⌝ }
 {
-    body[0] = 2;
-    body[1] = (number / 256) as u8;
-    body[2] = (number % 256) as u8;
-    body[3] = l;
-    body[4] = t;
-    body[5] = r;
-    body[6] = p;
+    let high = (number / 256) as u8;
+    let low = (number % 256) as u8;
+    let front = [2, high, low, l, t, r, p];
+    image::put(&mut *body, 0, &front);
 }
 
 // The first n of six bytes, from `at` on.

@@ -1,47 +1,41 @@
+-- `file::file_size` meets its contract. The loop's invariant: the sizes of the lines so far are added up. Assumes nothing.
+use Prim.Native.Nat.{_-_}
+use mathlib.Core.Path.{refl}
+use native.Mathlib.Omega.{arith}
+use borrow.Author.Needs.{needs}
+use Rattle.file.proofs.Writing.{Sized, sized-next, sized-end}
 use Rattle.file.proofs.file_size.Statement.{statement}
 use Rattle.file.proofs.file_size.Tie as tie
-use Rattle.file.proofs.file_size.Reads as reads
-use Rattle.file.proofs.file_size.Lts as lts
-use Rattle.file.proofs.rule_size.Reads as rule-size-reads
-use Rattle.image.proofs.rule_at.Reads as rule-at-reads
 
 abbrev Inv-loop : tie.InvT-loop
-Inv-loop image count n₀ i₀ n i = ?
+Inv-loop image count n₀ i₀ n i = Sized image count n i
 
 abbrev μ-loop : tie.MeasureT-loop
-μ-loop image count n₀ i₀ n i = ?
+μ-loop image count n₀ i₀ n i = count - i
 
--- src/lib.rt:502:5
 loop-holds : tie.Need-loop-holds Inv-loop μ-loop
-loop-holds c = ?
+loop-holds c = record { within = omega arith; sum = refl; small = omega arith }
 
--- src/lib.rt:503:13
 rule-at-requires : tie.Need-rule-at-requires Inv-loop μ-loop
-rule-at-requires c κs = ?
+rule-at-requires c κs = search needs
 
--- src/lib.rt:504:14
 rule-size-requires : tie.Need-rule-size-requires Inv-loop μ-loop
-rule-size-requires c κs = ?
+rule-size-requires c κs = search needs
 
--- src/lib.rt:504:9
 add-n : tie.Need-add-n Inv-loop μ-loop
-add-n c = ?
+add-n c = search needs
 
--- src/lib.rt:505:9
 add-i : tie.Need-add-i Inv-loop μ-loop
-add-i c = ?
+add-i c = search needs
 
--- src/lib.rt:502:5
 loop-less : tie.Need-loop-less Inv-loop μ-loop
-loop-less c = ?
+loop-less c = search needs
 
--- src/lib.rt:502:5
 loop-again : tie.Need-loop-again Inv-loop μ-loop
-loop-again c = ?
+loop-again c = let a = c .before .before .before .before .before .args in let l = c .before .before .before .loop in sized-next (a .image .now) (a .count) (l .n) (l .i) (c .rule-size .result) (c .before .rule-at .result) (l .inv) (c .before .before .loop-test .taken) (c .before .rule-at .ensures) (c .rule-size .ensures .0) (c .rule-size .ensures .1)
 
--- src/lib.rt:496:1
 returns : tie.Need-returns Inv-loop μ-loop
-returns c = ?
+returns c = let a = c .before .before .before .args in let l = c .before .loop in sized-end (a .image .now) (a .count) (l .n) (l .i) (l .inv) (c .loop-test .left)
 
 pub file-size-spec : {M : Type 1} → statement M
 file-size-spec =

@@ -1,89 +1,69 @@
+-- `file::is_rule` meets its contract: the tests in turn. Assumes nothing.
+use native.Mathlib.Omega.{arith}
+use Rattle.file.proofs.Parts.{frame-short, frame-first, frame-length, frame-left, frame-target, frame-right, frame-phones}
 use borrow.Author.Needs.{needs}
 use Rattle.file.proofs.is_rule.Statement.{statement}
 use Rattle.file.proofs.is_rule.Tie as tie
-use Rattle.file.proofs.is_rule.Reads as reads
-use Rattle.file.proofs.is_rule.Lts as lts
-use Rattle.file.proofs.wide.Reads as wide-reads
 
--- src/lib.rt:158:9
 returns : tie.Need-returns
-returns c = ?
+returns c = frame-short (c .before .before .args .f .now) (c .if1 .taken)
 
--- src/lib.rt:160:8
 shared-slice-read-if2 : tie.Need-shared-slice-read-if2
 shared-slice-read-if2 c = search needs
 
--- src/lib.rt:161:9
 returns-2 : tie.Need-returns-2
-returns-2 c = ?
+returns-2 c = frame-first (c .before .before .before .before .args .f .now) (c .if2 .taken)
 
--- src/lib.rt:163:18
 shared-slice-read-wide : tie.Need-shared-slice-read-wide
 shared-slice-read-wide c = search needs
 
--- src/lib.rt:163:9
 wide-requires : tie.Need-wide-requires
 wide-requires c κs = search needs
 
--- src/lib.rt:164:18
 shared-slice-read-wide-2 : tie.Need-shared-slice-read-wide-2
 shared-slice-read-wide-2 c = search needs
 
--- src/lib.rt:164:9
 wide-requires-2 : tie.Need-wide-requires-2
 wide-requires-2 c κs = search needs
 
--- src/lib.rt:165:18
 shared-slice-read-wide-3 : tie.Need-shared-slice-read-wide-3
 shared-slice-read-wide-3 c = search needs
 
--- src/lib.rt:165:9
 wide-requires-3 : tie.Need-wide-requires-3
 wide-requires-3 c κs = search needs
 
--- src/lib.rt:166:18
 shared-slice-read-wide-4 : tie.Need-shared-slice-read-wide-4
 shared-slice-read-wide-4 c = search needs
 
--- src/lib.rt:166:9
 wide-requires-4 : tie.Need-wide-requires-4
 wide-requires-4 c κs = search needs
 
--- src/lib.rt:167:34
 add-if3 : tie.Need-add-if3
 add-if3 c = search needs
 
--- src/lib.rt:167:29
 add-if3-2 : tie.Need-add-if3-2
 add-if3-2 c = search needs
 
--- src/lib.rt:167:24
 add-if3-3 : tie.Need-add-if3-3
 add-if3-3 c = search needs
 
--- src/lib.rt:167:19
 add-if3-4 : tie.Need-add-if3-4
 add-if3-4 c = search needs
 
--- src/lib.rt:168:9
 returns-3 : tie.Need-returns-3
-returns-3 c = ?
+returns-3 c = frame-length (c .before .before .before .before .before .before .before .before .before .before .before .before .before .args .f .now) (c .before .before .before .before .before .before .before .before .before .if2 .left) (c .before .before .before .before .before .before .before .wide .result) (c .before .before .before .before .before .wide2 .result) (c .before .before .before .wide3 .result) (c .before .wide4 .result) (c .before .before .before .before .before .before .before .wide .ensures .0) (c .before .before .before .before .before .wide2 .ensures .0) (c .before .before .before .wide3 .ensures .0) (c .before .wide4 .ensures .0) (c .if3 .taken)
 
--- src/lib.rt:171:9
 returns-4 : tie.Need-returns-4
-returns-4 c = ?
+returns-4 c = frame-left (c .before .before .before .before .before .before .before .before .before .before .before .before .before .before .args .f .now) (c .before .before .before .before .before .before .before .before .before .before .if2 .left) (c .before .before .before .before .before .before .before .before .wide .result) (c .before .before .before .before .before .before .wide2 .result) (c .before .before .before .before .wide3 .result) (c .before .before .wide4 .result) (c .before .before .before .before .before .before .before .before .wide .ensures .0) (c .before .before .before .before .before .before .wide2 .ensures .0) (c .before .before .before .before .wide3 .ensures .0) (c .before .before .wide4 .ensures .0) (c .before .if3 .left) (c .if4 .taken)
 
--- src/lib.rt:174:9
 returns-5 : tie.Need-returns-5
-returns-5 c = ?
+returns-5 c = frame-target (c .before .before .before .before .before .before .before .before .before .before .before .before .before .before .before .args .f .now) (c .before .before .before .before .before .before .before .before .before .before .before .if2 .left) (c .before .before .before .before .before .before .before .before .before .wide .result) (c .before .before .before .before .before .before .before .wide2 .result) (c .before .before .before .before .before .wide3 .result) (c .before .before .before .wide4 .result) (c .before .before .before .before .before .before .before .before .before .wide .ensures .0) (c .before .before .before .before .before .before .before .wide2 .ensures .0) (c .before .before .before .before .before .wide3 .ensures .0) (c .before .before .before .wide4 .ensures .0) (c .before .before .if3 .left) (c .before .if4 .left) (c .if5 .taken)
 
--- src/lib.rt:177:9
 returns-6 : tie.Need-returns-6
-returns-6 c = ?
+returns-6 c = frame-right (c .before .before .before .before .before .before .before .before .before .before .before .before .before .before .before .before .args .f .now) (c .before .before .before .before .before .before .before .before .before .before .before .before .if2 .left) (c .before .before .before .before .before .before .before .before .before .before .wide .result) (c .before .before .before .before .before .before .before .before .wide2 .result) (c .before .before .before .before .before .before .wide3 .result) (c .before .before .before .before .wide4 .result) (c .before .before .before .before .before .before .before .before .before .before .wide .ensures .0) (c .before .before .before .before .before .before .before .before .wide2 .ensures .0) (c .before .before .before .before .before .before .wide3 .ensures .0) (c .before .before .before .before .wide4 .ensures .0) (c .before .before .before .if3 .left) (c .before .before .if4 .left) (c .before .if5 .left) (c .if6 .taken)
 
--- src/lib.rt:154:1
 returns-7 : tie.Need-returns-7
-returns-7 c = ?
+returns-7 c = frame-phones (c .before .before .before .before .before .before .before .before .before .before .before .before .before .before .before .before .args .f .now) (c .before .before .before .before .before .before .before .before .before .before .before .before .if2 .left) (c .before .before .before .before .before .before .before .before .before .before .wide .result) (c .before .before .before .before .before .before .before .before .wide2 .result) (c .before .before .before .before .before .before .wide3 .result) (c .before .before .before .before .wide4 .result) (c .before .before .before .before .before .before .before .before .before .before .wide .ensures .0) (c .before .before .before .before .before .before .before .before .wide2 .ensures .0) (c .before .before .before .before .before .before .wide3 .ensures .0) (c .before .before .before .before .wide4 .ensures .0) (c .before .before .before .if3 .left) (c .before .before .if4 .left) (c .before .if5 .left) (c .if6 .left)
 
 pub is-rule-spec : {M : Type 1} → statement M
 is-rule-spec =

@@ -1,50 +1,40 @@
+-- `file::mark` meets its contract. Assumes nothing.
+use Prim.Native.Nat.{_/_}
+use lib.ListN.{set}
+use mathlib.Core.Path.{_≡_, refl, sym, ap}
 use borrow.Author.Needs.{needs}
 use Rattle.file.proofs.mark.Statement.{statement}
 use Rattle.file.proofs.mark.Tie as tie
-use Rattle.file.proofs.mark.Reads as reads
-use Rattle.file.proofs.mark.Lts as lts
-use Rattle.image.proofs.has_bit.Reads as has-bit-reads
-use Rattle.image.proofs.with_bit.Reads as with-bit-reads
 
--- src/lib.rt:283:13
 cast-w : tie.Need-cast-w
 cast-w c = search needs
 
--- src/lib.rt:284:13
 cast-k : tie.Need-cast-k
 cast-k c = search needs
 
--- src/lib.rt:285:16
 mul-word : tie.Need-mul-word
 mul-word c = search needs
 
--- src/lib.rt:285:16
 slice-read-word : tie.Need-slice-read-word
 slice-read-word c = search needs
 
--- src/lib.rt:286:15
 with-bit-requires : tie.Need-with-bit-requires
 with-bit-requires c κs = search needs
 
--- src/lib.rt:286:5
 mul-seen : tie.Need-mul-seen
 mul-seen c = search needs
 
--- src/lib.rt:286:5
 slice-write-seen : tie.Need-slice-write-seen
 slice-write-seen c = search needs
 
--- src/lib.rt:287:5
 has-bit-requires : tie.Need-has-bit-requires
 has-bit-requires c κs = search needs
 
--- src/lib.rt:278:1
 same-length : tie.Need-same-length
 same-length c = search needs
 
--- src/lib.rt:278:1
 returns : tie.Need-returns
-returns c = ?
+returns c = (c .has-bit .ensures, ap (set (c .before .before .before .before .args .seen .now) (c .before .before .before .before .args .n / 64)) (c .before .with-bit .ensures))
 
 pub mark-spec : {M : Type 1} → statement M
 mark-spec =

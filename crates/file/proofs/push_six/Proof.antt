@@ -1,38 +1,33 @@
+-- `file::push_six` meets its contract. Assumes nothing.
+use mathlib.Core.Path.{_≡_, sym}
+use native.Mathlib.Omega.{arith}
+use lib.ListN.{length}
+use lib.Seq.{length-take-le}
+use Rattle.file.proofs.Writing.{pushed}
 use borrow.Author.Needs.{needs}
 use Rattle.file.proofs.push_six.Statement.{statement}
 use Rattle.file.proofs.push_six.Tie as tie
-use Rattle.file.proofs.push_six.Reads as reads
-use Rattle.file.proofs.push_six.Lts as lts
-use Rattle.file.proofs.wide.Reads as wide-reads
-use Rattle.image.proofs.put.Reads as put-reads
 
--- src/lib.rt:403:9
 wide-requires : tie.Need-wide-requires
 wide-requires c κs = search needs
 
--- src/lib.rt:404:32
 array-share-prefix-a : tie.Need-array-share-prefix-a
 array-share-prefix-a c = search needs
 
--- src/lib.rt:404:32
 slice-aggregate-put : tie.Need-slice-aggregate-put
-slice-aggregate-put c = ?
+slice-aggregate-put c = let l : length (c .before .before .before .before .args .t3) ≡ 6 = search needs in sym (length-take-le _ _ (omega arith))
 
--- src/lib.rt:404:5
 put-requires : tie.Need-put-requires
-put-requires c κs = ?
+put-requires c κs = let l : length (c .before .before .before .before .args .t3) ≡ 6 = search needs in omega (arith, length-take-le (c .before .before .wide .result) (c .before .before .before .before .args .t3) (omega arith))
 
--- src/lib.rt:405:5
 add-result : tie.Need-add-result
 add-result c = search needs
 
--- src/lib.rt:398:1
 same-length : tie.Need-same-length
 same-length c = search needs
 
--- src/lib.rt:398:1
 returns : tie.Need-returns
-returns c = ?
+returns c = let l : length (c .before .before .before .before .before .before .before .args .t3) ≡ 6 = search needs in (omega arith, pushed (c .before .before .before .before .before .before .before .args .body .now) _ (c .before .before .before .before .before .before .before .args .t3) (c .before .before .before .before .before .before .before .args .at) (c .before .before .before .before .before .before .before .args .n) (c .before .before .before .before .before .wide .result) (c .before .before .before .before .before .wide .ensures .0) (omega arith) (c .before .before .put .ensures))
 
 pub push-six-spec : {M : Type 1} → statement M
 push-six-spec =

@@ -1,42 +1,37 @@
+-- `file::read_head` meets its contract: the frame of a line stands in the 7 lent bytes, where it has no more. Assumes nothing.
+use mathlib.Core.Path.{_≡_, refl, sym}
+use native.Mathlib.Omega.{arith}
+use borrow.Author.Tests.{not-true, not-false}
+use lib.ListN.{length, replicate}
+use lib.Seq.{length-take-le}
+use Rattle.file.proofs.Reading.{head-bad, head-long, head-read}
 use borrow.Author.Needs.{needs}
 use Rattle.file.proofs.read_head.Statement.{statement}
 use Rattle.file.proofs.read_head.Tie as tie
-use Rattle.file.proofs.read_head.Reads as reads
-use Rattle.file.proofs.read_head.Lts as lts
-use Rattle.file.proofs.head_of.Reads as head-of-reads
-use Rattle.frames.proofs.read_line.Reads as read-line-reads
 
--- src/lib.rt:101:43
 slice-aggregate-read-line : tie.Need-slice-aggregate-read-line
 slice-aggregate-read-line c = search needs
 
--- src/lib.rt:101:9
 read-line-requires : tie.Need-read-line-requires
 read-line-requires c κs = search needs
 
--- src/lib.rt:103:9
 returns : tie.Need-returns
-returns c = ?
+returns c = head-bad (c .before .before .before .before .before .before .args .file .now) (c .before .before .before .read-line .result) (c .before .before .before .read-line .ensures .0) (not-true _ (c .if1 .taken))
 
--- src/lib.rt:111:9
 returns-2 : tie.Need-returns-2
-returns-2 c = ?
+returns-2 c = head-long (c .before .before .before .before .before .before .before .args .file .now) (c .before .before .before .before .read-line .result) (c .before .before .before .before .read-line .ensures .0) (not-false _ (c .before .if1 .left)) (c .if2 .taken)
 
--- src/lib.rt:117:24
 array-share-prefix-frame : tie.Need-array-share-prefix-frame
 array-share-prefix-frame c = search needs
 
--- src/lib.rt:117:24
 slice-aggregate-head-of : tie.Need-slice-aggregate-head-of
-slice-aggregate-head-of c = ?
+slice-aggregate-head-of c = let l : length (c .before .before .before .before .before .read-line .last .0) ≡ 7 = search needs in sym (length-take-le _ _ (omega arith))
 
--- src/lib.rt:117:9
 head-of-requires : tie.Need-head-of-requires
 head-of-requires c κs = search needs
 
--- src/lib.rt:92:1
 returns-3 : tie.Need-returns-3
-returns-3 c = ?
+returns-3 c = head-read (c .before .before .before .before .before .before .before .before .before .args .file .now) (c .before .before .before .before .before .before .read-line .result) (c .before .before .before .before .before .before .read-line .ensures .0) (not-false _ (c .before .before .before .if1 .left)) (replicate 7 0) (c .before .before .before .before .before .before .read-line .last .0) refl (c .before .before .before .before .before .before .read-line .ensures .1) (c .before .before .if2 .left) (c .head-of .result) (c .head-of .ensures)
 
 pub read-head-spec : {M : Type 1} → statement M
 read-head-spec =

@@ -1,47 +1,40 @@
+-- `file::write_rules` meets its contract. The loop's invariant: the lines of the rules so far stand after the head's. Assumes nothing.
+use Prim.Native.Nat.{_-_}
+use native.Mathlib.Omega.{arith}
+use borrow.Author.Needs.{needs}
+use Rattle.file.proofs.Writing.{Lined, lined-start, lined-length, lined-end, lined-short, lined-room, lined-next}
 use Rattle.file.proofs.write_rules.Statement.{statement}
 use Rattle.file.proofs.write_rules.Tie as tie
-use Rattle.file.proofs.write_rules.Reads as reads
-use Rattle.file.proofs.write_rules.Lts as lts
-use Rattle.file.proofs.write_rule.Reads as write-rule-reads
-use Rattle.image.proofs.rule_at.Reads as rule-at-reads
 
 abbrev Inv-loop : tie.InvT-loop
-Inv-loop image count last out₀ at₀ i₀ out at i = ?
+Inv-loop image count last out₀ at₀ i₀ out at i = Lined image count out₀ out at i
 
 abbrev μ-loop : tie.MeasureT-loop
-μ-loop image count last out₀ at₀ i₀ out at i = ?
+μ-loop image count last out₀ at₀ i₀ out at i = count - i
 
--- src/lib.rt:475:5
 loop-holds : tie.Need-loop-holds Inv-loop μ-loop
-loop-holds c = ?
+loop-holds c = let a = c .before .before .args in lined-start (a .image .now) (a .count) (a .out .now) (omega arith)
 
--- src/lib.rt:476:13
 rule-at-requires : tie.Need-rule-at-requires Inv-loop μ-loop
-rule-at-requires c κs = ?
+rule-at-requires c κs = search needs
 
--- src/lib.rt:477:9
 write-rule-requires : tie.Need-write-rule-requires Inv-loop μ-loop
-write-rule-requires c κs = ?
+write-rule-requires c κs = let a = c .before .before .before .before .before .before .args in let l = c .before .before .before .loop in let x = c .before .rule-at in (lined-short (a .image .now) (a .count) (a .out .now) (c .before .before .before .before .before .before .pre .1 .1 .1) (l .out) (l .at) (l .i) (l .inv) (c .before .before .loop-test .taken) (x .result) (x .ensures) (a .last) (c .before .before .before .before .before .before .pre .1 .1 .0), lined-room (a .image .now) (a .count) (a .out .now) (c .before .before .before .before .before .before .pre .1 .1 .1) (l .out) (l .at) (l .i) (l .inv) (c .before .before .loop-test .taken) (x .result) (x .ensures))
 
--- src/lib.rt:478:9
 add-i : tie.Need-add-i Inv-loop μ-loop
-add-i c = ?
+add-i c = search needs
 
--- src/lib.rt:475:5
 loop-less : tie.Need-loop-less Inv-loop μ-loop
-loop-less c = ?
+loop-less c = search needs
 
--- src/lib.rt:475:5
 loop-again : tie.Need-loop-again Inv-loop μ-loop
-loop-again c = ?
+loop-again c = let a = c .before .before .before .before .before .before .before .before .before .args in let l = c .before .before .before .before .before .before .loop in let x = c .before .before .before .before .rule-at in lined-next (a .image .now) (a .count) (a .out .now) (c .before .before .before .before .before .before .before .before .before .pre .1 .1 .1) (l .out) (l .at) (l .i) (l .inv) (c .before .before .before .before .before .loop-test .taken) (x .result) (x .ensures) _ (c .before .before .write-rule .result) (c .before .before .write-rule .ensures .1) (c .before .before .write-rule .ensures .0)
 
--- src/lib.rt:469:1
 same-length : tie.Need-same-length Inv-loop μ-loop
-same-length c = ?
+same-length c = let a = c .before .before .before .before .args in let l = c .before .loop in lined-length (a .image .now) (a .count) (a .out .now) (c .before .before .before .before .pre .1 .1 .1) (l .out) (l .at) (l .i) (l .inv)
 
--- src/lib.rt:469:1
 returns : tie.Need-returns Inv-loop μ-loop
-returns c = ?
+returns c = let a = c .before .before .before .before .args in let l = c .before .loop in lined-end (a .image .now) (a .count) (a .out .now) (c .before .before .before .before .pre .1 .1 .1) (l .out) (l .at) (l .i) (l .inv) (c .loop-test .left)
 
 pub write-rules-spec : {M : Type 1} → statement M
 write-rules-spec =
