@@ -134,7 +134,7 @@ module _ (len last n : ℕ) (done : List Entry) (s : List ℕ) (b : Listing)
       (λ t. were-on f rest p t (sym (read-on len last n done s f rest p t) ∙ e))
       (λ t. let q = read-broken len last n done s f rest p t in let z : _≡_ {A = ℕ} 0 1 = cc in absurd (omega arith))
 
-rules-were : (len last n : ℕ) (done : List Entry) (s : List ℕ) (b : Listing) → readRules len last n done s ≡ Accepted b → Were last n done s b
+pub rules-were : (len last n : ℕ) (done : List Entry) (s : List ℕ) (b : Listing) → readRules len last n done s ≡ Accepted b → Were last n done s b
 rules-were len last zero done s b e = were-end len last done s b e
 rules-were len last (suc n) done s b e = were-by len last n done s b (λ d t. rules-were len last n d t b) (soundLine s) refl e
 

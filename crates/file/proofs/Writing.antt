@@ -13,6 +13,7 @@ use Rattle.rules.specs.declared.Numbered.{Numbered}
 use Rattle.rules.proofs.Laws.{length-first, first-take}
 use Rattle.image.specs.State.{entry, entries, noNumbered}
 use Rattle.image.specs.Image.{two, listed, entriesOf, valid}
+use Rattle.image.proofs.Stored.{Fine, valid-fine}
 use Rattle.image.proofs.Scan.{rulesIn, slotIn, slot-get, length-listed}
 use Rattle.frames.specs.Lines.{lineOf, framed, sumByte, over, overAt}
 use Rattle.frames.proofs.Lines.{length-line}
@@ -279,3 +280,6 @@ module _ (image xs : List ℕ) (ok : valid image ≡ true) (count : ℕ) (ec : c
         ez ∙ (ap₂ (λ (a b : List ℕ). over (a ++ body) b) t ew ∙ (over-over (headLine count last) body xs
         ∙ (ap (λ (m : ℕ). over (headLine count m ++ body) xs) el ∙ ap (λ (l : List ℕ). over l xs) (sym encoded)))) in
         rw (ok, ← size, le-leb _ _ h) (ap (filing (wrote n)) g)
+
+pub valid-entries : (image : List ℕ) → valid image ≡ true → (count last : ℕ) → count ≡ two 0 image → last ≡ two 2 image → entries last (rulesIn count image) ≡ true
+valid-entries image ok count last ec el = rw (ec, el) (valid-fine image ok .each)
