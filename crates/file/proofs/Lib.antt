@@ -3,5 +3,6 @@ pub mod Numbers
 pub mod Accepts
 pub mod Parts
 pub mod Reading
+pub mod Storing
 pub mod Writing
 pub mod Example

@@ -252,3 +252,7 @@ module _ (file : List ℕ) (from count last : ℕ) (seen : List ℕ) (at i : ℕ
     judged-done l =
         let b : ended (length file) (listing (p .done) last) (drop at file) ≡ Accepted (listing (p .done) last) = rw (drop-of-length-le file l) in
         sym (ap verdict (ahead-none ∙ b))
+
+pub seen-length : (file : List ℕ) (from count last : ℕ) (seen : List ℕ) (at i : ℕ) → Judged file from count last seen at i
+    → (seen₀ : List ℕ) → seen₀ ≡ replicate 1024 0 → length seen ≡ length seen₀
+seen-length file from count last seen at i p seen₀ e = p .width ∙ sym (ap length e ∙ length-replicate {A = ℕ} 1024 0)
