@@ -23,13 +23,16 @@ use Rattle.file.specs.declared.HeadLine.{HeadLine}
 use Rattle.file.specs.declared.Ruled.{Ruled}
 use Rattle.file.specs.declared.RuleLine.{RuleLine}
 use Rattle.file.specs.Listing.{entry, member}
-use Rattle.file.specs.File.{Read, isRule, ruleOf, ruleFits, ended, readRules}
+use Rattle.file.specs.File.{Read, isHead, headCount, headLast, isRule, ruleOf, ruleFits, ended, readRules, readFile}
 use Rattle.file.specs.File.Read.{Accepted, Malformed, Broken}
 use Rattle.file.specs.Loading.{numberedOf, verdict, noHead, headIn, headAt, noneRuled, ruledIn, ruleAt}
 use Rattle.file.proofs.Bodies.{both}
 use Rattle.file.proofs.Numbers.{clash, and, new, member-append}
-use Rattle.file.proofs.Accepts.{listing, read-malformed, read-broken, read-on}
+use Rattle.file.proofs.Accepts.{listing, read-malformed, read-broken, read-on, read-head, head-limit}
 use Rattle.file.proofs.Parts.{head-length, ruled-long}
+
+pub no-decline : {A : Type 0} (n p : ℕ) → declined n p ≡ accepted → A
+no-decline n p e = let z : _≡_ {A = ℕ} 0 1 = cc in absurd (omega arith)
 
 -- ---- the first line, read into 7 lent bytes
 
@@ -256,3 +259,68 @@ module _ (file : List ℕ) (from count last : ℕ) (seen : List ℕ) (at i : ℕ
 pub seen-length : (file : List ℕ) (from count last : ℕ) (seen : List ℕ) (at i : ℕ) → Judged file from count last seen at i
     → (seen₀ : List ℕ) → seen₀ ≡ replicate 1024 0 → length seen ≡ length seen₀
 seen-length file from count last seen at i p seen₀ e = p .width ∙ sym (ap length e ∙ length-replicate {A = ℕ} 1024 0)
+
+-- ---- the head, judged
+
+module _ (file : List ℕ) (line : HeadLine) (e : line ≡ headAt (length file) (soundLine file)) where
+  abbrev told : Line
+  told = report (length file) (soundLine file)
+
+  told-sound : line .sound ≡ told .sound
+  told-sound = ap (λ (r : HeadLine). r .sound) e ∙ go (soundLine file)
+    where
+      go : (p : Parsed) → headAt (length file) p .sound ≡ report (length file) p .sound
+      go Bad = refl
+      go (Good f rest) = refl
+
+  told-next : line .next ≡ told .next
+  told-next = ap (λ (r : HeadLine). r .next) e ∙ go (soundLine file)
+    where
+      go : (p : Parsed) → headAt (length file) p .next ≡ report (length file) p .next
+      go Bad = refl
+      go (Good f rest) = refl
+
+  pub head-malformed : line .sound ≡ false → declined 13 0 ≡ verdict (readFile file)
+  unfolding readFile
+  head-malformed s = let b : soundLine file ≡ Bad = not-found file 0 told refl (sym told-sound ∙ s) in rw b
+
+  module _ (s : line .sound ≡ true) where
+    first : Found file 0 told
+    first = found file 0 told refl (sym told-sound ∙ s)
+
+    head-is : line .head ≡ headIn (first .f)
+    head-is = ap (λ (r : HeadLine). r .head) e ∙ ap (λ (p : Parsed). headAt (length file) p .head) (first .is)
+
+    pub head-broken : line .head .ok ≡ false → declined 14 0 ≡ verdict (readFile file)
+    unfolding readFile
+    head-broken o =
+        let b : soundLine file ≡ Good (first .f) (first .rest) = first .is in
+        let t : isHead (first .f) ≡ false = byBool (isHead (first .f)) (λ t. clash (ap (λ (h : Head). h .ok) head-is ∙ rw t) o) (λ t. t) in
+        rw (b, t)
+
+    module _ (o : line .head .ok ≡ true) where
+      headed : isHead (first .f) ≡ true
+      headed = byBool (isHead (first .f)) (λ t. t) (λ t. clash o (ap (λ (h : Head). h .ok) head-is ∙ rw t))
+
+      fields : line .head ≡ record { ok = true; count = headCount (first .f); last = headLast (first .f) }
+      fields = head-is ∙ rw headed
+
+      pub head-few : line .head .count ≤ 512
+      head-few = rw (ap (λ (h : Head). h .count) fields) (head-limit (first .f) headed)
+
+      pub head-within : line .next ≤ length file
+      head-within = rw told-next (first .within)
+
+      pub head-on : readRules (length file) (line .head .last) (line .head .count) [] (drop (line .next) file) ≡ readFile file
+      head-on =
+          ap (λ (h : Head). readRules (length file) (h .last) (h .count) [] (drop (line .next) file)) fields
+          ∙ (ap (readRules (length file) (headLast (first .f)) (headCount (first .f)) []) (ap (λ (n : ℕ). drop n file) told-next ∙ first .onward)
+          ∙ sym (read-head file (first .f) (first .rest) (first .is) headed))
+
+  -- of a file that is accepted the head is one
+  module _ (ok : verdict (readFile file) ≡ accepted) where
+    pub head-sound : line .sound ≡ true
+    head-sound = byBool (line .sound) (λ t. t) (λ t. no-decline 13 0 (head-malformed t ∙ ok))
+
+    pub head-ok : line .head .ok ≡ true
+    head-ok = byBool (line .head .ok) (λ t. t) (λ t. no-decline 14 0 (head-broken head-sound t ∙ ok))

@@ -4,34 +4,33 @@ use mathlib.Core.Path.{_≡_, refl, sym, ap, ap₂, _∙_}
 use mathlib.Core.List.{List, [], _∷_, _++_, map, append-assoc, append-nil}
 use mathlib.Core.Bool.{Bool, true, false}
 use native.Mathlib.Omega.{arith}
+use borrow.Author.Tests.{le-leb, lt-leb}
 use lib.ListN.{length, getD, take, drop, length-append, length-drop, length-map, take-append-drop, drop-of-length-le}
 use lib.Seq.{take-at, drop-append-add, drop-drop, length-take-le}
 use Rattle.rules.specs.Shape.{pick, Entry}
-use Rattle.rules.specs.Refusals.{accepted, declined}
+use Rattle.rules.specs.Refusals.{Reply, accepted, declined}
 use Rattle.rules.specs.declared.Numbered.{Numbered}
 use Rattle.rules.proofs.Laws.{length-first}
-use Rattle.image.specs.Image.{bytesOf, slotStart, flat, headOf, laid}
+use Rattle.image.specs.Image.{bytesOf, slotStart, flat, headOf, laid, outcome}
 use Rattle.image.proofs.Stored.{Each, length-flat}
 use Rattle.image.proofs.Stored.Each.{none, more}
 use Rattle.frames.specs.Lines.{Parsed, soundLine}
 use Rattle.frames.specs.Lines.Parsed.{Bad, Good}
 use Rattle.frames.proofs.Lines.{byBool}
 use Rattle.frames.proofs.Report.{Found}
+use Rattle.file.specs.declared.HeadLine.{HeadLine}
 use Rattle.file.specs.declared.Ruled.{Ruled}
 use Rattle.file.specs.declared.RuleLine.{RuleLine}
 use Rattle.file.specs.Listing.{Listing, entry, member}
-use Rattle.file.specs.File.{Read, isRule, ruleOf, fine, ruleFits, ended, readRules}
+use Rattle.file.specs.File.{Read, isRule, ruleOf, fine, ruleFits, ended, readRules, readFile}
 use Rattle.file.specs.File.Read.{Accepted, Malformed, Broken}
-use Rattle.file.specs.Loading.{numberedOf, verdict, described, ruledIn, ruleAt}
+use Rattle.file.specs.Loading.{numberedOf, ledgerFor, verdict, described, stored, loaded, headAt, ruledIn, ruleAt}
 use Rattle.file.proofs.Bodies.{both}
 use Rattle.file.proofs.Numbers.{clash, and}
-use Rattle.file.proofs.Accepts.{listing, read-malformed, read-broken, read-on}
-use Rattle.file.proofs.Reading.{line-found, line-onward, line-within}
+use Rattle.file.proofs.Accepts.{listing, Were, rules-were, read-malformed, read-broken, read-on}
+use Rattle.file.proofs.Reading.{no-decline, line-found, line-onward, line-within, head-sound, head-ok, head-few, head-within, head-on}
 
 -- ---- what an accepted reading tells
-
-no-decline : {A : Type 0} (n p : ℕ) → declined n p ≡ accepted → A
-no-decline n p e = let z : _≡_ {A = ℕ} 0 1 = cc in absurd (omega arith)
 
 pub accepted-is : (r : Read) → verdict r ≡ accepted → r ≡ Accepted (described r)
 accepted-is (Accepted b) e = refl
@@ -186,3 +185,71 @@ module _ (file : List ℕ) (from count last : ℕ) (xs : List ℕ) (few : count 
         let a : whole ≡ ended (length file) (listing (p .done) last) (drop at file) = p .ahead ∙ ap (λ (k : ℕ). readRules (length file) last k (p .done) (drop at file)) n in
         let b : described whole ≡ listing (p .done) last = ap described a ∙ ended-is (length file) (listing (p .done) last) (drop at file) (sym (ap verdict a) ∙ ok) in
         p .kept ∙ ap₂ (λ (l : Listing) (m : ℕ). take 4 xs ++ (flat (map numberedOf (l .rules)) ++ drop (slotStart m) xs)) (sym b) k
+
+-- ---- the whole file
+
+module _ (file : List ℕ) (ok : verdict (readFile file) ≡ accepted) (line : HeadLine) (e : line ≡ headAt (length file) (soundLine file)) where
+  sound-head : line .sound ≡ true
+  sound-head = head-sound file line e ok
+
+  good-head : line .head .ok ≡ true
+  good-head = head-ok file line e ok
+
+  pub file-few : line .head .count ≤ 512
+  file-few = head-few file line e sound-head good-head
+
+  pub file-within : line .next ≤ length file
+  file-within = head-within file line e sound-head good-head
+
+  rules-are : readRules (length file) (line .head .last) (line .head .count) [] (drop (line .next) file) ≡ readFile file
+  rules-are = head-on file line e sound-head good-head
+
+  pub file-rules : verdict (readRules (length file) (line .head .last) (line .head .count) [] (drop (line .next) file)) ≡ accepted
+  file-rules = ap verdict rules-are ∙ ok
+
+  were : Were (line .head .last) (line .head .count) [] (drop (line .next) file) (described (readFile file))
+  were =
+      rules-were (length file) (line .head .last) (line .head .count) [] (drop (line .next) file) (described (readFile file))
+      (rules-are ∙ accepted-is (readFile file) ok)
+
+  pub file-stored : (xs w z : List ℕ) → w ≡ headOf (line .head .count) (line .head .last) ++ drop 4 xs
+      → z ≡ take 4 w ++ (flat (map numberedOf (described (readRules (length file) (line .head .last) (line .head .count) [] (drop (line .next) file)) .rules)) ++ drop (slotStart (line .head .count)) w)
+      → z ≡ laid (ledgerFor (described (readFile file))) xs
+  file-stored xs w z ew ez =
+      let b = described (readFile file) in
+      let n = line .head .count in
+      let l = line .head .last in
+      let u : b ≡ listing (were .es) l = were .whole in
+      let c : n ≡ length (map numberedOf (b .rules)) = sym (length-map (b .rules) numberedOf ∙ (ap (λ (q : Listing). length (q .rules)) u ∙ were .many)) in
+      let m : l ≡ b .last = sym (ap (λ (q : Listing). q .last) u) in
+      let d : drop (slotStart n) w ≡ drop (slotStart n) xs =
+      ap (drop (slotStart n)) ew ∙ (drop-append-add (headOf n l) (drop 4 xs) (26 * n) ∙ drop-drop (26 * n) 4 xs) in
+      ez ∙ (ap₂ (λ (h : List ℕ) (r : Read). take 4 h ++ (flat (map numberedOf (described r .rules)) ++ drop (slotStart n) w)) ew rules-are
+      ∙ (ap (λ (t : List ℕ). headOf n l ++ (flat (map numberedOf (b .rules)) ++ t)) d
+      ∙ ap₂ (λ (i j : ℕ). headOf i j ++ (flat (map numberedOf (b .rules)) ++ drop (slotStart i) xs)) c m))
+
+-- ---- the answers
+
+module _ (file xs : List ℕ) where
+  pub load-short : length xs < 13316 → outcome (declined 0 0) xs ≡ loaded file xs
+  unfolding loaded
+  load-short h = rw (lt-leb _ _ h)
+
+  module _ (h : 13316 ≤ length xs) where
+    pub load-refused : (n p : ℕ) → declined n p ≡ verdict (readFile file) → outcome (declined n p) xs ≡ loaded file xs
+    unfolding loaded
+    load-refused n p e = rw (le-leb _ _ h) (ap₂ outcome e (kept (readFile file) e))
+      where
+        kept : (r : Read) → declined n p ≡ verdict r → xs ≡ stored r xs
+        kept (Accepted b) q = no-decline n p q
+        kept (Malformed k) q = refl
+        kept (Broken k) q = refl
+
+    pub load-accepted : verdict (readFile file) ≡ accepted → (z : List ℕ) → z ≡ laid (ledgerFor (described (readFile file))) xs → outcome accepted z ≡ loaded file xs
+    unfolding loaded
+    load-accepted e z q = rw (le-leb _ _ h) (ap₂ outcome (sym e) (q ∙ done (readFile file) e))
+      where
+        done : (r : Read) → verdict r ≡ accepted → laid (ledgerFor (described r)) xs ≡ stored r xs
+        done (Accepted b) t = refl
+        done (Malformed k) t = no-decline 13 k t
+        done (Broken k) t = no-decline 14 k t
