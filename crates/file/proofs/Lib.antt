@@ -6,3 +6,5 @@ pub mod Reading
 pub mod Storing
 pub mod Writing
 pub mod Example
+pub mod Round
+pub mod Longest
