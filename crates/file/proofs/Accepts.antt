@@ -3,20 +3,20 @@
 --     accepted       a file that is read as a ruleset is that ruleset's file, and the ruleset is well-formed
 --     longest        the file of a well-formed ruleset has at most 29,199 bytes
 -- Assumes nothing.
-use Prim.Native.Nat.{ℕ, zero, suc, _+_, _-_, _*_, _/_, _%_, _≤_, _<_}
-use mathlib.Core.Path.{_≡_, refl, sym, ap, ap₂, _∙_, subst}
+use Prim.Native.Nat.{ℕ, zero, suc, _+_, _-_, _*_, _≤_}
+use mathlib.Core.Path.{_≡_, refl, sym, ap, ap₂, _∙_}
 use mathlib.Core.List.{List, [], _∷_, _++_, append-assoc, append-nil}
-use mathlib.Core.Bool.{Bool, true, false}
+use mathlib.Core.Bool.{true, false}
 use native.Mathlib.Omega.{arith}
-use borrow.Author.Tests.{leb-true, eqb-true, le-leb, eq-eqb}
-use lib.ListN.{length, getD, take, drop, length-append}
+use borrow.Author.Tests.{leb-true, eqb-true, le-leb}
+use lib.ListN.{length, getD, length-append}
 use lib.Dec.{leb, eqb}
-use Rattle.rules.specs.Shape.{pick, Entry, shape}
+use Rattle.rules.specs.Shape.{Entry}
 use Rattle.frames.specs.Lines.{lineOf, framed, sumByte, Parsed, soundLine}
 use Rattle.frames.specs.Lines.Parsed.{Bad, Good}
 use Rattle.frames.proofs.Lines.{byBool, read-framed, sound-was, length-line}
-use Rattle.file.specs.Listing.{Listing, entry, entries, member, distinct, wellFormed}
-use Rattle.file.specs.File.{headBody, ruleBody, headLine, ruleLine, ruleLines, encode, Read, headCount, headLast, isHead, isRule, ruleOf, fine, ruleFits, onLine, ended, readRules, readFile}
+use Rattle.file.specs.Listing.{Listing, entry, entries, distinct, wellFormed}
+use Rattle.file.specs.File.{headBody, ruleBody, headLine, ruleLine, ruleLines, encode, headCount, headLast, isHead, isRule, ruleOf, fine, ruleFits, ended, readRules, readFile}
 use Rattle.file.specs.File.Read.{Accepted, Malformed, Broken}
 use Rattle.file.proofs.Bodies.{no, both, bounded, in-range, rule-bytes, rule-back, rule-is, rule-was, head-bytes, head-is, head-was}
 use Rattle.file.proofs.Numbers.{and, fineAll, fine-apart, apart-fine}

@@ -1,7 +1,7 @@
 -- A rule's frame and a head's frame, there and back.
 -- Assumes nothing.
-use Prim.Native.Nat.{ℕ, zero, suc, _+_, _-_, _*_, _/_, _%_, _≤_, _<_}
-use mathlib.Core.Path.{_≡_, refl, sym, ap, ap₂, _∙_, subst}
+use Prim.Native.Nat.{ℕ, _+_, _*_, _/_, _%_, _≤_, _<_}
+use mathlib.Core.Path.{_≡_, refl, sym, ap, _∙_, subst}
 use mathlib.Core.List.{List, [], _∷_, _++_, append-assoc}
 use mathlib.Core.Bool.{Bool, true, false}
 use native.Mathlib.Omega.{arith}
@@ -11,7 +11,7 @@ use lib.Seq.{take-append-seam, drop-append-seam, length-take-le}
 use lib.Dec.{leb, eqb}
 use Rattle.rules.specs.Shape.{pick, Production, Entry, shape, leftShape, rightShape, targetShape, leftContext, rightContext, allFrom}
 use Rattle.frames.specs.Lines.{total, sumByte, framed}
-use Rattle.frames.proofs.Lines.{byBool, Bytes, bytes-append, is-framed}
+use Rattle.frames.proofs.Lines.{Bytes, bytes-append, is-framed}
 use Rattle.file.specs.Listing.{entry}
 use Rattle.file.specs.File.{headBody, ruleBody, headCount, headLast, isHead, isRule, ruleOf}
 

@@ -6,7 +6,7 @@ use mathlib.Core.Bool.{true}
 use Rattle.rules.specs.Shape.{Entry, shape}
 use Rattle.frames.specs.Lines.{digit, sumByte}
 use Rattle.file.specs.Listing.{Listing, wellFormed}
-use Rattle.file.specs.File.{encode, Read, readFile}
+use Rattle.file.specs.File.{encode, readFile}
 use Rattle.file.specs.File.Read.{Accepted}
 use Rattle.file.proofs.Accepts.{accepts}
 

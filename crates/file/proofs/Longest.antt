@@ -1,15 +1,15 @@
 -- The longest file: 512 rules, each with contexts of 6 symbols, a target of 4 letters and 4 phones. `longest` of Accepts says that no
 -- well-formed ruleset has a longer one.
 -- Assumes nothing.
-use Prim.Native.Nat.{ℕ, zero, suc, _+_, _*_, _≤_, _<_}
-use mathlib.Core.Path.{_≡_, refl, sym, ap, _∙_}
-use mathlib.Core.List.{List, [], _∷_, _++_}
-use mathlib.Core.Bool.{Bool, true, false}
+use Prim.Native.Nat.{ℕ, zero, suc, _+_, _*_, _≤_}
+use mathlib.Core.Path.{_≡_, refl, ap}
+use mathlib.Core.List.{List, [], _∷_}
+use mathlib.Core.Bool.{true, false}
 use native.Mathlib.Omega.{arith}
 use borrow.Author.Tests.{le-leb, ne-eqb}
 use lib.ListN.{length, length-append}
 use Rattle.rules.specs.Shape.{Entry, shape}
-use Rattle.file.specs.Listing.{Listing, entry, entries, member, distinct, wellFormed}
+use Rattle.file.specs.Listing.{Listing, entries, member, distinct, wellFormed}
 use Rattle.file.specs.File.{headLine, ruleLine, ruleLines, encode}
 use Rattle.file.proofs.Numbers.{and, new}
 use Rattle.file.proofs.Accepts.{is-formed, length-rule}

@@ -1,24 +1,24 @@
 -- A frame's parts: the head or the rule that it is, test by test, as the functions find it.
 -- Assumes nothing.
-use Prim.Native.Nat.{ℕ, zero, suc, _+_, _-_, _*_, _≤_, _<_}
-use mathlib.Core.Path.{_≡_, refl, sym, ap, ap₂, _∙_}
+use Prim.Native.Nat.{ℕ, zero, suc, _+_, _≤_, _<_}
+use mathlib.Core.Path.{_≡_, refl, sym, ap, _∙_}
 use mathlib.Core.List.{List, [], _∷_, _++_}
-use mathlib.Core.Bool.{Bool, true, false}
+use mathlib.Core.Bool.{true, false}
 use native.Mathlib.Omega.{arith}
 use native.Mathlib.Numerals.{add-one}
 use borrow.Author.Tests.{leb-true, eqb-true, le-leb, lt-leb, eq-eqb, ne-eqb}
 use lib.ListN.{length, getD, take, drop, set, length-drop, length-take}
 use lib.Seq.{take-suc, getD-drop, length-take-le, drop-drop}
 use lib.Dec.{leb, eqb}
-use Rattle.rules.specs.Shape.{pick, first, Production, Entry, view, shape}
+use Rattle.rules.specs.Shape.{pick, first, Production, view, shape}
 use Rattle.rules.specs.declared.Rule.{Rule}
 use Rattle.image.specs.Image.{two}
 use Rattle.frames.proofs.Lines.{byBool}
 use Rattle.file.specs.declared.Head.{Head}
 use Rattle.file.specs.declared.Ruled.{Ruled}
 use Rattle.file.specs.Listing.{entry}
-use Rattle.file.specs.File.{headCount, headLast, isHead, isRule, ruleOf}
-use Rattle.file.specs.Loading.{ruleStruct, numberedOf, noHead, headIn, noneRuled, ruleFrame, ruledIn}
+use Rattle.file.specs.File.{isRule, ruleOf}
+use Rattle.file.specs.Loading.{ruleStruct, noHead, headIn, noneRuled, ruleFrame, ruledIn}
 use Rattle.file.proofs.Bodies.{both, bounded, in-range, parts}
 use Rattle.file.proofs.Numbers.{and, clash}
 

@@ -8,29 +8,28 @@
 -- Assumes nothing.
 use Prim.Native.Nat.{ℕ, zero, suc, _+_, _*_, _/_, _%_, _≤_, _<_}
 use mathlib.Core.Path.{_≡_, refl, sym, ap, ap₂, _∙_}
-use mathlib.Core.List.{List, [], _∷_, _++_, map}
+use mathlib.Core.List.{List, [], _∷_, map}
 use mathlib.Core.Bool.{Bool, true, false}
 use native.Mathlib.Omega.{arith}
-use borrow.Author.Tests.{le-leb, lt-leb, leb-true}
+use borrow.Author.Tests.{le-leb, leb-true}
 use lib.ListN.{length, getD, take, drop, length-append, length-drop, length-map}
 use lib.Seq.{take-append-seam}
 use lib.Dec.{leb, eqb}
 use Rattle.rules.specs.Shape.{pick, Entry, entryOf}
-use Rattle.rules.specs.Refusals.{Reply, accepted, declined}
+use Rattle.rules.specs.Refusals.{accepted}
 use Rattle.rules.specs.declared.Numbered.{Numbered}
 use Rattle.image.specs.State as S
 use Rattle.image.specs.State.{Ledger}
-use Rattle.image.specs.Image.{imageSize, two, listed, flat, slotStart, ledgerOf, entriesOf, laid, valid, Edited, outcome}
+use Rattle.image.specs.Image.{imageSize, two, flat, slotStart, ledgerOf, entriesOf, laid, valid, Edited, outcome}
 use Rattle.image.proofs.Stored.{Fine, valid-by, valid-fine, listed-flat, length-flat}
 use Rattle.frames.specs.Lines.{over}
 use Rattle.frames.proofs.Lines.{Bytes, byBool}
 use Rattle.file.specs.Listing.{Listing, entry, entries, member, distinct, wellFormed}
 use Rattle.file.specs.File.{encode, Read, readFile}
 use Rattle.file.specs.File.Read.{Accepted, Malformed, Broken}
-use Rattle.file.specs.Loading.{numberedOf, ledgerFor, verdict, stored, loaded, listingOf, wrote, Filed, filing, filed}
+use Rattle.file.specs.Loading.{numberedOf, ledgerFor, verdict, loaded, listingOf, wrote, Filed, filing, filed}
 use Rattle.file.proofs.Bodies.{both, bounded, in-range}
-use Rattle.file.proofs.Numbers.{clash}
-use Rattle.file.proofs.Accepts.{Formed, formed-is, is-formed, accepts, accepted as accepted-was}
+use Rattle.file.proofs.Accepts.{formed-is, is-formed, accepts, accepted as accepted-was}
 use Rattle.file.proofs.Parts.{view-struct}
 use Rattle.file.proofs.Reading.{no-decline}
 use Rattle.file.proofs.Storing.{each-numbered}
@@ -170,8 +169,7 @@ written-read d xs h ok long =
     let b = listingOf d in
     let v = formed d h ok in
     let l = loaded-accepted (encode b) b xs long (accepts b v) in
-    let k = kept b v xs long in
-    (
+    let k = kept b v xs long in (
       ap (λ (q : Edited). q .reply) l,
       record {
         entries = ap (λ (q : Edited). entriesOf (q .image)) l ∙ ap (λ (q : Listing). q .rules) k;

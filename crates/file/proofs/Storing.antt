@@ -1,14 +1,14 @@
 -- What stands in the image while the rules of a file that was judged are stored. Assumes nothing.
-use Prim.Native.Nat.{ℕ, zero, suc, _+_, _-_, _*_, _≤_, _<_}
+use Prim.Native.Nat.{ℕ, suc, _+_, _-_, _*_, _≤_, _<_}
 use mathlib.Core.Path.{_≡_, refl, sym, ap, ap₂, _∙_}
 use mathlib.Core.List.{List, [], _∷_, _++_, map, append-assoc, append-nil}
-use mathlib.Core.Bool.{Bool, true, false}
+use mathlib.Core.Bool.{true, false}
 use native.Mathlib.Omega.{arith}
 use borrow.Author.Tests.{le-leb, lt-leb}
-use lib.ListN.{length, getD, take, drop, length-append, length-drop, length-map, take-append-drop, drop-of-length-le}
+use lib.ListN.{length, take, drop, length-append, length-drop, length-map, take-append-drop}
 use lib.Seq.{take-at, drop-append-add, drop-drop, length-take-le}
 use Rattle.rules.specs.Shape.{pick, Entry}
-use Rattle.rules.specs.Refusals.{Reply, accepted, declined}
+use Rattle.rules.specs.Refusals.{accepted, declined}
 use Rattle.rules.specs.declared.Numbered.{Numbered}
 use Rattle.rules.proofs.Laws.{length-first}
 use Rattle.image.specs.Image.{bytesOf, slotStart, flat, headOf, laid, outcome}
@@ -17,16 +17,14 @@ use Rattle.image.proofs.Stored.Each.{none, more}
 use Rattle.frames.specs.Lines.{Parsed, soundLine}
 use Rattle.frames.specs.Lines.Parsed.{Bad, Good}
 use Rattle.frames.proofs.Lines.{byBool}
-use Rattle.frames.proofs.Report.{Found}
 use Rattle.file.specs.declared.HeadLine.{HeadLine}
-use Rattle.file.specs.declared.Ruled.{Ruled}
 use Rattle.file.specs.declared.RuleLine.{RuleLine}
-use Rattle.file.specs.Listing.{Listing, entry, member}
-use Rattle.file.specs.File.{Read, isRule, ruleOf, fine, ruleFits, ended, readRules, readFile}
+use Rattle.file.specs.Listing.{Listing, entry}
+use Rattle.file.specs.File.{Read, isRule, ruleOf, ruleFits, ended, readRules, readFile}
 use Rattle.file.specs.File.Read.{Accepted, Malformed, Broken}
 use Rattle.file.specs.Loading.{numberedOf, ledgerFor, verdict, described, stored, loaded, headAt, ruledIn, ruleAt}
 use Rattle.file.proofs.Bodies.{both}
-use Rattle.file.proofs.Numbers.{clash, and}
+use Rattle.file.proofs.Numbers.{and}
 use Rattle.file.proofs.Accepts.{listing, Were, rules-were, read-malformed, read-broken, read-on}
 use Rattle.file.proofs.Reading.{no-decline, line-found, line-onward, line-within, head-sound, head-ok, head-few, head-within, head-on}
 

@@ -1,23 +1,23 @@
 -- What stands in the lent bytes while a file is written. Assumes nothing.
-use Prim.Native.Nat.{ℕ, zero, suc, _+_, _-_, _*_, _/_, _%_, _≤_, _<_}
+use Prim.Native.Nat.{ℕ, zero, suc, _+_, _*_, _≤_, _<_}
 use mathlib.Core.Path.{_≡_, refl, sym, ap, ap₂, _∙_}
 use mathlib.Core.List.{List, [], _∷_, _++_, append-assoc, append-nil, map}
-use mathlib.Core.Bool.{Bool, true, false}
+use mathlib.Core.Bool.{true, false}
 use native.Mathlib.Omega.{arith}
 use native.Mathlib.Numerals.{add-one}
 use borrow.Author.Tests.{le-leb, lt-leb}
 use lib.ListN.{length, getD, take, drop, length-append, length-map, take-append-drop}
 use lib.Seq.{paste, take-suc, take-take, take-all, take-length, take-at, length-take-le, drop-append-add, drop-drop}
-use Rattle.rules.specs.Shape.{pick, first, Entry, view, entryOf}
+use Rattle.rules.specs.Shape.{first, Entry, view, entryOf}
 use Rattle.rules.specs.declared.Numbered.{Numbered}
 use Rattle.rules.proofs.Laws.{length-first, first-take}
 use Rattle.image.specs.State.{entry, entries, noNumbered}
-use Rattle.image.specs.Image.{two, listed, entriesOf, valid}
-use Rattle.image.proofs.Stored.{Fine, valid-fine}
+use Rattle.image.specs.Image.{two, entriesOf, valid}
+use Rattle.image.proofs.Stored.{valid-fine}
 use Rattle.image.proofs.Scan.{rulesIn, slotIn, slot-get, length-listed}
-use Rattle.frames.specs.Lines.{lineOf, framed, sumByte, over, overAt}
+use Rattle.frames.specs.Lines.{framed, sumByte, over, overAt}
 use Rattle.frames.proofs.Lines.{length-line}
-use Rattle.frames.proofs.Over.{over-length, over-at, over-at-length}
+use Rattle.frames.proofs.Over.{over-length, over-at}
 use Rattle.file.specs.File.{headLine, ruleFront, ruleBody, ruleLine, ruleLines, encode}
 use Rattle.file.specs.Loading.{listingOf, wrote, refused, filing, filed, Short}
 use Rattle.file.proofs.Bodies.{both, bounded, in-range}

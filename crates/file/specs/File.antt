@@ -1,11 +1,11 @@
 -- The rule file of document 01: its writing, and its reading with the refusals 13 and 14.
-use Prim.Native.Nat.{ℕ, zero, suc, _+_, _-_, _*_, _/_, _%_}
+use Prim.Native.Nat.{ℕ, zero, suc, _+_, _-_, _/_, _%_}
 use mathlib.Core.List.{List, [], _∷_, _++_}
 use mathlib.Core.Bool.{Bool, true, false}
 use lib.ListN.{length, getD, take, drop}
 use lib.Dec.{leb, eqb}
 use Rattle.rules.specs.Limits.{maxRules}
-use Rattle.rules.specs.Shape.{pick, Production, Entry}
+use Rattle.rules.specs.Shape.{pick, Entry}
 use Rattle.image.specs.Image.{two}
 use Rattle.frames.specs.Lines.{lineOf, framed, Parsed, soundLine}
 use Rattle.frames.specs.Lines.Parsed.{Bad, Good}

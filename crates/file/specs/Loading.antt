@@ -1,9 +1,9 @@
 -- What reading a file into lent memory, and writing a ruleset to lent bytes, give: the answer with document 01's number and place, and
 -- the memory after it.
 use Prim.Native.Nat.{ℕ, _+_, _-_, _≤_}
-use mathlib.Core.List.{List, [], _∷_, map}
+use mathlib.Core.List.{List, [], map}
 use mathlib.Core.Bool.{Bool, true, false}
-use lib.ListN.{length, getD, take, drop}
+use lib.ListN.{length, getD}
 use lib.Dec.{leb, eqb}
 use Rattle.rules.specs.Shape.{pick, first, Production, Entry}
 use Rattle.rules.specs.Refusals.{refusalNumber, refusalPlace, Reply, accepted, declined}

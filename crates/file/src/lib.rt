@@ -5,18 +5,18 @@ use rules::Refusal;
 use rules::Rule;
 ghost use mathlib.Core.Path.{_≡_};
 ghost use mathlib.Core.Bool.{true, false};
-ghost use mathlib.Core.List.{List, _++_, [], map};
-ghost use Prim.Native.Nat.{ℕ, _+_, _*_, _/_, _%_, _^_, _<_, _≤_};
+ghost use mathlib.Core.List.{_++_, [], map};
+ghost use Prim.Native.Nat.{_+_, _*_, _/_, _%_, _^_, _<_, _≤_};
 ghost use lib.ListN.{length, getD, take, drop, set, replicate};
 ghost use lib.Bits.{bitOr};
-ghost use Rattle.rules.specs.Shape.{first, view, entryOf};
+ghost use Rattle.rules.specs.Shape.{first, entryOf};
 ghost use Rattle.rules.specs.Refusals.{replyOf, accepted};
 ghost use Rattle.image.specs.Bits.{held};
 ghost use Rattle.image.specs.State.{entries};
-ghost use Rattle.image.specs.Image.{two, slotOf, slotStart, listed, flat, laid, outcome};
+ghost use Rattle.image.specs.Image.{slotStart, listed, flat, laid, outcome};
 ghost use Rattle.frames.specs.Lines.{soundLine, over, overAt};
-ghost use Rattle.file.specs.File.{headBody, headLine, ruleFront, ruleBody, ruleLine, ruleLines, encode, ruleOf, readRules, readFile};
-ghost use Rattle.file.specs.Loading.{ruleStruct, numberedOf, ledgerFor, verdict, described, loaded, reportOf, filing, filed, headIn, headAt, blank, noneRuled, ruleFrame, ruledIn, ruleAt, Short};
+ghost use Rattle.file.specs.File.{headLine, ruleFront, ruleBody, ruleLine, ruleLines, ruleOf, readRules, readFile};
+ghost use Rattle.file.specs.Loading.{ruleStruct, numberedOf, ledgerFor, verdict, described, loaded, reportOf, filing, filed, headIn, headAt, noneRuled, ruleFrame, ruledIn, ruleAt, Short};
 
 // What a writing gives: the bytes of the file, or a refusal.
 pub enum Written {
@@ -25,30 +25,30 @@ pub enum Written {
 }
 
 // A head that was read from a frame.
-pub struct Head {
-    pub ok: bool,
-    pub count: usize,
-    pub last: u16,
+struct Head {
+    ok: bool,
+    count: usize,
+    last: u16,
 }
 
 // The first line of a file.
-pub struct HeadLine {
-    pub sound: bool,
-    pub next: usize,
-    pub head: Head,
+struct HeadLine {
+    sound: bool,
+    next: usize,
+    head: Head,
 }
 
 // A rule that was read from a frame.
-pub struct Ruled {
-    pub ok: bool,
-    pub entry: Numbered,
+struct Ruled {
+    ok: bool,
+    entry: Numbered,
 }
 
 // A line after the first.
-pub struct RuleLine {
-    pub sound: bool,
-    pub next: usize,
-    pub ruled: Ruled,
+struct RuleLine {
+    sound: bool,
+    next: usize,
+    ruled: Ruled,
 }
 
 fn wide(x: u8) -> usize
@@ -305,7 +305,7 @@ fn judge_rules(file: &[u8], from: usize, count: usize, last: u16, seen: &mut [u6
         }
         let entry = ruled.entry;
         if mark(&mut *seen, entry.number) {
-            return Answer::Refused(Refusal::BadText(at));
+            return Answer::Refused(Refusal::BadText(at)); // its later line
         }
         at = line.next;
         i += 1;

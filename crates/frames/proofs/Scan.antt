@@ -1,6 +1,6 @@
 -- What the scan of a line has found so far: what remains from here gives the whole line, and the frame's bytes so far stand in the lent ones.
 -- Assumes nothing.
-use Prim.Native.Nat.{ℕ, zero, suc, _+_, _-_, _*_, _/_, _%_, _≤_, _<_}
+use Prim.Native.Nat.{ℕ, zero, suc, _+_, _-_, _*_, _%_, _≤_, _<_}
 use mathlib.Core.Path.{_≡_, refl, sym, ap, ap₂, _∙_}
 use mathlib.Core.List.{List, [], _∷_, _++_, append-assoc, append-nil}
 use mathlib.Core.Bool.{Bool, true, false}
@@ -11,7 +11,6 @@ use lib.ListN.{length, take, drop, getD, set, length-append, length-drop, length
 use lib.Seq.{getD-drop, drop-drop, drop-cons, take-all, take-append-le, set-out, length-take-le}
 use lib.Dec.{leb, ltb, eqb}
 use Rattle.rules.specs.Shape.{pick}
-use Rattle.frames.specs.declared.Line.{Line}
 use Rattle.frames.specs.declared.Pair.{Pair}
 use Rattle.frames.specs.Lines.{value, total, Parsed, after, guard, readLine, checked, soundLine, pairOf, decoded, report, pastLine, lineAfter, over}
 use Rattle.frames.specs.Lines.Parsed.{Bad, Good}

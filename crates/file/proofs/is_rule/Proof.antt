@@ -1,5 +1,4 @@
 -- `file::is_rule` meets its contract: the tests in turn. Assumes nothing.
-use native.Mathlib.Omega.{arith}
 use Rattle.file.proofs.Parts.{frame-short, frame-first, frame-length, frame-left, frame-target, frame-right, frame-phones}
 use borrow.Author.Needs.{needs}
 use Rattle.file.proofs.is_rule.Statement.{statement}

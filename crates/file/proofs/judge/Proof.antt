@@ -1,5 +1,5 @@
 -- `file::judge` meets its contract: the head, then the rules. Assumes nothing.
-use mathlib.Core.Path.{refl, sym, ap, _∙_}
+use mathlib.Core.Path.{refl, ap, _∙_}
 use borrow.Author.Tests.{not-true, not-false}
 use Rattle.file.specs.Loading.{verdict}
 use Rattle.file.proofs.Reading.{head-malformed, head-broken, head-within, head-on}

@@ -1,10 +1,8 @@
 -- `file::judge_rules` meets its contract. The loop's invariant: the lines from here on decide the whole, and the set holds the numbers so far.
 -- Assumes nothing.
-use mathlib.Core.Path.{ap}
+use mathlib.Core.Path.{ap, sym, _∙_}
 use lib.ListN.{length, length-set}
 use Prim.Native.Nat.{_-_}
-use mathlib.Core.Path.{sym, _∙_}
-use native.Mathlib.Omega.{arith}
 use borrow.Author.Needs.{needs}
 use borrow.Author.Tests.{not-true, not-false}
 use Rattle.file.proofs.Reading.{Judged, judged-start, judged-malformed, judged-none, judged-again, judged-next, judged-over, judged-done, seen-length}

@@ -1,7 +1,7 @@
 -- `file::mark` meets its contract. Assumes nothing.
 use Prim.Native.Nat.{_/_}
 use lib.ListN.{set}
-use mathlib.Core.Path.{_≡_, refl, sym, ap}
+use mathlib.Core.Path.{ap}
 use borrow.Author.Needs.{needs}
 use Rattle.file.proofs.mark.Statement.{statement}
 use Rattle.file.proofs.mark.Tie as tie

@@ -1,12 +1,10 @@
 -- `file::write_rule` meets its contract: the line of the body that `put_body` gave. Assumes nothing.
-use lib.ListN.{length, take, replicate}
+use lib.ListN.{length, replicate}
 use Prim.Native.Nat.{ℕ}
 use mathlib.Core.List.{List}
 use mathlib.Core.Path.{_≡_, sym, ap, _∙_}
 use native.Mathlib.Omega.{arith}
-use lib.ListN.{length, take}
 use lib.Seq.{length-take-le}
-use Rattle.rules.specs.Shape.{entryOf}
 use Rattle.frames.specs.Lines.{lineOf, framed, overAt}
 use Rattle.file.proofs.Writing.{body-short, line-size, body-front}
 use borrow.Author.Needs.{needs}
