@@ -31,7 +31,7 @@ use Rattle.file.specs.Loading.{numberedOf, ledgerFor, verdict, loaded, l
 use Rattle.file.proofs.Bodies.{both, bounded, in-range}
 use Rattle.file.proofs.Accepts.{formed-is, is-formed, accepts, accepted as accepted-was}
 use Rattle.file.proofs.Parts.{view-struct}
-use Rattle.file.proofs.Reading.{no-decline}
+use Rattle.file.proofs.FirstLine.{no-decline}
 use Rattle.file.proofs.Storing.{each-numbered}
 
 -- ---- structs and rules

@@ -26,7 +26,8 @@ use Rattle.file.specs.Loading.{numberedOf, ledgerFor, verdict, described
 use Rattle.file.proofs.Bodies.{both}
 use Rattle.file.proofs.Numbers.{and}
 use Rattle.file.proofs.Accepts.{listing, Were, rules-were, read-malformed, read-broken, read-on}
-use Rattle.file.proofs.Reading.{no-decline, line-found, line-onward, line-within, head-sound, head-ok, head-few, head-within, head-on}
+use Rattle.file.proofs.FirstLine.{no-decline, head-sound, head-ok, head-few, head-within, head-on}
+use Rattle.file.proofs.NextLine.{line-found, line-onward, line-within}
 
 -- ---- what an accepted reading tells
 

@@ -2,7 +2,7 @@
 use mathlib.Core.Path.{refl, ap, _∙_}
 use borrow.Author.Tests.{not-true, not-false}
 use Rattle.file.specs.Loading.{verdict}
-use Rattle.file.proofs.Reading.{head-malformed, head-broken, head-within, head-on}
+use Rattle.file.proofs.FirstLine.{head-malformed, head-broken, head-within, head-on}
 use borrow.Author.Needs.{needs}
 use Rattle.file.proofs.judge.Statement.{statement}
 use Rattle.file.proofs.judge.Tie as tie

@@ -5,7 +5,7 @@ use lib.ListN.{length, length-set}
 use Prim.Native.Nat.{_-_}
 use borrow.Author.Needs.{needs}
 use borrow.Author.Tests.{not-true, not-false}
-use Rattle.file.proofs.Reading.{Judged, judged-start, judged-malformed, judged-none, judged-again, judged-next, judged-over, judged-done, seen-length}
+use Rattle.file.proofs.Judging.{Judged, judged-start, judged-malformed, judged-none, judged-again, judged-next, judged-over, judged-done, seen-length}
 use Rattle.file.proofs.judge_rules.Statement.{statement}
 use Rattle.file.proofs.judge_rules.Tie as tie
 

@@ -3,7 +3,7 @@ use mathlib.Core.Path.{_≡_, sym}
 use native.Mathlib.Omega.{arith}
 use lib.ListN.{length}
 use lib.Seq.{length-take-le}
-use Rattle.file.proofs.Writing.{pushed}
+use Rattle.file.proofs.RuleBytes.{pushed}
 use borrow.Author.Needs.{needs}
 use Rattle.file.proofs.push_four.Statement.{statement}
 use Rattle.file.proofs.push_four.Tie as tie

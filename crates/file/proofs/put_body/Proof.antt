@@ -1,6 +1,6 @@
 -- `file::put_body` meets its contract: one part after the other. Assumes nothing.
 use native.Mathlib.Omega.{arith}
-use Rattle.file.proofs.Writing.{body-size, body-is}
+use Rattle.file.proofs.RuleBytes.{body-size, body-is}
 use borrow.Author.Needs.{needs}
 use Rattle.file.proofs.put_body.Statement.{statement}
 use Rattle.file.proofs.put_body.Tie as tie

@@ -4,7 +4,7 @@ use native.Mathlib.Omega.{arith}
 use borrow.Author.Tests.{not-true, not-false}
 use lib.ListN.{length, replicate}
 use lib.Seq.{length-take-le}
-use Rattle.file.proofs.Reading.{head-bad, head-long, head-read}
+use Rattle.file.proofs.FirstLine.{head-bad, head-long, head-read}
 use borrow.Author.Needs.{needs}
 use Rattle.file.proofs.read_head.Statement.{statement}
 use Rattle.file.proofs.read_head.Tie as tie

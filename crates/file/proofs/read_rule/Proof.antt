@@ -4,7 +4,7 @@ use native.Mathlib.Omega.{arith}
 use borrow.Author.Tests.{not-true, not-false}
 use lib.ListN.{length, replicate}
 use lib.Seq.{length-take-le}
-use Rattle.file.proofs.Reading.{rule-bad, rule-long, rule-read}
+use Rattle.file.proofs.NextLine.{rule-bad, rule-long, rule-read}
 use borrow.Author.Needs.{needs}
 use Rattle.file.proofs.read_rule.Statement.{statement}
 use Rattle.file.proofs.read_rule.Tie as tie

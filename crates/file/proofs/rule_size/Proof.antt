@@ -1,6 +1,6 @@
 -- `file::rule_size` meets its contract. Assumes nothing.
 use native.Mathlib.Omega.{arith}
-use Rattle.file.proofs.Writing.{size-is}
+use Rattle.file.proofs.RuleBytes.{size-is}
 use borrow.Author.Needs.{needs}
 use Rattle.file.proofs.rule_size.Statement.{statement}
 use Rattle.file.proofs.rule_size.Tie as tie

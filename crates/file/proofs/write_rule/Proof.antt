@@ -6,7 +6,7 @@ use mathlib.Core.Path.{_≡_, sym, ap, _∙_}
 use native.Mathlib.Omega.{arith}
 use lib.Seq.{length-take-le}
 use Rattle.frames.specs.Lines.{lineOf, framed, overAt}
-use Rattle.file.proofs.Writing.{body-short, line-size, body-front}
+use Rattle.file.proofs.RuleBytes.{body-short, line-size, body-front}
 use borrow.Author.Needs.{needs}
 use Rattle.file.proofs.write_rule.Statement.{statement}
 use Rattle.file.proofs.write_rule.Tie as tie

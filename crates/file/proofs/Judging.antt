@@ -1,10 +1,11 @@
--- What the reading of a file has found so far. Assumes nothing.
+-- The rules of a file, judged one after the other: what remains decides the whole, and a set holds the numbers so far.
+-- Assumes nothing.
 use Prim.Native.Nat.{ℕ, suc, _+_, _-_, _/_, _%_, _^_, _≤_, _<_}
-use mathlib.Core.Path.{_≡_, refl, sym, ap, ap₂, _∙_}
+use mathlib.Core.Path.{_≡_, refl, sym, ap, _∙_}
 use mathlib.Core.List.{List, [], _∷_, _++_}
 use mathlib.Core.Bool.{Bool, true, false}
 use native.Mathlib.Omega.{arith}
-use lib.ListN.{length, getD, take, drop, set, replicate, length-drop, length-set, length-replicate, getD-replicate, drop-of-length-le}
+use lib.ListN.{length, getD, drop, set, replicate, length-drop, length-set, length-replicate, getD-replicate, drop-of-length-le}
 use lib.Seq.{drop-cons}
 use lib.Dec.{eqb}
 use lib.Bits.{bitOr}
@@ -13,115 +14,18 @@ use Rattle.rules.specs.Refusals.{accepted, declined}
 use Rattle.rules.specs.declared.Numbered.{Numbered}
 use Rattle.image.specs.Bits.{bit, held}
 use Rattle.image.proofs.Bits.{bit-zero, put-in, held-put}
-use Rattle.frames.specs.declared.Line.{Line}
-use Rattle.frames.specs.Lines.{Parsed, soundLine, decoded, report, over}
-use Rattle.frames.specs.Lines.Parsed.{Bad, Good}
+use Rattle.frames.specs.Lines.{soundLine}
 use Rattle.frames.proofs.Lines.{byBool}
-use Rattle.frames.proofs.Report.{Found, found, not-found, frame-held}
-use Rattle.file.specs.declared.Head.{Head}
-use Rattle.file.specs.declared.HeadLine.{HeadLine}
 use Rattle.file.specs.declared.Ruled.{Ruled}
 use Rattle.file.specs.declared.RuleLine.{RuleLine}
 use Rattle.file.specs.Listing.{entry, member}
-use Rattle.file.specs.File.{Read, isHead, headCount, headLast, isRule, ruleOf, ruleFits, ended, readRules, readFile}
+use Rattle.file.specs.File.{Read, isRule, ruleOf, ruleFits, ended, readRules}
 use Rattle.file.specs.File.Read.{Accepted, Malformed, Broken}
-use Rattle.file.specs.Loading.{numberedOf, verdict, noHead, headIn, headAt, noneRuled, ruledIn, ruleAt}
+use Rattle.file.specs.Loading.{numberedOf, verdict, ruledIn, ruleAt}
 use Rattle.file.proofs.Bodies.{both}
 use Rattle.file.proofs.Numbers.{clash, and, new, member-append}
-use Rattle.file.proofs.Accepts.{listing, read-malformed, read-broken, read-on, read-head, head-limit}
-use Rattle.file.proofs.Parts.{head-length, ruled-long}
-
-pub no-decline : {A : Type 0} (n p : ℕ) → declined n p ≡ accepted → A
-no-decline n p e = let z : _≡_ {A = ℕ} 0 1 = cc in absurd (omega arith)
-
--- ---- the first line, read into 7 lent bytes
-
-abbrev headLine : ℕ → Head → HeadLine
-headLine next h = record { sound = true; next = next; head = h }
-
-module _ (file : List ℕ) (line : Line) (e : line ≡ report (length file) (soundLine (drop 0 file))) where
-  pub head-bad : line .sound ≡ false → _≡_ {A = HeadLine} (record { sound = false; next = 0; head = noHead }) (headAt (length file) (soundLine file))
-  head-bad s = let b : soundLine file ≡ Bad = not-found file 0 line e s in rw b
-
-  module _ (s : line .sound ≡ true) where
-    k : Found file 0 line
-    k = found file 0 line e s
-
-    head-by : (h : Head) → h ≡ headIn (k .f) → headLine (line .next) h ≡ headAt (length file) (soundLine file)
-    head-by h p = ap₂ headLine (k .next) p ∙ ap (headAt (length file)) (sym (k .is))
-
-    pub head-long : 7 < line .len → _≡_ {A = HeadLine} (record { sound = true; next = line .next; head = noHead }) (headAt (length file) (soundLine file))
-    head-long h = head-by noHead (head-length (k .f) (λ q. omega (arith, k .many)))
-
-    pub head-read : (xs z : List ℕ) → length xs ≡ 7 → z ≡ over (take (length xs) (decoded (drop 0 file))) xs → line .len ≤ 7
-        → (h : Head) → h ≡ headIn (take (line .len) z) → _≡_ {A = HeadLine} (record { sound = true; next = line .next; head = h }) (headAt (length file) (soundLine file))
-    head-read xs z l q n h p =
-        head-by h
-        (p ∙ ap headIn (ap (λ (m : ℕ). take m z) (k .many) ∙ frame-held (drop 0 file) (k .f) (k .rest) xs z (k .is) q (omega (arith, k .many))))
-
--- ---- a rule's line, read into 28 lent bytes
-
-abbrev ruleLine : ℕ → Ruled → RuleLine
-ruleLine next r = record { sound = true; next = next; ruled = r }
-
-module _ (file : List ℕ) (at last : ℕ) (line : Line) (e : line ≡ report (length file) (soundLine (drop at file))) where
-  pub rule-bad : line .sound ≡ false → (r : Ruled) → r ≡ noneRuled
-      → _≡_ {A = RuleLine} (record { sound = false; next = 0; ruled = r }) (ruleAt last (length file) (soundLine (drop at file)))
-  rule-bad s r p = let b : soundLine (drop at file) ≡ Bad = not-found file at line e s in rw (b, p)
-
-  module _ (s : line .sound ≡ true) where
-    q : Found file at line
-    q = found file at line e s
-
-    rule-by : (r : Ruled) → r ≡ ruledIn last (q .f) → ruleLine (line .next) r ≡ ruleAt last (length file) (soundLine (drop at file))
-    rule-by r p = ap₂ ruleLine (q .next) p ∙ ap (ruleAt last (length file)) (sym (q .is))
-
-    pub rule-long : 28 < line .len → (r : Ruled) → r ≡ noneRuled
-        → _≡_ {A = RuleLine} (record { sound = true; next = line .next; ruled = r }) (ruleAt last (length file) (soundLine (drop at file)))
-    rule-long h r p = rule-by r (p ∙ ruled-long last (q .f) (omega (arith, q .many)))
-
-    pub rule-read : (xs z : List ℕ) → length xs ≡ 28 → z ≡ over (take (length xs) (decoded (drop at file))) xs → line .len ≤ 28
-        → (r : Ruled) → r ≡ ruledIn last (take (line .len) z)
-        → _≡_ {A = RuleLine} (record { sound = true; next = line .next; ruled = r }) (ruleAt last (length file) (soundLine (drop at file)))
-    rule-read xs z l w n r p =
-        rule-by r
-        (p ∙ ap (ruledIn last) (ap (λ (m : ℕ). take m z) (q .many) ∙ frame-held (drop at file) (q .f) (q .rest) xs z (q .is) w (omega (arith, q .many))))
-
--- ---- what those lines tell
-
-module _ (file : List ℕ) (at last : ℕ) (line : RuleLine) (e : line ≡ ruleAt last (length file) (soundLine (drop at file))) where
-  abbrev reported : Line
-  reported = report (length file) (soundLine (drop at file))
-
-  same-sound : line .sound ≡ reported .sound
-  same-sound = ap (λ (r : RuleLine). r .sound) e ∙ go (soundLine (drop at file))
-    where
-      go : (p : Parsed) → ruleAt last (length file) p .sound ≡ report (length file) p .sound
-      go Bad = refl
-      go (Good f rest) = refl
-
-  same-next : line .next ≡ reported .next
-  same-next = ap (λ (r : RuleLine). r .next) e ∙ go (soundLine (drop at file))
-    where
-      go : (p : Parsed) → ruleAt last (length file) p .next ≡ report (length file) p .next
-      go Bad = refl
-      go (Good f rest) = refl
-
-  pub unsound : line .sound ≡ false → soundLine (drop at file) ≡ Bad
-  unsound s = not-found file at reported refl (sym same-sound ∙ s)
-
-  module _ (s : line .sound ≡ true) where
-    pub line-found : Found file at reported
-    line-found = found file at reported refl (sym same-sound ∙ s)
-
-    pub line-ruled : line .ruled ≡ ruledIn last (line-found .f)
-    line-ruled = ap (λ (r : RuleLine). r .ruled) e ∙ ap (λ (p : Parsed). ruleAt last (length file) p .ruled) (line-found .is)
-
-    pub line-onward : drop (line .next) file ≡ line-found .rest
-    line-onward = ap (λ (n : ℕ). drop n file) same-next ∙ line-found .onward
-
-    pub line-within : line .next ≤ length file
-    line-within = rw same-next (line-found .within)
+use Rattle.file.proofs.Accepts.{listing, read-malformed, read-broken, read-on}
+use Rattle.file.proofs.NextLine.{unsound, line-found, line-ruled, line-onward, line-within}
 
 -- ---- the rules so far, judged
 
@@ -259,68 +163,3 @@ module _ (file : List ℕ) (from count last : ℕ) (seen : List ℕ) (at i : ℕ
 pub seen-length : (file : List ℕ) (from count last : ℕ) (seen : List ℕ) (at i : ℕ) → Judged file from count last seen at i
     → (seen₀ : List ℕ) → seen₀ ≡ replicate 1024 0 → length seen ≡ length seen₀
 seen-length file from count last seen at i p seen₀ e = p .width ∙ sym (ap length e ∙ length-replicate {A = ℕ} 1024 0)
-
--- ---- the head, judged
-
-module _ (file : List ℕ) (line : HeadLine) (e : line ≡ headAt (length file) (soundLine file)) where
-  abbrev told : Line
-  told = report (length file) (soundLine file)
-
-  told-sound : line .sound ≡ told .sound
-  told-sound = ap (λ (r : HeadLine). r .sound) e ∙ go (soundLine file)
-    where
-      go : (p : Parsed) → headAt (length file) p .sound ≡ report (length file) p .sound
-      go Bad = refl
-      go (Good f rest) = refl
-
-  told-next : line .next ≡ told .next
-  told-next = ap (λ (r : HeadLine). r .next) e ∙ go (soundLine file)
-    where
-      go : (p : Parsed) → headAt (length file) p .next ≡ report (length file) p .next
-      go Bad = refl
-      go (Good f rest) = refl
-
-  pub head-malformed : line .sound ≡ false → declined 13 0 ≡ verdict (readFile file)
-  unfolding readFile
-  head-malformed s = let b : soundLine file ≡ Bad = not-found file 0 told refl (sym told-sound ∙ s) in rw b
-
-  module _ (s : line .sound ≡ true) where
-    first : Found file 0 told
-    first = found file 0 told refl (sym told-sound ∙ s)
-
-    head-is : line .head ≡ headIn (first .f)
-    head-is = ap (λ (r : HeadLine). r .head) e ∙ ap (λ (p : Parsed). headAt (length file) p .head) (first .is)
-
-    pub head-broken : line .head .ok ≡ false → declined 14 0 ≡ verdict (readFile file)
-    unfolding readFile
-    head-broken o =
-        let b : soundLine file ≡ Good (first .f) (first .rest) = first .is in
-        let t : isHead (first .f) ≡ false = byBool (isHead (first .f)) (λ t. clash (ap (λ (h : Head). h .ok) head-is ∙ rw t) o) (λ t. t) in
-        rw (b, t)
-
-    module _ (o : line .head .ok ≡ true) where
-      headed : isHead (first .f) ≡ true
-      headed = byBool (isHead (first .f)) (λ t. t) (λ t. clash o (ap (λ (h : Head). h .ok) head-is ∙ rw t))
-
-      fields : line .head ≡ record { ok = true; count = headCount (first .f); last = headLast (first .f) }
-      fields = head-is ∙ rw headed
-
-      pub head-few : line .head .count ≤ 512
-      head-few = rw (ap (λ (h : Head). h .count) fields) (head-limit (first .f) headed)
-
-      pub head-within : line .next ≤ length file
-      head-within = rw told-next (first .within)
-
-      pub head-on : readRules (length file) (line .head .last) (line .head .count) [] (drop (line .next) file) ≡ readFile file
-      head-on =
-          ap (λ (h : Head). readRules (length file) (h .last) (h .count) [] (drop (line .next) file)) fields
-          ∙ (ap (readRules (length file) (headLast (first .f)) (headCount (first .f)) []) (ap (λ (n : ℕ). drop n file) told-next ∙ first .onward)
-          ∙ sym (read-head file (first .f) (first .rest) (first .is) headed))
-
-  -- of a file that is accepted the head is one
-  module _ (ok : verdict (readFile file) ≡ accepted) where
-    pub head-sound : line .sound ≡ true
-    head-sound = byBool (line .sound) (λ t. t) (λ t. no-decline 13 0 (head-malformed t ∙ ok))
-
-    pub head-ok : line .head .ok ≡ true
-    head-ok = byBool (line .head .ok) (λ t. t) (λ t. no-decline 14 0 (head-broken head-sound t ∙ ok))
