@@ -7,11 +7,11 @@ use mathlib.Core.List.{List, [], _∷_, _++_}
 use native.Mathlib.Omega.{arith}
 use lib.ListN.{length, set, length-set, length-append}
 use borrow.Rule.Slice.PartMut.{midOf, putMid, mid-len}
+use Rattle.rules.specs.Memory.{over}
+use Rattle.rules.proofs.Memory.{over-length, over-rest, over-snoc}
 use Rattle.image.specs.Image.{entriesOf}
-use Rattle.reading.specs.Speech.{over}
 use Rattle.tables.specs.Words.{rowsOf, setsOf, builtWords, builtSets}
 use Rattle.build.specs.Sides.{sideTable}
-use Rattle.build.proofs.Over.{over-length, over-snoc, over-tail}
 use Rattle.build.proofs.Whole.{rows-length, sets-length, words-are, sets-built}
 
 module _ (d : List ℕ) (l r : ℕ) (el : l ≡ sideTable d false .count) (er : r ≡ sideTable d true .count) where
@@ -47,7 +47,7 @@ module _ (d : List ℕ) (l r : ℕ) (el : l ≡ sideTable d false .count) (er : 
       w₂ = putMid 2 (length w₁ - 2) w₁ z
 
       is₂ : w₂ ≡ over (l ∷ r ∷ us) xs
-      is₂ = over-tail (l ∷ r ∷ []) xs us w₁ z 2 is₁ refl e
+      is₂ = over-rest (l ∷ r ∷ []) xs us w₁ z 2 is₁ refl e
 
       left-length : length (l ∷ r ∷ us) ≡ 2 + 64 * l
       left-length = omega (arith, us-length)
@@ -64,7 +64,7 @@ module _ (d : List ℕ) (l r : ℕ) (el : l ≡ sideTable d false .count) (er : 
         w₃ = putMid (2 + 64 * l) (length w₂ - (2 + 64 * l)) w₂ z′
 
         is₃ : w₃ ≡ over (l ∷ r ∷ (us ++ vs)) xs
-        is₃ = over-tail (l ∷ r ∷ us) xs vs w₂ z′ (2 + 64 * l) is₂ left-length e′
+        is₃ = over-rest (l ∷ r ∷ us) xs vs w₂ z′ (2 + 64 * l) is₂ left-length e′
 
         pub words : w₃ ≡ over (builtWords (entriesOf d)) xs
         words = is₃ ∙ ap (λ (x : List ℕ). over x xs) (words-are d l r el er)
@@ -85,7 +85,7 @@ module _ (d : List ℕ) (l r : ℕ) (el : l ≡ sideTable d false .count) (er : 
 
     module _ (z : List ℕ) (f : z ≡ over (setsOf (sideTable d true)) (midOf (8 * l) (length s - 8 * l) s)) where
       both-sets : putMid (8 * l) (length s - 8 * l) s z ≡ over (setsOf (sideTable d false) ++ setsOf (sideTable d true)) xs
-      both-sets = over-tail (setsOf (sideTable d false)) xs (setsOf (sideTable d true)) s z (8 * l) e left-sets f
+      both-sets = over-rest (setsOf (sideTable d false)) xs (setsOf (sideTable d true)) s z (8 * l) e left-sets f
 
       pub sets : putMid (8 * l) (length s - 8 * l) s z ≡ over (builtSets (entriesOf d)) xs
       sets = both-sets ∙ ap (λ (x : List ℕ). over x xs) (sets-built d)

@@ -1,5 +1,4 @@
 pub mod Symbols
 pub mod Laying
-pub mod Over
 pub mod Whole
 pub mod Joining

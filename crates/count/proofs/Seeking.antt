@@ -11,7 +11,8 @@ use lib.Dec.{eqb, eqb→eq}
 use lib.ListN.{length, getD, set, length-set}
 use lib.Seq.{getD-set-same, getD-set-other}
 use borrow.Author.Tests.{eqb-false, eq-eqb, ne-eqb}
-use Rattle.tables.proofs.Truth.{byBool, true-eq}
+use Rattle.rules.proofs.Cases.{byBool}
+use Rattle.tables.proofs.Truth.{true-eq}
 use Rattle.side.specs.Steps.{NewChild}
 use Rattle.side.specs.declared.Place.{Place}
 use Rattle.count.specs.Chains.{seek, childOf, Room, Chains, Alike, Descended}

@@ -9,17 +9,19 @@ use borrow.Author.Tests.{le-leb}
 use lib.Dec.{leb}
 use lib.ListN.{length, take, drop}
 use lib.Seq.{take-at}
+use Rattle.rules.specs.Memory.{over}
+use Rattle.rules.proofs.Cases.{byBool}
 use Rattle.rules.specs.Limits.{maxLetter}
 use Rattle.rules.specs.Shape.{allFrom}
 use Rattle.rules.specs.Refusals.{accepted}
 use Rattle.image.specs.State.{Ledger, start, rulesOf}
 use Rattle.image.specs.Image.{imageSize, ledgerOf, valid, entriesOf}
-use Rattle.image.proofs.Tests.{byBool, and-l, and-r, and-i}
+use Rattle.image.proofs.Tests.{and-l, and-r, and-i}
 use Rattle.edits.specs.Ledger.{afterAll}
 use Rattle.history.specs.Replay.{Replay, FromEmpty, Replayed, replayed}
 use Rattle.reading.specs.Fitting.{Str}
 use Rattle.reading.specs.Reading.{Reading, finished, stopped, plain}
-use Rattle.reading.specs.Speech.{phonesOf, numbersOf, over, delivered, judgedName, plainSaid}
+use Rattle.reading.specs.Speech.{phonesOf, numbersOf, delivered, judgedName, plainSaid}
 use Rattle.tables.specs.Words.{wordsFor, setsFor, Built, built}
 use Rattle.tables.specs.Walk.{Walked, walkSaid}
 use Rattle.tables.proofs.Steps.{Letters}

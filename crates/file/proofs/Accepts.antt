@@ -11,10 +11,11 @@ use native.Mathlib.Omega.{arith}
 use borrow.Author.Tests.{leb-true, eqb-true, le-leb}
 use lib.ListN.{length, getD, length-append}
 use lib.Dec.{leb, eqb}
+use Rattle.rules.proofs.Cases.{byBool}
 use Rattle.rules.specs.Shape.{Entry}
 use Rattle.frames.specs.Lines.{lineOf, framed, sumByte, Parsed, soundLine}
 use Rattle.frames.specs.Lines.Parsed.{Bad, Good}
-use Rattle.frames.proofs.Lines.{byBool, read-framed, sound-was, length-line}
+use Rattle.frames.proofs.Lines.{read-framed, sound-was, length-line}
 use Rattle.file.specs.Listing.{Listing, entry, entries, distinct, wellFormed}
 use Rattle.file.specs.File.{headBody, ruleBody, headLine, ruleLine, ruleLines, encode, headCount, headLast, isHead, isRule, ruleOf, fine, ruleFits, ended, readRules, readFile}
 use Rattle.file.specs.File.Read.{Accepted, Malformed, Broken}

@@ -6,11 +6,12 @@ use mathlib.Core.List.{List, []}
 use mathlib.Core.Bool.{true, false}
 use native.Mathlib.Omega.{arith}
 use lib.ListN.{length, take, drop}
+use Rattle.rules.specs.Memory.{over}
+use Rattle.rules.proofs.Cases.{byBool}
 use Rattle.rules.specs.Refusals.{accepted, declined}
 use Rattle.frames.specs.declared.Line.{Line}
-use Rattle.frames.specs.Lines.{Parsed, soundLine, decoded, report, over}
+use Rattle.frames.specs.Lines.{Parsed, soundLine, decoded, report}
 use Rattle.frames.specs.Lines.Parsed.{Bad, Good}
-use Rattle.frames.proofs.Lines.{byBool}
 use Rattle.frames.proofs.Report.{Found, found, not-found, frame-held}
 use Rattle.file.specs.declared.Head.{Head}
 use Rattle.file.specs.declared.HeadLine.{HeadLine}

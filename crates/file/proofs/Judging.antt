@@ -9,13 +9,13 @@ use lib.ListN.{length, getD, drop, set, replicate, length-drop, length-set, leng
 use lib.Seq.{drop-cons}
 use lib.Dec.{eqb}
 use lib.Bits.{bitOr}
+use Rattle.rules.proofs.Cases.{byBool}
 use Rattle.rules.specs.Shape.{pick, Entry}
 use Rattle.rules.specs.Refusals.{accepted, declined}
 use Rattle.rules.specs.declared.Numbered.{Numbered}
 use Rattle.image.specs.Bits.{bit, held}
 use Rattle.image.proofs.Bits.{bit-zero, put-in, held-put}
 use Rattle.frames.specs.Lines.{soundLine}
-use Rattle.frames.proofs.Lines.{byBool}
 use Rattle.file.specs.declared.Ruled.{Ruled}
 use Rattle.file.specs.declared.RuleLine.{RuleLine}
 use Rattle.file.specs.Listing.{entry, member}

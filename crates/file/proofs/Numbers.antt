@@ -6,8 +6,8 @@ use mathlib.Core.List.{List, [], _∷_, _++_}
 use mathlib.Core.Bool.{Bool, true, false}
 use borrow.Author.Tests.{eqb-true, eq-eqb}
 use lib.Dec.{eqb}
+use Rattle.rules.proofs.Cases.{byBool}
 use Rattle.rules.specs.Shape.{pick, Entry}
-use Rattle.frames.proofs.Lines.{byBool}
 use Rattle.file.specs.Listing.{entry, entries, member, distinct}
 use Rattle.file.specs.File.{fine}
 use Rattle.file.proofs.Bodies.{no, both}

@@ -10,10 +10,10 @@ use borrow.Author.Tests.{leb-true, eqb-true, le-leb, lt-leb, eq-eqb, ne-eqb}
 use lib.ListN.{length, getD, take, drop, set, length-drop, length-take}
 use lib.Seq.{take-suc, getD-drop, length-take-le, drop-drop}
 use lib.Dec.{leb, eqb}
+use Rattle.rules.proofs.Cases.{byBool}
 use Rattle.rules.specs.Shape.{pick, first, Production, view, shape}
 use Rattle.rules.specs.declared.Rule.{Rule}
 use Rattle.image.specs.Image.{two}
-use Rattle.frames.proofs.Lines.{byBool}
 use Rattle.file.specs.declared.Head.{Head}
 use Rattle.file.specs.declared.Ruled.{Ruled}
 use Rattle.file.specs.Listing.{entry}

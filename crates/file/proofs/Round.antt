@@ -15,6 +15,8 @@ use borrow.Author.Tests.{le-leb, leb-true}
 use lib.ListN.{length, getD, take, drop, length-append, length-drop, length-map}
 use lib.Seq.{take-append-seam}
 use lib.Dec.{leb, eqb}
+use Rattle.rules.specs.Memory.{over}
+use Rattle.rules.proofs.Cases.{byBool}
 use Rattle.rules.specs.Shape.{pick, Entry, entryOf}
 use Rattle.rules.specs.Refusals.{accepted}
 use Rattle.rules.specs.declared.Numbered.{Numbered}
@@ -22,8 +24,7 @@ use Rattle.image.specs.State as S
 use Rattle.image.specs.State.{Ledger}
 use Rattle.image.specs.Image.{imageSize, two, flat, slotStart, ledgerOf, entriesOf, laid, valid, Edited, outcome}
 use Rattle.image.proofs.Stored.{Fine, valid-by, valid-fine, listed-flat, length-flat}
-use Rattle.frames.specs.Lines.{over}
-use Rattle.frames.proofs.Lines.{Bytes, byBool}
+use Rattle.frames.proofs.Lines.{Bytes}
 use Rattle.file.specs.Listing.{Listing, entry, entries, member, distinct, wellFormed}
 use Rattle.file.specs.File.{encode, Read, readFile}
 use Rattle.file.specs.File.Read.{Accepted, Malformed, Broken}

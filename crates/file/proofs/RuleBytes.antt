@@ -6,12 +6,13 @@ use mathlib.Core.List.{List, [], _∷_, _++_, append-assoc}
 use native.Mathlib.Omega.{arith}
 use lib.ListN.{length, take, drop, length-append}
 use lib.Seq.{paste, take-length, take-at, drop-drop}
+use Rattle.rules.specs.Memory.{over, overAt}
+use Rattle.rules.proofs.Memory.{over-at}
 use Rattle.rules.specs.Shape.{first, entryOf}
 use Rattle.rules.specs.declared.Numbered.{Numbered}
 use Rattle.rules.proofs.Laws.{length-first, first-take}
-use Rattle.frames.specs.Lines.{framed, sumByte, over, overAt}
+use Rattle.frames.specs.Lines.{framed, sumByte}
 use Rattle.frames.proofs.Lines.{length-line}
-use Rattle.frames.proofs.Over.{over-at}
 use Rattle.file.specs.File.{ruleFront, ruleBody, ruleLine}
 use Rattle.file.specs.Loading.{Short}
 use Rattle.file.proofs.Accepts.{length-rule}

@@ -7,6 +7,7 @@ use native.Mathlib.Omega.{arith}
 use borrow.Author.Tests.{le-leb, lt-leb}
 use lib.ListN.{length, take, drop, length-append, length-drop, length-map, take-append-drop}
 use lib.Seq.{take-at, drop-append-add, drop-drop, length-take-le}
+use Rattle.rules.proofs.Cases.{byBool}
 use Rattle.rules.specs.Shape.{pick, Entry}
 use Rattle.rules.specs.Refusals.{accepted, declined}
 use Rattle.rules.specs.declared.Numbered.{Numbered}
@@ -16,7 +17,6 @@ use Rattle.image.proofs.Stored.{Each, length-flat}
 use Rattle.image.proofs.Stored.Each.{none, more}
 use Rattle.frames.specs.Lines.{Parsed, soundLine}
 use Rattle.frames.specs.Lines.Parsed.{Bad, Good}
-use Rattle.frames.proofs.Lines.{byBool}
 use Rattle.file.specs.declared.HeadLine.{HeadLine}
 use Rattle.file.specs.declared.RuleLine.{RuleLine}
 use Rattle.file.specs.Listing.{Listing, entry}

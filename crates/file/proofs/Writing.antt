@@ -9,6 +9,8 @@ use native.Mathlib.Numerals.{add-one}
 use borrow.Author.Tests.{le-leb, lt-leb}
 use lib.ListN.{length, getD, take, drop, length-append, length-map, take-append-drop}
 use lib.Seq.{take-suc, take-take, take-all, length-take-le, drop-append-add, drop-drop}
+use Rattle.rules.specs.Memory.{over, overAt}
+use Rattle.rules.proofs.Memory.{over-at, over-length}
 use Rattle.rules.specs.Shape.{Entry, view, entryOf}
 use Rattle.rules.specs.declared.Numbered.{Numbered}
 use Rattle.rules.proofs.Laws.{length-first}
@@ -16,8 +18,6 @@ use Rattle.image.specs.State.{entry, entries, noNumbered}
 use Rattle.image.specs.Image.{two, entriesOf, valid}
 use Rattle.image.proofs.Stored.{valid-fine}
 use Rattle.image.proofs.Scan.{rulesIn, slotIn, slot-get, length-listed}
-use Rattle.frames.specs.Lines.{over, overAt}
-use Rattle.frames.proofs.Over.{over-length, over-at}
 use Rattle.file.specs.File.{headLine, ruleLine, ruleLines, encode}
 use Rattle.file.specs.Loading.{listingOf, wrote, refused, filing, filed, Short}
 use Rattle.file.proofs.Bodies.{both, bounded, in-range}

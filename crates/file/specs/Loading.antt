@@ -5,13 +5,14 @@ use mathlib.Core.List.{List, [], map}
 use mathlib.Core.Bool.{Bool, true, false}
 use lib.ListN.{length, getD}
 use lib.Dec.{leb, eqb}
+use Rattle.rules.specs.Memory.{over}
 use Rattle.rules.specs.Shape.{pick, first, Production, Entry}
 use Rattle.rules.specs.Refusals.{refusalNumber, refusalPlace, Reply, accepted, declined}
 use Rattle.rules.specs.declared.Rule.{Rule}
 use Rattle.rules.specs.declared.Numbered.{Numbered}
 use Rattle.image.specs.State.{Ledger}
 use Rattle.image.specs.Image.{imageSize, two, laid, entriesOf, valid, Edited, outcome}
-use Rattle.frames.specs.Lines.{Parsed, over}
+use Rattle.frames.specs.Lines.{Parsed}
 use Rattle.frames.specs.Lines.Parsed.{Bad, Good}
 use Rattle.file.specs.declared.Written.{Written}
 use Rattle.file.specs.declared.Written.the-variants.{Bytes, Refused}

@@ -9,12 +9,13 @@ ghost use mathlib.Core.List.{_++_, [], map};
 ghost use Prim.Native.Nat.{_+_, _*_, _/_, _%_, _^_, _<_, _≤_};
 ghost use lib.ListN.{length, getD, take, drop, set, replicate};
 ghost use lib.Bits.{bitOr};
+ghost use Rattle.rules.specs.Memory.{over, overAt};
 ghost use Rattle.rules.specs.Shape.{first, entryOf};
 ghost use Rattle.rules.specs.Refusals.{replyOf, accepted};
 ghost use Rattle.image.specs.Bits.{held};
 ghost use Rattle.image.specs.State.{entries};
 ghost use Rattle.image.specs.Image.{slotStart, listed, flat, laid, outcome};
-ghost use Rattle.frames.specs.Lines.{soundLine, over, overAt};
+ghost use Rattle.frames.specs.Lines.{soundLine};
 ghost use Rattle.file.specs.File.{headLine, ruleFront, ruleBody, ruleLine, ruleLines, ruleOf, readRules, readFile};
 ghost use Rattle.file.specs.Loading.{ruleStruct, numberedOf, ledgerFor, verdict, described, loaded, reportOf, filing, filed, headIn, headAt, noneRuled, ruleFrame, ruledIn, ruleAt, Short};
 

@@ -8,12 +8,9 @@ use native.Mathlib.Omega.{arith}
 use borrow.Author.Tests.{ltb-true, ltb-false, leb-true, leb-false, eqb-true, lt-ltb, le-ltb, le-leb, lt-leb, eq-eqb, ne-eqb}
 use lib.ListN.{length, length-append}
 use lib.Dec.{leb, ltb, eqb}
+use Rattle.rules.proofs.Cases.{byBool}
 use Rattle.frames.specs.Lines.{digit, value, lineOf, total, sumByte, framed, Parsed, after, guard, readLine, checked, soundLine}
 use Rattle.frames.specs.Lines.Parsed.{Bad, Good}
-
-pub byBool {ℓ} : {A : Type ℓ} (b : Bool) → (b ≡ true → A) → (b ≡ false → A) → A
-byBool true f g = f refl
-byBool false f g = g refl
 
 -- ---- digits
 

@@ -9,10 +9,10 @@ use borrow.Author.Tests.{eq-eqb, ne-eqb, lt-ltb, le-ltb}
 use lib.ListN.{length, drop, getD, length-drop}
 use lib.Seq.{drop-cons}
 use lib.Dec.{ltb}
+use Rattle.rules.proofs.Cases.{byBool}
 use Rattle.frames.specs.declared.Pair.{Pair}
 use Rattle.frames.specs.Lines.{value, after, readLine, pairOf, decoded}
 use Rattle.frames.specs.Lines.Parsed.{Bad, Good}
-use Rattle.frames.proofs.Lines.{byBool}
 
 -- ---- a pair of digits
 

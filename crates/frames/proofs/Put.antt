@@ -7,9 +7,10 @@ use native.Mathlib.Numerals.{add-one}
 use native.Mathlib.Nat.{mod-add-mod}
 use lib.ListN.{length, take, getD, set, length-append, length-set}
 use lib.Seq.{take-suc, length-take-le, take-all}
-use Rattle.frames.specs.Lines.{digit, digits, lineOf, total, framed, over}
+use Rattle.rules.specs.Memory.{over}
+use Rattle.rules.proofs.Memory.{over-length, over-snoc}
+use Rattle.frames.specs.Lines.{digit, digits, lineOf, total, framed}
 use Rattle.frames.proofs.Lines.{total-append, sum-unique}
-use Rattle.frames.proofs.Over.{over-length, over-snoc}
 
 pub digits-append : (f g : List ℕ) → digits (f ++ g) ≡ digits f ++ digits g
 digits-append [] g = refl

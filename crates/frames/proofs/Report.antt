@@ -8,10 +8,12 @@ use native.Mathlib.Omega.{arith}
 use lib.ListN.{length, take, drop, length-append, length-drop}
 use lib.Seq.{drop-drop, drop-append-seam, take-append-seam, take-all}
 use lib.Dec.{leb, ltb, eqb}
+use Rattle.rules.specs.Memory.{over}
+use Rattle.rules.proofs.Cases.{byBool}
 use Rattle.frames.specs.declared.Line.{Line}
-use Rattle.frames.specs.Lines.{value, lineOf, total, Parsed, after, readLine, checked, soundLine, decoded, report, over}
+use Rattle.frames.specs.Lines.{value, lineOf, total, Parsed, after, readLine, checked, soundLine, decoded, report}
 use Rattle.frames.specs.Lines.Parsed.{Bad, Good}
-use Rattle.frames.proofs.Lines.{byBool, guard-good, sound-was, length-line}
+use Rattle.frames.proofs.Lines.{guard-good, sound-was, length-line}
 
 never : {A : Type 0} {f rest : List ℕ} → Bad ≡ Good f rest → A
 never e = let z : _≡_ {A = ℕ} 0 1 = cc in absurd (omega arith)

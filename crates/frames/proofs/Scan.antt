@@ -10,12 +10,14 @@ use borrow.Author.Tests.{eq-eqb, ne-eqb, leb-true, leb-false}
 use lib.ListN.{length, take, drop, getD, set, length-append, length-drop, length-take, drop-of-length-le}
 use lib.Seq.{getD-drop, drop-drop, drop-cons, take-all, take-append-le, set-out, length-take-le}
 use lib.Dec.{leb, eqb}
+use Rattle.rules.specs.Memory.{over}
+use Rattle.rules.proofs.Memory.{over-length, over-snoc}
+use Rattle.rules.proofs.Cases.{byBool}
 use Rattle.rules.specs.Shape.{pick}
 use Rattle.frames.specs.declared.Pair.{Pair}
-use Rattle.frames.specs.Lines.{total, Parsed, after, guard, readLine, checked, soundLine, pairOf, decoded, report, pastLine, lineAfter, over}
+use Rattle.frames.specs.Lines.{total, Parsed, after, guard, readLine, checked, soundLine, pairOf, decoded, report, pastLine, lineAfter}
 use Rattle.frames.specs.Lines.Parsed.{Bad, Good}
-use Rattle.frames.proofs.Lines.{byBool, total-append}
-use Rattle.frames.proofs.Over.{over-length, over-snoc}
+use Rattle.frames.proofs.Lines.{total-append}
 use Rattle.frames.proofs.Pairs.{read-pair, decoded-pair, read-unpaired, decoded-unpaired, read-end, decoded-end, pair-room}
 
 -- ---- the bytes in hand, before what a line goes on with

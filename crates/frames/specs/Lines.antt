@@ -95,13 +95,3 @@ pastLine (a ∷ s) = pick (eqb a 10) s (pastLine s)
 -- where the line after the one at `at` starts; the length where there is none
 unfoldable pub lineAfter : List ℕ → ℕ → ℕ
 lineAfter text at = length text - length (pastLine (drop at text))
-
--- ---- lent memory
-
--- ys, then what of xs lies past it
-abbrev pub over : List ℕ → List ℕ → List ℕ
-over ys xs = ys ++ drop (length ys) xs
-
--- the same from `at` on
-abbrev pub overAt : ℕ → List ℕ → List ℕ → List ℕ
-overAt at ys xs = take at xs ++ over ys (drop at xs)

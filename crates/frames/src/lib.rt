@@ -4,8 +4,9 @@ ghost use mathlib.Core.Bool.{Bool};
 ghost use Prim.Native.Nat.{_+_, _*_, _/_, _%_, _<_, _≤_};
 ghost use lib.Dec.{leb, eqb};
 ghost use lib.ListN.{length, take, drop, set};
+ghost use Rattle.rules.specs.Memory.{over, overAt};
 ghost use Rattle.rules.specs.Shape.{pick};
-ghost use Rattle.frames.specs.Lines.{digit, value, Parsed, lineOf, framed, soundLine, pairOf, decoded, report, lineAfter, over, overAt};
+ghost use Rattle.frames.specs.Lines.{digit, value, Parsed, lineOf, framed, soundLine, pairOf, decoded, report, lineAfter};
 
 // A line that was read: whether it is sound, where the next one starts and how many bytes its frame has, the checksum among them.
 pub struct Line {

@@ -10,6 +10,7 @@ use borrow.Author.Tests.{eq-eqb, ne-eqb, lt-leb, le-leb, lt-ltb, le-ltb, ltb-tru
 use lib.ListN.{length, getD, take, drop, set, length-set, length-drop, take-append-drop}
 use lib.Seq.{take-suc-set, drop-set-lt, drop-drop, take-all}
 use lib.Dec.{eqb, ltb}
+use Rattle.rules.proofs.Cases.{byBool}
 use Rattle.rules.specs.Shape.{pick}
 use Rattle.rules.specs.declared.Rule.{Rule}
 use Rattle.rules.specs.Refusals.{Reply, accepted, declined}
@@ -17,7 +18,6 @@ use Rattle.image.specs.State.{start}
 use Rattle.image.specs.Image.{laid, valid, Edited, outcome}
 use Rattle.edits.specs.Edits.{edited, imageAll, outAll, FilledEdit}
 use Rattle.edits.specs.Ledger.Edit.{Add, Drop, Move}
-use Rattle.image.proofs.Tests.{byBool}
 use Rattle.edits.proofs.History.{history, history-valid, issued-rise}
 use Rattle.history.specs.Code.{ruleOf, editOf, editsOf}
 use Rattle.history.specs.Replay.{codeOf, turns, taken, Replay, replaying, through, replayed, Replayed}

@@ -1,37 +1,18 @@
 -- The phones and the numbers of rules at places, written one rule at a time.
 -- Assumes nothing.
-use Prim.Native.Nat.{ℕ, suc, _+_, _*_, _≤_, _<_}
+use Prim.Native.Nat.{ℕ, _+_, _*_, _≤_, _<_}
 use mathlib.Core.Path.{_≡_, refl, sym, ap, ap₂, _∙_}
 use mathlib.Core.List.{List, [], _∷_, _++_, map, append-assoc, append-nil}
 use native.Mathlib.Omega.{arith}
 use native.Mathlib.Numerals.{add-one}
 use borrow.Author.Tests.{le-leb, lt-leb}
-use lib.ListN.{length, getD, take, drop, set, length-append, length-drop, length-map, take-append-drop}
-use lib.Seq.{drop-cons, take-suc, set-at, take-at, drop-at, drop-drop, paste, length-take-le, take-all}
+use lib.ListN.{length, getD, take, drop, set, length-append, length-map, take-append-drop}
+use lib.Seq.{take-suc, paste, length-take-le, take-all}
+use Rattle.rules.specs.Memory.{over}
+use Rattle.rules.proofs.Memory.{over-length, over-paste, over-snoc}
 use Rattle.rules.specs.Shape.{Entry}
 use Rattle.reading.specs.Reading.{finished}
-use Rattle.reading.specs.Speech.{phonesOf, numbersOf, spoken, refused, saying, over, delivered}
-
--- laws of `over`
-module _ (p xs : List ℕ) where
-  pub over-length : length p ≤ length xs → length (over p xs) ≡ length xs
-  over-length h = simp (length-append, length-drop) (omega arith)
-
-  pub over-snoc : (k a : ℕ) → length p ≡ k → k < length xs → set (over p xs) k a ≡ over (p ++ (a ∷ [])) xs
-  over-snoc k a e h =
-      let e₁ : drop (length p) xs ≡ getD xs k 0 ∷ drop (suc k) xs = ap (λ (n : ℕ). drop n xs) e ∙ drop-cons xs k 0 h in
-      let e₂ : length (p ++ (a ∷ [])) ≡ suc k = length-append p (a ∷ []) ∙ omega arith in
-      ap (λ (l : List ℕ). set (p ++ l) k a) e₁ ∙ (set-at p (getD xs k 0) (drop (suc k) xs) a k e
-      ∙ (sym (append-assoc p (a ∷ []) (drop (suc k) xs)) ∙ ap (λ (n : ℕ). (p ++ (a ∷ [])) ++ drop n xs) (sym e₂)))
-
-  pub over-paste : (k n : ℕ) (t : List ℕ) → length p ≡ k → n ≤ length t → paste (over p xs) k t n ≡ over (p ++ take n t) xs
-  over-paste k n t e h =
-      let a : take k (over p xs) ≡ p = take-at p (drop (length p) xs) k e in
-      let l : length (p ++ take n t) ≡ k + n = length-append p (take n t) ∙ ap₂ _+_ e (length-take-le n t h) in
-      let d : drop (k + n) (over p xs) ≡ drop (length (p ++ take n t)) xs =
-      sym (drop-drop n k (over p xs)) ∙ (ap (drop n) (drop-at p (drop (length p) xs) k e)
-      ∙ (drop-drop n (length p) xs ∙ ap (λ (m : ℕ). drop m xs) (ap (λ (m : ℕ). m + n) e ∙ sym l))) in
-      ap₂ (λ (u v : List ℕ). (u ++ take n t) ++ v) a d
+use Rattle.reading.specs.Speech.{phonesOf, numbersOf, spoken, refused, saying, delivered}
 
 -- one rule more
 map-append : {A B : Type 0} (f : A → B) (a b : List A) → map f (a ++ b) ≡ map f a ++ map f b

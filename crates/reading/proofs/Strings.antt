@@ -9,14 +9,11 @@ use borrow.Author.Tests.{leb-true, leb-false, eq-eqb, ne-eqb}
 use lib.Dec.{eqb, leb}
 use lib.ListN.{length, getD, take, drop, replicate, length-append, length-drop}
 use lib.Seq.{drop-cons, length-take-le, paste, take-nil, take-length, take-at}
+use Rattle.rules.proofs.Cases.{byBool}
 use Rattle.rules.specs.Shape.{first}
 use Rattle.reading.specs.Fitting.{Str, same, starts, ends, frame}
 
 -- tests
-
-pub byBool {ℓ} : {A : Type ℓ} (b : Bool) → (b ≡ true → A) → (b ≡ false → A) → A
-byBool true f g = f refl
-byBool false f g = g refl
 
 pub clash {ℓ} : {A : Type ℓ} {b : Bool} → b ≡ true → b ≡ false → A
 clash p q = absurd (true≢false (sym p ∙ q))

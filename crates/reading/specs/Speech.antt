@@ -5,6 +5,7 @@ use mathlib.Core.Bool.{Bool, true, false}
 use mathlib.Core.List.{List, [], _∷_, _++_, map}
 use lib.Dec.{leb}
 use lib.ListN.{length, drop}
+use Rattle.rules.specs.Memory.{over}
 use Rattle.rules.specs.Limits.{maxName, maxLetter}
 use Rattle.rules.specs.Shape.{pick, Entry}
 use Rattle.rules.specs.Refusals.{refusalNumber, refusalPlace}
@@ -40,10 +41,6 @@ pub record Said : Type 0 where
 
 abbrev pub saying : Told → List ℕ → List ℕ → Said
 saying t phones numbers = record { told = t; phones = phones; numbers = numbers }
-
--- ys at the front of memory that held xs: what lies past ys keeps its contents
-abbrev pub over : List ℕ → List ℕ → List ℕ
-over ys xs = ys ++ drop (length ys) xs
 
 -- 4 and 5: what was read goes into the lent memory where it has room; a refusal writes nothing
 abbrev pub delivered : Reading → List ℕ → List ℕ → Said

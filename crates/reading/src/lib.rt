@@ -5,11 +5,12 @@ ghost use mathlib.Core.Bool.{true};
 ghost use Prim.Native.Nat.{_+_, _<_, _≤_};
 ghost use lib.ListN.{length, take, drop};
 ghost use lib.Seq.{paste};
+ghost use Rattle.rules.specs.Memory.{over};
 ghost use Rattle.rules.specs.Shape.{first};
 ghost use Rattle.image.specs.Image.{two, entriesOf, valid};
 ghost use Rattle.reading.specs.Fitting.{same, starts, ends, frame, fits};
 ghost use Rattle.reading.specs.Reading.{finished, plain};
-ghost use Rattle.reading.specs.Speech.{phonesOf, numbersOf, toldOf, saying, over, delivered, judgedName, plainSaid};
+ghost use Rattle.reading.specs.Speech.{phonesOf, numbersOf, toldOf, saying, delivered, judgedName, plainSaid};
 ghost use Rattle.reading.specs.Places.{entryAt, entriesAt, Within, Judges, FitAt, ReadInto};
 
 // The answer of a call that speaks a name: how many phones and rule numbers it gave, or why it declined.

@@ -7,7 +7,8 @@ use mathlib.Core.Logic.{_≢_, _⊎_, inl, inr}
 use mathlib.Core.List.{List}
 use lib.Dec.{eqb, eqb→eq}
 use borrow.Author.Tests.{eqb-false}
-use Rattle.tables.proofs.Truth.{byBool, true-eq}
+use Rattle.rules.proofs.Cases.{byBool}
+use Rattle.tables.proofs.Truth.{true-eq}
 use lib.ListN.{length, getD, set, length-set}
 use lib.Seq.{getD-set-same, getD-set-other}
 use Rattle.side.specs.Wrote.{Wrote, Past}

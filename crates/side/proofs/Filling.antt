@@ -9,6 +9,7 @@ use mathlib.Core.List.{List, [], tail}
 use lib.Bits.{bitOr}
 use lib.ListN.{length, getD, take, drop, length-append, length-take, length-drop, List·getD-append}
 use lib.Seq.{take-all, ext-getD, getD-append-add, getD-drop}
+use Rattle.rules.specs.Memory.{over}
 use Rattle.reading.specs.Fitting.{Str}
 use Rattle.tables.specs.States.{states, member, index, longest, numbered}
 use Rattle.tables.proofs.Trie.{failure}
@@ -19,7 +20,6 @@ use Rattle.side.specs.Patterns.{patternsOf, Patterns, stateCount}
 use Rattle.side.specs.Wrote.{Wrote, Past}
 use Rattle.side.specs.Steps.{cell, run, part, Inside, Symbols, Numbered}
 use Rattle.side.specs.Filled.{Level, Final, Owned, Finished, sideRows, sideSets}
-use Rattle.reading.specs.Speech.{over}
 use Rattle.side.proofs.Inserting.{patterns-length, pattern-length}
 use Rattle.side.proofs.Parts.{patterns-at, part-is, part-tail, small-part, symbols-of, symbols-rest}
 use Rattle.side.proofs.Levels.{Cells, level-cells, numbered-cells, inside, run-own, run-fail}

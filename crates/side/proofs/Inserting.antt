@@ -12,10 +12,11 @@ use lib.Dec.{eqb, eqb→eq}
 use lib.ListN.{length, getD, take, drop, length-append, length-take, length-drop, take-append-drop}
 use lib.Seq.{append-snoc, take-suc, take-all, getD-take, getD-drop}
 use borrow.Author.Tests.{eqb-false}
+use Rattle.rules.proofs.Cases.{byBool}
 use Rattle.reading.specs.Fitting.{Str}
 use Rattle.tables.specs.States.{member, index, numberOne, states, numbered}
 use Rattle.tables.proofs.Trie.{distinct, child, insert}
-use Rattle.tables.proofs.Truth.{byBool, clash, true-eq}
+use Rattle.tables.proofs.Truth.{clash, true-eq}
 use Rattle.tables.proofs.Suffix.{same-refl, Closed}
 use Rattle.tables.proofs.Count.{Within, states-length}
 use Rattle.tables.proofs.Numbering.{member-append, getD-index, index-lt, index-new, numbered-closed, numbered-nil, numbered-pattern, distinct-states, index-nil}

@@ -11,10 +11,11 @@ use lib.Dec.{eqb, eqb→eq}
 use lib.Bits.{bitOr}
 use lib.ListN.{length, getD, take, length-append}
 use lib.Seq.{append-snoc}
+use Rattle.rules.proofs.Cases.{byBool}
 use Rattle.reading.specs.Fitting.{Str, same, starts, ends}
 use Rattle.tables.specs.States.{longest, member, index, states, numbered, entry}
 use Rattle.tables.proofs.Trie.{child, failure, startsAny}
-use Rattle.tables.proofs.Truth.{byBool, clash, true-eq, and-left, and-right}
+use Rattle.tables.proofs.Truth.{clash, true-eq, and-left, and-right}
 use Rattle.tables.proofs.Suffix.{same-refl, Closed, longest-passes}
 use Rattle.tables.proofs.Symbols.{Small}
 use Rattle.tables.specs.Words.{pack}

@@ -13,9 +13,10 @@ use lib.Bits.{bitOr}
 use lib.ListN.{length, getD, take, length-take}
 use lib.Seq.{take-suc}
 use borrow.Author.Tests.{eqb-false, ne-eqb, eq-eqb}
+use Rattle.rules.proofs.Cases.{byBool}
 use Rattle.reading.specs.Fitting.{Str, same}
 use Rattle.tables.specs.States.{member, index, states}
-use Rattle.tables.proofs.Truth.{byBool, true-eq}
+use Rattle.tables.proofs.Truth.{true-eq}
 use Rattle.tables.proofs.Suffix.{same-refl, same-eq}
 use Rattle.tables.specs.Words.{pack}
 use Rattle.tables.proofs.Numbering.{getD-index, index-getD, distinct-states}

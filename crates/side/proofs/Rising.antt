@@ -11,10 +11,11 @@ use mathlib.Core.List.{List, [], _∷_, tail}
 use lib.Dec.{eqb, eqb→eq, eqb-refl}
 use lib.ListN.{length, getD, take, length-take}
 use borrow.Author.Tests.{eqb-false}
+use Rattle.rules.proofs.Cases.{byBool}
 use Rattle.reading.specs.Fitting.{Str, same, starts}
 use Rattle.tables.specs.States.{longest, member, index, states, numbered, entry}
 use Rattle.tables.proofs.Trie.{child, failure, startsAny}
-use Rattle.tables.proofs.Truth.{byBool, true-eq, eq-true}
+use Rattle.tables.proofs.Truth.{true-eq, eq-true}
 use Rattle.tables.proofs.Suffix.{same-refl, longest-passes}
 use Rattle.tables.proofs.Numbering.{getD-index, index-lt, index-getD, numbered-closed, numbered-nil, numbered-is, distinct-states, index-nil}
 use Rattle.tables.proofs.Build.{failure-shorter}

@@ -5,12 +5,12 @@ ghost use mathlib.Core.Bool.{cond};
 ghost use lib.Dec.{eqb};
 ghost use lib.Bits.{bitOr};
 ghost use lib.ListN.{length, getD};
+ghost use Rattle.rules.specs.Memory.{over};
 ghost use Rattle.side.specs.Patterns.{patternsOf, Patterns, stateCount};
 ghost use Rattle.side.specs.Wrote.{Wrote, Past};
 ghost use Rattle.side.specs.Steps.{cell, run, part, Inside, Symbols, Descended, Numbered, Counted, completed, united};
 ghost use Rattle.tables.specs.States.{states};
 ghost use Rattle.side.specs.Filled.{Level, Owned, Finished, sideRows, sideSets};
-ghost use Rattle.reading.specs.Speech.{over};
 
 fn wide(x: u8) -> usize
     ensures { λ r. ⌜ r ≡ x ⌝ }

@@ -9,9 +9,10 @@ use mathlib.Core.List.{List, [], _∷_, _++_, map, append-nil, append-assoc}
 use lib.Dec.{eqb, eqb→eq}
 use lib.Seq.{append-snoc, getD-append-seam}
 use lib.ListN.{length, getD, List·getD-append}
+use Rattle.rules.proofs.Cases.{byBool}
 use Rattle.reading.specs.Fitting.{Str, same, ends}
 use Rattle.tables.specs.States.{longest, member, index, numberOne, numberAll, prefixes, allPrefixes, states, numbered, entry}
-use Rattle.tables.proofs.Truth.{byBool, clash, contra, true-eq, and-right}
+use Rattle.tables.proofs.Truth.{clash, contra, true-eq, and-right}
 use Rattle.tables.proofs.Suffix.{same-refl, same-eq, same-snoc, snoc-not-nil, Closed, longest-snoc, longest-fail, longest-self, longest-passes, longest-length, ends-fail}
 use Rattle.tables.proofs.Trie.{distinct, failure, child, insert}
 use Rattle.tables.proofs.Numbering.{member-append, member-one, getD-index, index-append, index-new, index-getD, numbered-nil}

@@ -8,6 +8,7 @@ use mathlib.Core.List.{List, [], _∷_, _++_, reverse}
 use lib.Dec.{ltb, leb}
 use lib.ListN.{length, getD, take, drop}
 use borrow.Author.Tests.{ltb-false, ltb-true, leb-true, le-leb, lt-leb, lt-ltb}
+use Rattle.rules.proofs.Cases.{byBool}
 use Rattle.rules.specs.Shape.{Entry}
 use Rattle.rules.specs.Refusals.{refusalNumber, refusalPlace}
 use Rattle.rules.specs.declared.Refusal.{Refusal}
@@ -22,7 +23,7 @@ use Rattle.reading.specs.declared.Speech.the-variants.{Refused}
 use Rattle.tables.specs.Tables.{Table}
 use Rattle.tables.specs.Words.{tableAt, leftCount, rightCount}
 use Rattle.tables.specs.Walk.{Step as State, step, pass, allBelow, lookup, lowest, places, walk, walkSteps, walkWords, Walked, counted, walkedAs, walkSaid}
-use Rattle.tables.proofs.Truth.{byBool, clash, and-left, and-right}
+use Rattle.tables.proofs.Truth.{clash, and-left, and-right}
 use Rattle.tables.proofs.Sets.{choice-tables}
 use Rattle.reading.specs.Places.{entriesAt}
 use Rattle.walk.specs.Passes.{Symbols, rowsAt, leftOn, rightOn, Passed}

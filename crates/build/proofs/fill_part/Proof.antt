@@ -6,7 +6,7 @@ use Prim.Native.Nat.{ℕ, _*_, _≤_}
 use native.Mathlib.Omega.{arith}
 use borrow.Author.Needs.{needs}
 use lib.ListN.{length}
-use Rattle.reading.specs.Speech.{over}
+use Rattle.rules.specs.Memory.{over}
 use Rattle.side.specs.Patterns.{stateCount}
 use Rattle.build.proofs.Whole.{side-ok, side-count, side-rows, side-sets}
 use Rattle.build.proofs.fill_part.Statement.{statement}

@@ -5,7 +5,8 @@ use mathlib.Core.List.{List}
 use mathlib.Core.Path.{_≡_, sym, ap, _∙_}
 use native.Mathlib.Omega.{arith}
 use lib.Seq.{length-take-le}
-use Rattle.frames.specs.Lines.{lineOf, framed, overAt}
+use Rattle.rules.specs.Memory.{overAt}
+use Rattle.frames.specs.Lines.{lineOf, framed}
 use Rattle.file.proofs.RuleBytes.{body-short, line-size, body-front}
 use borrow.Author.Needs.{needs}
 use Rattle.file.proofs.write_rule.Statement.{statement}

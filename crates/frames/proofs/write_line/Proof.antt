@@ -1,8 +1,8 @@
 -- `frames::write_line` meets its contract: the part from `at` on is overlaid by `put_line`. Assumes nothing.
 use native.Mathlib.Omega.{arith}
+use Rattle.rules.proofs.Memory.{over-tail}
 use Rattle.frames.specs.Lines.{lineOf, framed}
 use borrow.Author.Needs.{needs}
-use Rattle.frames.proofs.Over.{over-tail}
 use Rattle.frames.proofs.write_line.Statement.{statement}
 use Rattle.frames.proofs.write_line.Tie as tie
 
