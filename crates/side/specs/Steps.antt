@@ -70,6 +70,7 @@ pub record Step (look look′ : ℕ → ℕ → ℕ) (q n c r m : ℕ) : Type 0 
   pub found : (look q c ≡ 0 → ⊥) → (r ≡ look q c) × ((m ≡ n) × ((k e : ℕ) → k < n → e < 64 → look′ k e ≡ look k e))
   pub made : look q c ≡ 0 → (r ≡ n) × ((m ≡ n + 1) × NewChild look look′ q n c)
 
+-- the first n patterns have r states, whose rows hold their children; what lies past these rows is kept
 pub record Counted (ps ls : List ℕ) (n : ℕ) (xs : List ℕ) (r : ℕ) (ys : List ℕ) : Type 0 where
   pub count : r ≡ length (states (patternsOf ps ls n))
   pub rows : Numbered (states (patternsOf ps ls n)) ys

@@ -38,6 +38,7 @@ fn clear_row(rows: &mut [u16], at: usize)
     }
 }
 
+// Where the numbering of a pattern stands: the state of its symbols so far, and how many states there are.
 pub struct Place {
     pub state: usize,
     pub count: usize,
@@ -86,7 +87,7 @@ fn number_one(rows: &mut [u16], pats: &[u8], lens: &[u8], i: usize, count: usize
 }
 
 // The prefixes of n patterns are numbered, and each row holds its state's children.
-pub fn number_all(rows: &mut [u16], pats: &[u8], lens: &[u8], n: usize) -> usize
+fn number_all(rows: &mut [u16], pats: &[u8], lens: &[u8], n: usize) -> usize
     requires { ⌜ Patterns (now pats) (now lens) n × (64 * stateCount (now pats) (now lens) n ≤ length (now rows)) ⌝ }
     ensures { λ r. ⌜ Counted (now (pats .entry)) (now (lens .entry)) n (now (rows .entry)) r (now (rows .exit)) ⌝ }
 {
