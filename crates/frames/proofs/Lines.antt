@@ -28,6 +28,28 @@ value-digit d h =
       rw (e, le-leb 48 (55 + d) (omega arith), lt-leb (55 + d) 57 (omega arith), le-leb 65 (55 + d) (omega arith), le-leb (55 + d) 70 (omega arith)) (omega arith),
     ))
 
+-- the number of a character, as it is computed
+module _ (a : ℕ) where
+  pub value-low : a < 48 → 16 ≡ value a
+  unfolding value
+  value-low h = rw (lt-leb 48 a h)
+
+  pub value-high : 70 < a → 16 ≡ value a
+  unfolding value
+  value-high h = rw (le-leb 48 a (omega arith), lt-leb a 57 (omega arith), le-leb 65 a (omega arith), lt-leb a 70 h)
+
+  module _ (l : 48 ≤ a) (h : a ≤ 70) (m : ℕ) (b : m < 256) (e : (m + 58) % 256 ≡ a) where
+    pub value-between : m < 7 → 16 ≡ value a
+    unfolding value
+    value-between k = rw (le-leb 48 a l, lt-leb a 57 (omega arith), lt-leb 65 a (omega arith))
+
+    pub value-formula : 7 ≤ m → a % 16 + 9 * (a / 64) ≡ value a
+    unfolding value
+    value-formula k =
+        byBool (leb a 57)
+        (λ t. let u = leb-true a 57 t in rw (le-leb 48 a l, t) (omega arith))
+        (λ t. let u = leb-false a 57 t in rw (le-leb 48 a l, t, le-leb 65 a (omega arith), le-leb a 70 h) (omega arith))
+
 -- what has a number below 16 is its digit
 pub digit-value : (a : ℕ) → value a < 16 → digit (value a) ≡ a
 unfolding digit value
