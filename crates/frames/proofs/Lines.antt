@@ -1,15 +1,14 @@
 -- A line is read as the frame that it was written from, and only such a line is read.
 -- Assumes nothing.
-use Prim.Native.Nat.{ℕ, zero, suc, _+_, _-_, _*_, _/_, _%_, _≤_, _<_}
-use mathlib.Core.Path.{_≡_, refl, sym, ap, ap₂, _∙_}
-use mathlib.Core.List.{List, [], _∷_, _++_, append-assoc}
+use Prim.Native.Nat.{ℕ, zero, _+_, _-_, _*_, _/_, _%_, _≤_, _<_}
+use mathlib.Core.Path.{_≡_, refl, ap, _∙_}
+use mathlib.Core.List.{List, [], _∷_, _++_}
 use mathlib.Core.Bool.{Bool, true, false}
 use native.Mathlib.Omega.{arith}
-use borrow.Author.Tests.{ltb-true, ltb-false, leb-true, leb-false, eqb-true, eqb-false, lt-ltb, le-ltb, le-leb, lt-leb, eq-eqb, ne-eqb}
+use borrow.Author.Tests.{ltb-true, ltb-false, leb-true, leb-false, eqb-true, lt-ltb, le-ltb, le-leb, lt-leb, eq-eqb, ne-eqb}
 use lib.ListN.{length, length-append}
 use lib.Dec.{leb, ltb, eqb}
-use Rattle.rules.specs.Shape.{pick}
-use Rattle.frames.specs.Lines.{digit, value, digits, lineOf, total, sumByte, framed, Parsed, after, guard, readLine, checked, soundLine}
+use Rattle.frames.specs.Lines.{digit, value, lineOf, total, sumByte, framed, Parsed, after, guard, readLine, checked, soundLine}
 use Rattle.frames.specs.Lines.Parsed.{Bad, Good}
 
 pub byBool {ℓ} : {A : Type ℓ} (b : Bool) → (b ≡ true → A) → (b ≡ false → A) → A

@@ -1,13 +1,13 @@
 -- What stands in the lent bytes while a line is written. Assumes nothing.
-use Prim.Native.Nat.{ℕ, zero, suc, _+_, _-_, _*_, _/_, _%_, _≤_, _<_}
+use Prim.Native.Nat.{ℕ, _+_, _*_, _/_, _%_, _≤_, _<_}
 use mathlib.Core.Path.{_≡_, refl, sym, ap, _∙_, subst}
 use mathlib.Core.List.{List, [], _∷_, _++_, append-assoc}
 use native.Mathlib.Omega.{arith}
 use native.Mathlib.Numerals.{add-one}
 use native.Mathlib.Nat.{mod-add-mod}
-use lib.ListN.{length, take, drop, getD, set, length-append, length-set}
+use lib.ListN.{length, take, getD, set, length-append, length-set}
 use lib.Seq.{take-suc, length-take-le, take-all}
-use Rattle.frames.specs.Lines.{digit, digits, lineOf, total, sumByte, framed, over}
+use Rattle.frames.specs.Lines.{digit, digits, lineOf, total, framed, over}
 use Rattle.frames.proofs.Lines.{total-append, sum-unique}
 use Rattle.frames.proofs.Over.{over-length, over-snoc}
 

@@ -1,16 +1,15 @@
 -- What the report of a line tells: of a sound one its frame, what follows it, and that the frame stands in the lent bytes that hold it.
 -- Assumes nothing.
-use Prim.Native.Nat.{ℕ, _+_, _-_, _*_, _%_, _≤_, _<_}
+use Prim.Native.Nat.{ℕ, _+_, _-_, _*_, _%_, _≤_}
 use mathlib.Core.Path.{_≡_, refl, sym, ap, _∙_}
-use mathlib.Core.List.{List, [], _∷_, _++_}
-use mathlib.Core.Bool.{Bool, true, false}
+use mathlib.Core.List.{List, [], _∷_}
+use mathlib.Core.Bool.{true, false}
 use native.Mathlib.Omega.{arith}
 use lib.ListN.{length, take, drop, length-append, length-drop}
 use lib.Seq.{drop-drop, drop-append-seam, take-append-seam, take-all}
 use lib.Dec.{leb, ltb, eqb}
-use Rattle.rules.specs.Shape.{pick}
 use Rattle.frames.specs.declared.Line.{Line}
-use Rattle.frames.specs.Lines.{value, lineOf, total, Parsed, after, guard, readLine, checked, soundLine, decoded, report, over}
+use Rattle.frames.specs.Lines.{value, lineOf, total, Parsed, after, readLine, checked, soundLine, decoded, report, over}
 use Rattle.frames.specs.Lines.Parsed.{Bad, Good}
 use Rattle.frames.proofs.Lines.{byBool, guard-good, sound-was, length-line}
 
@@ -56,6 +55,7 @@ pub record Found (text : List ℕ) (at : ℕ) (line : Line) : Type 0 where
   pub rest : List ℕ
   pub is : soundLine (drop at text) ≡ Good f rest
   pub many : line .len ≡ length f
+  pub next : line .next ≡ length text - length rest
   pub onward : drop (line .next) text ≡ rest
   pub within : line .next ≤ length text
 
@@ -71,6 +71,7 @@ module _ (text : List ℕ) (at : ℕ) (line : Line) where
         rest = rest;
         is = p;
         many = ap (λ (r : Line). r .len) e;
+        next = ap (λ (r : Line). r .next) e;
         onward =
             ap (λ (k : ℕ). drop k text) m
             ∙ (sym (drop-drop (length (lineOf f)) at text) ∙ (ap (drop (length (lineOf f))) w ∙ drop-append-seam (lineOf f) rest));

@@ -1,7 +1,7 @@
 // A frame as a line: upper-case hexadecimal with a checksum, ended by 0A (document 01, "The rule file").
 ghost use mathlib.Core.Path.{_≡_};
 ghost use mathlib.Core.Bool.{Bool};
-ghost use Prim.Native.Nat.{ℕ, _+_, _*_, _/_, _%_, _<_, _≤_};
+ghost use Prim.Native.Nat.{_+_, _*_, _/_, _%_, _<_, _≤_};
 ghost use lib.Dec.{leb, eqb};
 ghost use lib.ListN.{length, take, drop, set};
 ghost use Rattle.rules.specs.Shape.{pick};
@@ -15,9 +15,9 @@ pub struct Line {
 }
 
 // Two digits that were read: whether they are, and their byte.
-pub struct Pair {
-    pub ok: bool,
-    pub byte: u8,
+struct Pair {
+    ok: bool,
+    byte: u8,
 }
 
 // The digit of a number below 16.

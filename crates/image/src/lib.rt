@@ -107,7 +107,7 @@ fn bytes_of(x: Numbered) -> [u8; 26]
 }
 
 // The bytes of `b` are stored from `at` on.
-fn put(s: &mut [u8], at: usize, b: &[u8])
+pub fn put(s: &mut [u8], at: usize, b: &[u8])
     requires { ⌜ at + length (now b) ≤ length (now s) ⌝ }
     ensures { λ _. ⌜ now (s .exit) ≡ paste (now (s .entry)) at (now (b .entry)) (length (now (b .entry))) ⌝ }
 {
@@ -171,14 +171,14 @@ fn entries_valid(image: &[u8], count: usize, last: u16) -> bool
     true
 }
 
-fn has_bit(word: u64, k: u64) -> bool
+pub fn has_bit(word: u64, k: u64) -> bool
     requires { ⌜ k < 64 ⌝ }
     ensures { λ r. ⌜ r ≡ bit word k ⌝ }
 {
     (word >> k) % 2 == 1
 }
 
-fn with_bit(word: u64, k: u64) -> u64
+pub fn with_bit(word: u64, k: u64) -> u64
     requires { ⌜ k < 64 ⌝ }
     ensures { λ r. ⌜ r ≡ bitOr word (2 ^ k) ⌝ }
 {

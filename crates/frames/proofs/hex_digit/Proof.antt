@@ -1,4 +1,5 @@
-use borrow.Author.Tests.{lt-ltb, le-ltb, le-leb, lt-leb}
+-- `frames::hex_digit` meets its contract: the test decides. Assumes nothing.
+use borrow.Author.Tests.{lt-ltb, le-ltb}
 use Rattle.frames.specs.Lines.{digit}
 use borrow.Author.Needs.{needs}
 use Rattle.frames.proofs.hex_digit.Statement.{statement}

@@ -1,4 +1,5 @@
-use borrow.Author.Tests.{lt-ltb, le-ltb, le-leb, lt-leb}
+-- `frames::hex_value` meets its contract: the tests in turn. Assumes nothing.
+use borrow.Author.Tests.{le-leb, lt-leb}
 use Rattle.frames.specs.Lines.{value}
 use borrow.Author.Needs.{needs}
 use Rattle.frames.proofs.hex_value.Statement.{statement}

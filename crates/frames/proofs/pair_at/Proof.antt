@@ -1,9 +1,5 @@
-use Rattle.frames.proofs.Scan.{pair-short, pair-high, pair-low, pair-found}
-use lib.ListN.{length, getD}
-use borrow.Author.Tests.{lt-ltb, le-ltb, le-leb, lt-leb, eq-eqb, ne-eqb, not-true, not-false}
-use mathlib.Core.Bool.{Bool, true, false}
-use Prim.Native.Nat.{ℕ, _+_, _-_, _*_, _≤_, _<_}
-use mathlib.Core.Path.{_≡_, refl, sym, ap, _∙_, subst}
+-- `frames::pair_at` meets its contract: the tests in turn. Assumes nothing.
+use Rattle.frames.proofs.Pairs.{pair-short, pair-high, pair-low, pair-found}
 use denote.Ref.{now}
 use native.Mathlib.Omega.{arith}
 use borrow.Author.Needs.{needs}

@@ -1,10 +1,4 @@
-use lib.ListN.{length, getD}
-use borrow.Author.Tests.{lt-ltb, le-ltb, le-leb, lt-leb, eq-eqb, ne-eqb, not-true, not-false}
-use mathlib.Core.Bool.{Bool, true, false}
-use Prim.Native.Nat.{ℕ, _+_, _-_, _*_, _≤_, _<_}
-use mathlib.Core.Path.{_≡_, refl, sym, ap, _∙_, subst}
-use denote.Ref.{now}
-use native.Mathlib.Omega.{arith}
+-- `frames::put_byte` meets its contract: two digits. Assumes nothing.
 use borrow.Author.Needs.{needs}
 use Rattle.frames.proofs.put_byte.Statement.{statement}
 use Rattle.frames.proofs.put_byte.Tie as tie

@@ -1,8 +1,9 @@
+-- `frames::put_line` meets its contract. The loop's invariant: the digits of the bytes so far are written, and the sum so far makes them
+-- add to zero. Assumes nothing.
 use Rattle.frames.proofs.Put.{Put, put-start, put-length, put-next, put-kept, put-done}
-use lib.ListN.{length, getD, length-set}
-use mathlib.Core.Bool.{Bool, true, false}
-use Prim.Native.Nat.{ℕ, _+_, _-_, _*_, _≤_, _<_}
-use mathlib.Core.Path.{_≡_, refl, sym, ap, _∙_, subst}
+use lib.ListN.{length, length-set}
+use Prim.Native.Nat.{_-_}
+use mathlib.Core.Path.{refl, _∙_}
 use denote.Ref.{now}
 use native.Mathlib.Omega.{arith}
 use borrow.Author.Needs.{needs}

@@ -1,5 +1,4 @@
 -- `frames::write_line` meets its contract: the part from `at` on is overlaid by `put_line`. Assumes nothing.
-use mathlib.Core.Path.{refl}
 use native.Mathlib.Omega.{arith}
 use Rattle.frames.specs.Lines.{lineOf, framed}
 use borrow.Author.Needs.{needs}

@@ -1,0 +1,13 @@
+pub mod Bodies
+pub mod Numbers
+pub mod Accepts
+pub mod Parts
+pub mod FirstLine
+pub mod NextLine
+pub mod Judging
+pub mod Storing
+pub mod RuleBytes
+pub mod Writing
+pub mod Example
+pub mod Round
+pub mod Longest
