@@ -272,7 +272,10 @@ fn has_next(names: &[u8], at: usize, count: usize, limit: usize) -> bool
         return false;
     }
     let left = names.len() - at - 1;
-    wide(names[at]) <= left
+    if left < wide(names[at]) {
+        return false;
+    }
+    true
 }
 
 // A reply, from `at` on.

@@ -1,31 +1,26 @@
+-- `host::pirrozketa_move` meets its contract.
+-- Assumes nothing.
+use Rattle.host.proofs.Reports.{code-is, place-is, image-is}
 use borrow.Author.Needs.{needs}
 use Rattle.host.proofs.pirrozketa_move.Statement.{statement}
 use Rattle.host.proofs.pirrozketa_move.Tie as tie
-use Rattle.host.proofs.pirrozketa_move.Reads as reads
-use Rattle.host.proofs.pirrozketa_move.Lts as lts
-use Rattle.edits.proofs.move_rule.Reads as move-rule-reads
-use Rattle.host.proofs.code_of.Reads as code-of-reads
-use Rattle.host.proofs.place_in.Reads as place-in-reads
 
--- src/lib.rt:190:9
 move-rule-requires : tie.Need-move-rule-requires
 move-rule-requires c κs = search needs
 
--- src/lib.rt:191:14
 place-in-requires : tie.Need-place-in-requires
 place-in-requires c κs = search needs
 
--- src/lib.rt:192:5
 code-of-requires : tie.Need-code-of-requires
 code-of-requires c κs = search needs
 
--- src/lib.rt:184:1
 same-length : tie.Need-same-length
 same-length c = search needs
 
--- src/lib.rt:184:1
 returns : tie.Need-returns
-returns c = ?
+returns c =
+    let h = c .before .before .before .before .move-rule .ensures in
+    (code-is _ _ _ h _ (c .code-of .ensures), (place-is _ _ _ h _ (c .before .place-in .ensures), image-is _ _ _ h))
 
 pub pirrozketa-move-spec : {M : Type 1} → statement M
 pirrozketa-move-spec =
