@@ -8,12 +8,13 @@ use mathlib.Core.List.{List, [], _∷_}
 use native.Mathlib.Omega.{arith}
 use lib.Dec.{leb, ltb}
 use lib.ListN.{length, getD}
+use borrow.Author.Tests.{lt-leb, le-leb, lt-ltb, le-ltb}
 use Rattle.rules.specs.Shape.{pick}
 use Rattle.image.specs.Image.{valid, entriesOf}
 use Rattle.reading.specs.Fitting.{Str}
 use Rattle.reading.specs.Reading.{Reading, stopped}
 use Rattle.reading.specs.Speech.{letter, saying, refused, delivered, judgedLetters, judgedName}
-use Rattle.tables.specs.Words.{leftOf, rightOf, leftCount, rightCount}
+use Rattle.tables.specs.Words.{leftOf, rightOf, neededWords, neededSets}
 use Rattle.tables.specs.Walk.{Walked, walk, walkSteps, walkedAs, walkWords, walkSaid, lengthsFit}
 use Rattle.tables.proofs.Truth.{byBool}
 use Rattle.walk.specs.Walked.{lengthsFor, leftFor, rightFor, walkFor}
@@ -28,17 +29,55 @@ pub count-no : (ws ss : List ℕ) (at : ℕ) → lengthsFit ws ss ≡ false → 
 unfolding countIn
 count-no ws ss at h = ap (λ (t : Bool). pick t (getD ws at 0) 0) h
 
+-- the length tests, one by one
+and-off : (a b : Bool) → b ≡ false → a && b ≡ false
+and-off true b h = h
+and-off false b h = refl
+
+module _ (ws ss : List ℕ) where
+  abbrev l : ℕ
+  l = getD ws 0 0
+
+  abbrev r : ℕ
+  r = getD ws 1 0
+
+  pub no-counts : length ws < 2 → lengthsFit ws ss ≡ false
+  no-counts h = rw (lt-leb 2 (length ws) h) refl
+
+  pub no-left : l < 1 → lengthsFit ws ss ≡ false
+  no-left h =
+      let e : ltb 0 l ≡ false = le-ltb 0 l (omega (arith, h)) in
+      and-off (leb 2 (length ws)) _ (ap (λ (t : Bool). t && (ltb 0 r && (leb (neededWords l r) (length ws) && leb (neededSets l r) (length ss)))) e)
+
+  pub no-right : r < 1 → lengthsFit ws ss ≡ false
+  no-right h =
+      let e : ltb 0 r ≡ false = le-ltb 0 r (omega (arith, h)) in
+      and-off (leb 2 (length ws)) _ (and-off (ltb 0 l) _ (ap (λ (t : Bool). t && (leb (neededWords l r) (length ws) && leb (neededSets l r) (length ss))) e))
+
+  pub no-words : length ws < neededWords l r → lengthsFit ws ss ≡ false
+  no-words h =
+      let e : leb (neededWords l r) (length ws) ≡ false = lt-leb (neededWords l r) (length ws) h in
+      and-off (leb 2 (length ws)) _ (and-off (ltb 0 l) _ (and-off (ltb 0 r) _ (ap (λ (t : Bool). t && leb (neededSets l r) (length ss)) e)))
+
+  pub no-sets : length ss < neededSets l r → lengthsFit ws ss ≡ false
+  no-sets h =
+      and-off (leb 2 (length ws)) _ (and-off (ltb 0 l) _ (and-off (ltb 0 r) _ (and-off (leb (neededWords l r) (length ws)) _ (lt-leb (neededSets l r) (length ss) h))))
+
+  pub all-fit : 2 ≤ length ws → 0 < l → 0 < r → neededWords l r ≤ length ws → neededSets l r ≤ length ss → lengthsFit ws ss ≡ true
+  all-fit a b c d e =
+      rw (le-leb 2 (length ws) a) (rw (lt-ltb 0 l b) (rw (lt-ltb 0 r c) (rw (le-leb (neededWords l r) (length ws) d) (le-leb (neededSets l r) (length ss) e))))
+
 -- a name that ends in 16, or in a refusal before it, has no steps
 no-steps-letters : (i : ℕ) (w : Str) (phones numbers : List ℕ) (s t : ℕ)
     → walkedAs (delivered (judgedLetters i w (stopped 16 0)) phones numbers) s ≡ walkedAs (delivered (judgedLetters i w (stopped 16 0)) phones numbers) t
 no-steps-letters i [] phones numbers s t = refl
 no-steps-letters i (b ∷ w) phones numbers s t =
-    byBool (letter b) (λ e. rw (e, e) (no-steps-letters (suc i) w phones numbers s t)) (λ e. rw (e, e) refl)
+    byBool (letter b) (λ e. rw e (no-steps-letters (suc i) w phones numbers s t)) (λ e. rw e refl)
 
 no-steps : (name : Str) (phones numbers : List ℕ) (s t : ℕ)
     → walkedAs (delivered (judgedName name (stopped 16 0)) phones numbers) s ≡ walkedAs (delivered (judgedName name (stopped 16 0)) phones numbers) t
 no-steps name phones numbers s t =
-    byBool (leb (length name) 64) (λ e. rw (e, e) (no-steps-letters 0 name phones numbers s t)) (λ e. rw (e, e) refl)
+    byBool (leb (length name) 64) (λ e. rw e (no-steps-letters 0 name phones numbers s t)) (λ e. rw e refl)
 
 module _ (image ws ss : List ℕ) (name : Str) (phones numbers : List ℕ) (v : valid image ≡ true) where
   -- counts of 0: every walk declines with 16, unless the name is refused first

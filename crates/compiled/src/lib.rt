@@ -6,7 +6,7 @@ use walk::WalkAnswer;
 use reading::Speech;
 ghost use mathlib.Core.Path.{_≡_};
 ghost use mathlib.Core.Bool.{true};
-ghost use lib.ListN.{length, getD};
+ghost use Prim.Native.Nat.{_<_};
 ghost use Rattle.rules.specs.Refusals.{replyOf};
 ghost use Rattle.image.specs.Image.{valid};
 ghost use Rattle.tables.specs.Walk.{lengthsFit, walkSaid};
@@ -22,7 +22,7 @@ pub struct Compiled<'a> {
 }
 
 fn wide(x: u16) -> usize
-    ensures { λ r. ⌜ r ≡ x ⌝ }
+    ensures { λ r. ⌜ (r ≡ x) × (r < 65536) ⌝ }
 {
     x as usize
 }
@@ -42,10 +42,14 @@ fn lengths_fit<'a>(words: &'a [u16], sets: &'a [u64]) -> bool
     if r < 1 {
         return false;
     }
-    if words.len() < 2 + 64 * (l + r) {
+    let states = l + r;
+    if words.len() < 2 + 64 * states {
         return false;
     }
-    8 * (l + r) <= sets.len()
+    if sets.len() < 8 * states {
+        return false;
+    }
+    true
 }
 
 // Whether tables can be compiled from the lent words: refusal 16 where a length test fails.
