@@ -1,7 +1,7 @@
 -- The words and the set words after each step of `fill`: they start with what is filled so far and go on as they did.
 -- Assumes nothing.
 use Prim.Native.Nat.{ℕ, _+_, _-_, _*_, _≤_}
-use mathlib.Core.Path.{_≡_, refl, sym, ap, ap₂, _∙_}
+use mathlib.Core.Path.{_≡_, refl, sym, ap, _∙_}
 use mathlib.Core.Bool.{true, false}
 use mathlib.Core.List.{List, [], _∷_, _++_}
 use native.Mathlib.Omega.{arith}
@@ -83,5 +83,15 @@ module _ (d : List ℕ) (l r : ℕ) (el : l ≡ sideTable d false .count) (er : 
     pub set-asks : 8 * sideTable d true .count ≤ length (midOf (8 * l) (length s - 8 * l) s)
     set-asks = omega (arith, er, mid-len (8 * l) (length s) s (omega (arith, set-length)), set-length)
 
-    pub sets : (z : List ℕ) → z ≡ over (setsOf (sideTable d true)) (midOf (8 * l) (length s - 8 * l) s) → putMid (8 * l) (length s - 8 * l) s z ≡ over (builtSets (entriesOf d)) xs
-    sets z f = over-tail (setsOf (sideTable d false)) xs (setsOf (sideTable d true)) s z (8 * l) e left-sets f ∙ ap (λ (x : List ℕ). over x xs) (sets-built d)
+    module _ (z : List ℕ) (f : z ≡ over (setsOf (sideTable d true)) (midOf (8 * l) (length s - 8 * l) s)) where
+      both-sets : putMid (8 * l) (length s - 8 * l) s z ≡ over (setsOf (sideTable d false) ++ setsOf (sideTable d true)) xs
+      both-sets = over-tail (setsOf (sideTable d false)) xs (setsOf (sideTable d true)) s z (8 * l) e left-sets f
+
+      pub sets : putMid (8 * l) (length s - 8 * l) s z ≡ over (builtSets (entriesOf d)) xs
+      sets = both-sets ∙ ap (λ (x : List ℕ). over x xs) (sets-built d)
+
+      pub sets-kept : length (putMid (8 * l) (length s - 8 * l) s z) ≡ length xs
+      sets-kept =
+          ap length both-sets
+          ∙ over-length (setsOf (sideTable d false) ++ setsOf (sideTable d true)) xs
+          (omega (arith, length-append (setsOf (sideTable d false)) (setsOf (sideTable d true)), left-sets, sets-length (sideTable d true), er))

@@ -4,9 +4,9 @@ use mathlib.Core.Path.{_≡_, refl, sym, ap, ap₂, _∙_, subst}
 use Prim.Native.Nat.{ℕ, zero, suc, _+_, _-_, _*_, _≤_, _<_}
 use native.Mathlib.Omega.{arith}
 use native.Mathlib.Decide.{decLe}
-use mathlib.Core.Bool.{Bool, true, false}
+use mathlib.Core.Bool.{Bool, true}
 use mathlib.Core.List.{List, [], _∷_, _++_, map, map-append}
-use lib.ListN.{length, getD, take, drop, set, replicate, length-set, length-take, length-drop}
+use lib.ListN.{length, getD, take, drop, set, replicate, length-replicate, length-set, length-take, length-drop}
 use lib.Seq.{getD-set-same, getD-set-other, getD-take, getD-drop, take-suc, take-all, ext-getD}
 use Rattle.rules.specs.Shape.{Entry}
 use Rattle.image.specs.Image.{two, entriesOf, valid}
@@ -14,9 +14,9 @@ use Rattle.image.proofs.Tests.{valid-count}
 use Rattle.image.proofs.Entries.{entries-length}
 use Rattle.reading.specs.Fitting.{Str}
 use Rattle.reading.specs.Meaning.{noEntry}
-use Rattle.side.specs.Patterns.{patternAt, patternsOf, Patterns}
+use Rattle.side.specs.Patterns.{patternAt, patternsOf}
 use Rattle.side.specs.Wrote.{Wrote}
-use Rattle.build.specs.Sides.{sideOf, patternIn, Small, Laid}
+use Rattle.build.specs.Sides.{sideOf, patternIn, Scratch, Laid}
 use Rattle.build.proofs.Symbols.{short, small}
 
 module _ (d : List ℕ) (right : Bool) (ps₀ ls₀ : List ℕ) where
@@ -25,18 +25,24 @@ module _ (d : List ℕ) (right : Bool) (ps₀ ls₀ : List ℕ) where
     pub reached : i ≤ two 0 d
     pub psLen : length ps ≡ length ps₀
     pub lsLen : length ls ≡ length ls₀
-    pub low : Small ps
+    pub low : (k : ℕ) → getD ps k 0 < 64
     pub lengths : (j : ℕ) → j < i → getD ls j 0 ≡ length (patternIn d right j)
     pub symbols : (j k : ℕ) → j < i → k < length (patternIn d right j) → getD ps (10 * j + k) 0 ≡ getD (patternIn d right j) k 0
 
-module _ (d : List ℕ) (right : Bool) (ok : valid d ≡ true) (ps₀ ls₀ : List ℕ) (room : 10 * two 0 d ≤ length ps₀) (lens : two 0 d ≤ length ls₀) where
-  pub begin : Small ps₀ → Laying d right ps₀ ls₀ ps₀ ls₀ 0
-  begin s = record { reached = omega arith; psLen = refl; lsLen = refl; low = s; lengths = λ j h. absurd (omega arith); symbols = λ j k h l. absurd (omega arith) }
+module _ (d : List ℕ) (right : Bool) (ok : valid d ≡ true) (ps₀ ls₀ : List ℕ) (sc : Scratch ps₀ ls₀) where
+  few : two 0 d ≤ 512
+  few = valid-count d ok
+
+  pub begin : Laying d right ps₀ ls₀ ps₀ ls₀ 0
+  begin = record { reached = omega arith; psLen = refl; lsLen = refl; low = sc .low; lengths = λ j h. absurd (omega arith); symbols = λ j k h l. absurd (omega arith) }
 
   module _ (ps ls : List ℕ) (i : ℕ) (y : Laying d right ps₀ ls₀ ps ls i) where
     module _ (h : i < two 0 d) (n : ℕ) (e : n ≡ length (patternIn d right i)) where
       pub fits : 10 * i + n ≤ length ps
-      fits = omega (arith, short d ok i h right, y .psLen)
+      fits = omega (arith, short d ok i h right, y .psLen, sc .room, few)
+
+      pub lens-room : i < length ls
+      lens-room = omega (arith, y .lsLen, sc .lens, few)
 
       pub next : (ps′ : List ℕ) → Wrote ps (10 * i) n (λ k. getD (patternIn d right i) k 0) ps′ → Laying d right ps₀ ls₀ ps′ (set ls i n) (i + 1)
       next ps′ w =
@@ -60,7 +66,7 @@ module _ (d : List ℕ) (right : Bool) (ok : valid d ≡ true) (ps₀ ls₀ : Li
           len j l (yes a) = getD-set-other ls i j n 0 (omega arith) ∙ y .lengths j a
           len j l (no a) =
               let q : i ≡ j = omega arith in
-              subst (λ (x : ℕ). getD (set ls i n) x 0 ≡ length (patternIn d right x)) q (getD-set-same ls i n 0 (omega (arith, y .lsLen)) ∙ e)
+              subst (λ (x : ℕ). getD (set ls i n) x 0 ≡ length (patternIn d right x)) q (getD-set-same ls i n 0 lens-room ∙ e)
 
           sym-at : (j k : ℕ) → j < i + 1 → k < length (patternIn d right j) → Dec (j < i) → getD ps′ (10 * j + k) 0 ≡ getD (patternIn d right j) k 0
           sym-at j k l m (yes a) =
@@ -78,7 +84,7 @@ module _ (d : List ℕ) (right : Bool) (ok : valid d ≡ true) (ps₀ ls₀ : Li
     at j h =
         let f = short d ok j h right in
         let n = y .lengths j h in
-        let l : length (patternAt ps ls j) ≡ length (patternIn d right j) = simp (length-take, length-drop) (omega (arith, y .psLen)) in
+        let l : length (patternAt ps ls j) ≡ length (patternIn d right j) = simp (length-take, length-drop) (omega (arith, y .psLen, sc .room, few)) in
         ext-getD 0 (patternAt ps ls j) (patternIn d right j) l
         (λ k m. getD-take (getD ls j 0) (drop (10 * j) ps) k 0 (omega arith) ∙ getD-drop (10 * j) ps k 0 ∙ y .symbols j k h (omega arith))
 
@@ -93,10 +99,11 @@ module _ (d : List ℕ) (right : Bool) (ok : valid d ≡ true) (ps₀ ls₀ : Li
     pub finished : Laid d right ps ls
     finished =
         record {
+          scratch = record { room = omega (arith, y .psLen, sc .room); lens = omega (arith, y .lsLen, sc .lens); low = y .low };
           ok = record {
-            few = valid-count d ok;
-            room = omega (arith, y .psLen);
-            lens = omega (arith, y .lsLen);
+            few = few;
+            room = omega (arith, y .psLen, sc .room, few);
+            lens = omega (arith, y .lsLen, sc .lens, few);
             short = λ j h. omega (arith, y .lengths j h, short d ok j h right);
             small = λ k h. y .low k;
           };
@@ -105,15 +112,14 @@ module _ (d : List ℕ) (right : Bool) (ok : valid d ≡ true) (ps₀ ls₀ : Li
               ∙ ap (map (sideOf right)) (take-all (two 0 d) (entriesOf d) (omega (arith, entries-length d)));
         }
 
--- zeros are symbols
-pub zeros : (n : ℕ) → Small (replicate n 0)
+pub laid-at : {d : List ℕ} {right : Bool} {ps₀ ls₀ ps ls : List ℕ} {i : ℕ} (n : ℕ) → i ≡ n → Laying d right ps₀ ls₀ ps ls i → Laying d right ps₀ ls₀ ps ls n
+laid-at {d} {right} {ps₀} {ls₀} {ps} {ls} {i} n e y = subst (Laying d right ps₀ ls₀ ps ls) e y
+
+-- arrays of zeros are scratch memory
+zeros : (n k : ℕ) → getD (replicate n 0) k 0 < 64
 zeros zero k = omega arith
 zeros (suc n) zero = omega arith
 zeros (suc n) (suc k) = zeros n k
 
-pub laid-at : {d : List ℕ} {right : Bool} {ps₀ ls₀ ps ls : List ℕ} {i : ℕ} (n : ℕ) → i ≡ n → Laying d right ps₀ ls₀ ps ls i → Laying d right ps₀ ls₀ ps ls n
-laid-at {d} {right} {ps₀} {ls₀} {ps} {ls} {i} n e y = subst (Laying d right ps₀ ls₀ ps ls) e y
-
--- the scratch arrays have room for all patterns
-pub scratch : (d : List ℕ) → valid d ≡ true → (n : ℕ) → n ≡ two 0 d → (ps ls : List ℕ) → length ps ≡ 5120 → length ls ≡ 512 → (10 * n ≤ length ps) × (n ≤ length ls)
-scratch d ok n e ps ls a b = let h = valid-count d ok in (omega arith, omega arith)
+pub cleared : (m n : ℕ) → 5120 ≤ m → 512 ≤ n → Scratch (replicate m 0) (replicate n 0)
+cleared m n a b = record { room = omega (arith, length-replicate {A = ℕ} m 0); lens = omega (arith, length-replicate {A = ℕ} n 0); low = zeros m }

@@ -3,10 +3,9 @@
 --     over-snoc        the element after ys is set: ys with one element more
 --     over-part        a part from `length p` that is overlaid, in a list that starts with p: the whole is overlaid with p, then ys
 -- Assumes nothing.
-use Prim.Native.Nat.{ℕ, zero, suc, _+_, _-_, _*_, _/_, _%_, _≤_, _<_}
-use mathlib.Core.Path.{_≡_, refl, sym, ap, _∙_, subst}
+use Prim.Native.Nat.{ℕ, suc, _-_, _≤_, _<_}
+use mathlib.Core.Path.{_≡_, sym, ap, _∙_}
 use mathlib.Core.List.{List, [], _∷_, _++_, append-assoc, append-nil}
-use native.Mathlib.Numerals.{add-one}
 use native.Mathlib.Omega.{arith}
 use lib.ListN.{length, take, drop, getD, set, length-append, length-drop, drop-of-length-le, take-append-drop}
 use lib.Seq.{drop-cons, set-at, take-at, drop-at, drop-drop, drop-append-le, take-all}
@@ -54,4 +53,3 @@ over-mid p xs ys w z a k e l g h =
     let r : z ++ q ≡ over ys (drop a w) =
     ap (λ (v : List ℕ). v ++ q) h ∙ (append-assoc ys (drop (length ys) m) q ∙ ap (λ (v : List ℕ). ys ++ v) (sym (drop-append-le (length ys) m q g) ∙ ap (λ (v : List ℕ). drop (length ys) v) (take-append-drop k (drop a w)))) in
     ap (λ (v : List ℕ). v ++ (z ++ q)) t ∙ (ap (λ (v : List ℕ). p ++ v) (r ∙ ap (λ (v : List ℕ). over ys v) d) ∙ over-part p xs ys)
-

@@ -1,7 +1,7 @@
 -- The pattern of the rule at a place: its length and its symbols are bytes of its slot.
 -- Assumes nothing.
-use mathlib.Core.Path.{_≡_, refl, sym, ap, ap₂, _∙_}
-use Prim.Native.Nat.{ℕ, zero, suc, _+_, _-_, _*_, _≤_, _<_}
+use mathlib.Core.Path.{_≡_, sym, ap, ap₂, _∙_}
+use Prim.Native.Nat.{ℕ, suc, _+_, _-_, _≤_, _<_}
 use native.Mathlib.Omega.{arith}
 use native.Mathlib.Decide.{decLe}
 use mathlib.Core.Bool.{Bool, true, false}
@@ -14,7 +14,7 @@ use Rattle.image.proofs.Tests.{valid-count}
 use Rattle.image.proofs.Entries as E
 use Rattle.reading.specs.Fitting.{Str}
 use Rattle.reading.specs.Meaning.{noEntry}
-use Rattle.build.specs.Sides.{patternIn, Small}
+use Rattle.build.specs.Sides.{patternIn}
 
 getD-reverse : (l : Str) (k : ℕ) → k < length l → getD (reverse l) k 0 ≡ getD l (length l - 1 - k) 0
 getD-reverse [] k h = absurd (omega arith)

@@ -8,20 +8,20 @@ use mathlib.Core.List.{List, [], _∷_, _++_, map}
 use lib.Dec.{leb}
 use lib.ListN.{length, getD}
 use borrow.Author.Tests.{le-leb, lt-leb}
-use Rattle.rules.specs.Shape.{pick, Entry}
+use Rattle.rules.specs.Shape.{Entry}
 use Rattle.rules.specs.Refusals.{accepted, declined}
 use Rattle.image.specs.Image.{two, valid, entriesOf}
 use Rattle.reading.specs.Fitting.{Str, ends}
 use Rattle.reading.specs.Speech.{over}
 use Rattle.tables.specs.States.{states}
-use Rattle.tables.specs.Tables.{Table, at, tableOf, leftPattern, rightPattern}
+use Rattle.tables.specs.Tables.{Table, at, tableOf}
 use Rattle.tables.specs.Words.{tab, rowsOf, setsOf, builtWords, builtSets, neededWords, neededSets, wordsFor, setsFor, building, builtFrom, built}
 use Rattle.tables.proofs.Words.{length-tab}
 use Rattle.side.specs.Patterns.{patternsOf, Patterns, stateCount}
 use Rattle.side.specs.Filled.{atPlace, holds, sideRows, sideSets}
 use Rattle.side.proofs.Levels.{word-ext}
 use Rattle.side.proofs.Inserting.{count-few}
-use Rattle.build.specs.Sides.{sideOf, sideTable, Laid}
+use Rattle.build.specs.Sides.{sideOf, sideTable, Laid, Counted}
 
 -- ---- one side
 
@@ -50,8 +50,8 @@ module _ (d : List ℕ) (right : Bool) (ps ls : List ℕ) (n : ℕ) (e : n ≡ t
   pub side-ok : Patterns ps ls n
   side-ok = subst (Patterns ps ls) (sym e) (a .ok)
 
-  pub side-few : stateCount ps ls n ≤ 5121
-  side-few = count-few ps ls n side-ok
+  pub side-counted : (r : ℕ) → r ≡ stateCount ps ls n → Counted d right r ps ls
+  side-counted r f = record { is = f ∙ side-count; few = omega (arith, count-few ps ls n side-ok); scratch = a .scratch }
 
   pub side-rows : sideRows (patternsOf ps ls n) ≡ rowsOf (sideTable d right)
   side-rows = ap sideRows are-n

@@ -1,7 +1,7 @@
 -- The two sides of a ruleset's tables, and the patterns of one as they are laid out for the row filler.
 -- Assumes nothing.
 use mathlib.Core.Path.{_≡_}
-use Prim.Native.Nat.{ℕ, _<_}
+use Prim.Native.Nat.{ℕ, _≤_, _<_}
 use mathlib.Core.Bool.{Bool, true, false}
 use mathlib.Core.List.{List, map}
 use lib.ListN.{length, getD}
@@ -24,10 +24,20 @@ patternIn image right place = sideOf right (getD (entriesOf image) place noEntry
 abbrev pub sideTable : List ℕ → Bool → Table
 sideTable image right = tableOf (sideOf right) (entriesOf image)
 
-abbrev pub Small : List ℕ → Type 0
-Small xs = (k : ℕ) → getD xs k 0 < 64
+-- Scratch memory for the patterns of one side: whatever symbols it holds.
+pub record Scratch (ps ls : List ℕ) : Type 0 where
+  pub room : 5120 ≤ length ps
+  pub lens : 512 ≤ length ls
+  pub low : (k : ℕ) → getD ps k 0 < 64
 
--- the patterns of a side lie in the two lists
+-- the patterns of a side lie in it
 pub record Laid (image : List ℕ) (right : Bool) (ps ls : List ℕ) : Type 0 where
+  pub scratch : Scratch ps ls
   pub ok : Patterns ps ls (two 0 image)
   pub are : patternsOf ps ls (two 0 image) ≡ map (sideOf right) (entriesOf image)
+
+-- the states of a side are counted
+pub record Counted (image : List ℕ) (right : Bool) (r : ℕ) (ps ls : List ℕ) : Type 0 where
+  pub is : r ≡ sideTable image right .count
+  pub few : r ≤ 5121
+  pub scratch : Scratch ps ls

@@ -1,12 +1,11 @@
 -- The loop over the symbols of pattern i, and the loop over the patterns, in a tree of sibling chains.
 -- Assumes nothing.
-use mathlib.Core.Path.{_≡_, refl, sym, ap, _∙_, subst}
-use Prim.Native.Nat.{ℕ, zero, suc, _+_, _*_, _≤_, _<_}
+use mathlib.Core.Path.{_≡_, refl, ap, _∙_}
+use Prim.Native.Nat.{ℕ, _+_, _*_, _≤_, _<_}
 use native.Mathlib.Omega.{arith}
 use mathlib.Core.List.{List}
 use lib.ListN.{length, getD, set, length-set}
 use lib.Seq.{getD-set-same}
-use Rattle.reading.specs.Fitting.{Str}
 use Rattle.tables.specs.States.{states}
 use Rattle.side.specs.Patterns.{patternAt, patternsOf, Patterns, stateCount}
 use Rattle.side.specs.Steps.{Children}
@@ -52,11 +51,11 @@ module _ (ps ls : List ℕ) (i : ℕ) (fi nx sy : List ℕ) where
 
         pub asks : (at .state < at .count) × (at .count < 65536) × Chains fi′ nx′ sy′ (at .count) × (childOf fi′ nx′ sy′ (at .state) c ≡ 0 → Room (at .count + 1) fi′ nx′ sy′)
         asks = (
-            I.symbols-below ps ls i ok (childOf fi′ nx′ sy′) (at .state) (at .count) m (s .numbered),
-            omega (arith, few, I.count-few ps ls (i + 1) ok),
-            s .chains,
-            λ z. room-for (at .count + 1) (stateCount ps ls (i + 1)) fi nx sy fi′ nx′ sy′ (s .alike) room (I.symbols-more ps ls i ok (childOf fi′ nx′ sy′) (at .state) (at .count) m (s .numbered) h z),
-          )
+          I.symbols-below ps ls i ok (childOf fi′ nx′ sy′) (at .state) (at .count) m (s .numbered),
+          omega (arith, few, I.count-few ps ls (i + 1) ok),
+          s .chains,
+          λ z. room-for (at .count + 1) (stateCount ps ls (i + 1)) fi nx sy fi′ nx′ sy′ (s .alike) room (I.symbols-more ps ls i ok (childOf fi′ nx′ sy′) (at .state) (at .count) m (s .numbered) h z),
+        )
 
         pub next : (fi″ nx″ sy″ : List ℕ) (r : Place) → Descended fi′ nx′ sy′ (at .state) (at .count) c r fi″ nx″ sy″ → Symbols fi″ nx″ sy″ r (m + 1)
         next fi″ nx″ sy″ r d =

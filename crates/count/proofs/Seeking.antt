@@ -5,14 +5,14 @@ use mathlib.Core.Logic.{_≢_, _⊎_, inl, inr}
 use Prim.Native.Nat.{ℕ, zero, suc, _+_, _-_, _≤_, _<_}
 use native.Mathlib.Omega.{arith}
 use native.Mathlib.Decide.{decLe}
-use mathlib.Core.Bool.{Bool, true, false, cond}
+use mathlib.Core.Bool.{cond}
 use mathlib.Core.List.{List}
 use lib.Dec.{eqb, eqb→eq}
 use lib.ListN.{length, getD, set, length-set}
 use lib.Seq.{getD-set-same, getD-set-other}
 use borrow.Author.Tests.{eqb-false, eq-eqb, ne-eqb}
 use Rattle.tables.proofs.Truth.{byBool, true-eq}
-use Rattle.side.specs.Steps.{Step, NewChild}
+use Rattle.side.specs.Steps.{NewChild}
 use Rattle.side.specs.declared.Place.{Place}
 use Rattle.count.specs.Chains.{seek, childOf, Room, Chains, Alike, Descended}
 

@@ -2,12 +2,11 @@
 -- `symbol` what leads to a state. 0 ends a chain.
 -- Assumes nothing.
 use mathlib.Core.Path.{_≡_}
-use Prim.Native.Nat.{ℕ, zero, suc, _+_, _≤_, _<_}
-use mathlib.Core.Bool.{Bool, true, false, cond}
+use Prim.Native.Nat.{ℕ, zero, suc, _≤_, _<_}
+use mathlib.Core.Bool.{cond}
 use mathlib.Core.List.{List}
 use lib.Dec.{eqb}
 use lib.ListN.{length, getD}
-use Rattle.reading.specs.Fitting.{Str}
 use Rattle.tables.specs.States.{states}
 use Rattle.side.specs.Patterns.{patternsOf, stateCount}
 use Rattle.side.specs.Steps.{Children, Step}

@@ -1,7 +1,7 @@
 // How many states the patterns of one side have, counted in a tree of its own: no lent memory is touched.
 use side::Place;
 ghost use mathlib.Core.Path.{_≡_};
-ghost use Prim.Native.Nat.{ℕ, _+_, _-_, _*_, _≤_, _<_};
+ghost use Prim.Native.Nat.{ℕ, _+_, _*_, _≤_, _<_};
 ghost use lib.ListN.{length, getD, set};
 ghost use Rattle.side.specs.Patterns.{patternsOf, Patterns, stateCount};
 ghost use Rattle.tables.specs.States.{states};

@@ -1,18 +1,17 @@
 -- Demand 3 over the definitions: what the four calls give makes the claim. The edits are the ledger's (history), the build has room,
 -- and the table theorem makes walk and plain reading alike, whatever the lent memory held.
 -- Assumes nothing.
-use Prim.Native.Nat.{ℕ, _+_, _*_, _≤_}
-use mathlib.Core.Path.{_≡_, refl, sym, ap, ap₂, _∙_}
-use mathlib.Core.Bool.{Bool, true, false}
-use mathlib.Core.List.{List, [], _∷_, _++_}
-use native.Mathlib.Omega.{arith}
+use Prim.Native.Nat.{ℕ, _≤_}
+use mathlib.Core.Path.{_≡_, refl, sym, ap, _∙_}
+use mathlib.Core.Bool.{true}
+use mathlib.Core.List.{List, [], _∷_}
 use borrow.Author.Tests.{le-leb}
 use lib.Dec.{leb}
 use lib.ListN.{length, take, drop}
 use lib.Seq.{take-at}
-use Rattle.rules.specs.Limits.{maxName, maxLetter}
-use Rattle.rules.specs.Shape.{pick, Entry, allFrom}
-use Rattle.rules.specs.Refusals.{accepted, declined}
+use Rattle.rules.specs.Limits.{maxLetter}
+use Rattle.rules.specs.Shape.{allFrom}
+use Rattle.rules.specs.Refusals.{accepted}
 use Rattle.image.specs.State.{Ledger, start, rulesOf}
 use Rattle.image.specs.Image.{imageSize, ledgerOf, valid, entriesOf}
 use Rattle.image.proofs.Tests.{byBool, and-l, and-r, and-i}
@@ -20,12 +19,12 @@ use Rattle.edits.specs.Ledger.{afterAll}
 use Rattle.history.specs.Replay.{Replay, FromEmpty, Replayed, replayed}
 use Rattle.reading.specs.Fitting.{Str}
 use Rattle.reading.specs.Reading.{Reading, finished, stopped, plain}
-use Rattle.reading.specs.Speech.{Said, phonesOf, numbersOf, over, delivered, letter, judgedName, plainSaid}
+use Rattle.reading.specs.Speech.{phonesOf, numbersOf, over, delivered, judgedName, plainSaid}
 use Rattle.tables.specs.Words.{wordsFor, setsFor, Built, built}
 use Rattle.tables.specs.Walk.{Walked, walkSaid}
 use Rattle.tables.proofs.Steps.{Letters}
 use Rattle.tables.proofs.Theorem.{table-theorem, steps-theorem}
-use Rattle.endtoend.specs.EndToEnd.{heard, Name, Lent, Given, editsOf, rulesAfter, Enough, Claim, EndToEnd}
+use Rattle.endtoend.specs.EndToEnd.{heard, Lent, Given, editsOf, rulesAfter, Enough, Claim, EndToEnd}
 
 -- ---- what is heard does not depend on what the lent memory held, but for its length
 

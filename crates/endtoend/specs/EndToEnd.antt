@@ -48,12 +48,30 @@ pub record Lent : Type 0 where
   pub «walk-phones» : List ℕ
   pub «walk-numbers» : List ℕ
 
+abbrev pub lent : List ℕ → List ℕ → List ℕ → List ℕ → List ℕ → Str → List ℕ → List ℕ → List ℕ → List ℕ → Lent
+lent image code answers words sets name pp pn wp wn =
+    record {
+      image = image;
+      code = code;
+      answers = answers;
+      words = words;
+      sets = sets;
+      name = name;
+      «plain-phones» = pp;
+      «plain-numbers» = pn;
+      «walk-phones» = wp;
+      «walk-numbers» = wn;
+    }
+
 -- all that the calls gave: each its answer and the lent memory after it
 pub record Given : Type 0 where
   pub replay : Replay
   pub build : Built
   pub plain : Said
   pub walk : Walked
+
+abbrev pub given : Replay → Built → Said → Walked → Given
+given r b p w = record { replay = r; build = b; plain = p; walk = w }
 
 -- the edits taken, and the rules that the ledger holds after them
 abbrev pub editsOf : Lent → List Edit

@@ -174,14 +174,16 @@ drop-zeros zero m h = let e : m - 0 ≡ m = omega arith in rw e
 drop-zeros (suc k) zero h = absurd (omega arith)
 drop-zeros (suc k) (suc m) h = let e : suc m - suc k ≡ m - k = omega arith in rw e (drop-zeros k m (omega arith))
 
--- the name stored from 1 on in zeros is its frame
-pub framed-is : (name f : List ℕ) → length name ≤ 64 → f ≡ paste (replicate 66 0) 1 (drop 0 name) (length name) → f ≡ first 66 (frame name) 0
-framed-is name f h e =
-    let z : 66 - suc (length name) ≡ 65 - length name = omega arith in
+-- the name stored from 1 on in zeros is its frame, at any size that holds it
+frame-stored : (m : ℕ) (name : List ℕ) → length name ≤ m → paste (replicate (suc m) 0) 1 (drop 0 name) (length name) ≡ first (suc m) (frame name) 0
+frame-stored m name h =
     let s : 1 + length name ≡ suc (length name) = omega arith in
-    e ∙ (ap₂ (λ (t : List ℕ) (k : ℕ). (0 ∷ t) ++ drop k (replicate 66 0)) (take-length name) s
-    ∙ (ap (λ (t : List ℕ). (0 ∷ name) ++ t) (drop-zeros (suc (length name)) 66 (omega arith) ∙ ap (λ (k : ℕ). replicate k 0) z)
-    ∙ sym (ap (λ (t : List ℕ). 0 ∷ t) (first-zero 65 name ∙ first-pad 65 name (omega arith)))))
+    ap₂ (λ (t : List ℕ) (k : ℕ). (0 ∷ t) ++ drop k (replicate (suc m) 0)) (take-length name) s
+    ∙ (ap (λ (t : List ℕ). (0 ∷ name) ++ t) (drop-zeros (length name) m h)
+    ∙ sym (ap (λ (t : List ℕ). 0 ∷ t) (first-zero m name ∙ first-pad m name h)))
+
+pub framed-is : (name f : List ℕ) → length name ≤ 64 → f ≡ paste (replicate 66 0) 1 (drop 0 name) (length name) → f ≡ first 66 (frame name) 0
+framed-is name f h e = e ∙ frame-stored 65 name (omega arith)
 
 pub frame-long : (name : Str) → length (frame name) ≡ length name + 2
 frame-long name = omega (arith, length-append name (0 ∷ []))

@@ -1,15 +1,11 @@
 -- The loop over the symbols of pattern i, and the loop over the patterns.
 -- Assumes nothing.
-use mathlib.Core.Path.{_≡_, refl, sym, ap, ap₂, _∙_, subst}
-use Prim.Native.Nat.{ℕ, zero, suc, _+_, _-_, _*_, _≤_, _<_}
+use mathlib.Core.Path.{_≡_, refl, _∙_, subst}
+use Prim.Native.Nat.{ℕ, _+_, _*_, _≤_, _<_}
 use native.Mathlib.Omega.{arith}
-use native.Mathlib.Numerals.{add-one}
-use native.Mathlib.Nat.{zero-add}
-use mathlib.Core.List.{List, [], _∷_, _++_}
-use lib.ListN.{length, getD, take, drop}
-use Rattle.reading.specs.Fitting.{Str}
+use mathlib.Core.List.{List}
+use lib.ListN.{length, getD}
 use Rattle.tables.specs.States.{states}
-use Rattle.tables.proofs.Trie.{child}
 use Rattle.side.specs.Patterns.{patternAt, patternsOf, Patterns, stateCount}
 use Rattle.side.specs.Wrote.{Wrote, Past}
 use Rattle.side.specs.Steps.{cell, Descended, Numbered, Counted}
@@ -46,12 +42,12 @@ module _ (ps ls : List ℕ) (i : ℕ) (ok : Patterns ps ls (i + 1)) (xs : List �
 
       pub asks : (c < 64) × (at .state < at .count) × (at .count < 65536) × (64 * at .count ≤ length ys) × (cell ys (at .state) c ≡ 0 → 64 * at .count + 64 ≤ length ys)
       asks = (
-          small,
-          lt,
-          omega (arith, few, I.count-few ps ls (i + 1) ok),
-          omega (arith, few, s .past .len),
-          λ z. let e = I.symbols-more ps ls i ok (cell ys) (at .state) (at .count) m (s .numbered) h z in omega (arith, s .past .len),
-        )
+        small,
+        lt,
+        omega (arith, few, I.count-few ps ls (i + 1) ok),
+        omega (arith, few, s .past .len),
+        λ z. let e = I.symbols-more ps ls i ok (cell ys) (at .state) (at .count) m (s .numbered) h z in omega (arith, s .past .len),
+      )
 
       pub next : (zs : List ℕ) (r : Place) → Descended ys (at .state) (at .count) c r zs → Symbols ps ls i xs zs r (m + 1)
       next zs r d =

@@ -1,24 +1,24 @@
 -- The loops that fill a side, over the patterns as they lie.
 -- Assumes nothing.
-use mathlib.Core.Path.{_≡_, refl, sym, ap, ap₂, _∙_, subst, subst₂}
-use Prim.Native.Nat.{ℕ, zero, suc, _+_, _-_, _*_, _/_, _%_, _^_, _≤_, _<_}
+use mathlib.Core.Path.{_≡_, refl, sym, ap, _∙_, subst, subst₂}
+use Prim.Native.Nat.{ℕ, suc, _+_, _-_, _*_, _/_, _%_, _^_, _≤_, _<_}
 use native.Mathlib.Omega.{arith}
 use native.Mathlib.Decide.{decLe}
-use mathlib.Core.Bool.{Bool, true, false}
-use mathlib.Core.List.{List, [], _∷_, _++_, tail}
+use mathlib.Core.Bool.{true}
+use mathlib.Core.List.{List, [], tail}
 use lib.Bits.{bitOr}
 use lib.ListN.{length, getD, take, drop, length-append, length-take, length-drop, List·getD-append}
 use lib.Seq.{take-all, ext-getD, getD-append-add, getD-drop}
 use Rattle.reading.specs.Fitting.{Str}
-use Rattle.tables.specs.States.{states, member, index, longest, numbered, entry}
+use Rattle.tables.specs.States.{states, member, index, longest, numbered}
 use Rattle.tables.proofs.Trie.{failure}
 use Rattle.tables.specs.Words.{tab}
-use Rattle.tables.proofs.Numbering.{numbered-pattern, numbered-nil, index-lt}
+use Rattle.tables.proofs.Numbering.{index-lt}
 use Rattle.tables.proofs.Words.{length-tab, getD-tab}
-use Rattle.side.specs.Patterns.{patternAt, patternsOf, Patterns, stateCount}
+use Rattle.side.specs.Patterns.{patternsOf, Patterns, stateCount}
 use Rattle.side.specs.Wrote.{Wrote, Past}
 use Rattle.side.specs.Steps.{cell, run, part, Inside, Symbols, Numbered}
-use Rattle.side.specs.Filled.{Level, Final, Owned, Finished, holds, word, sideRows, sideSets}
+use Rattle.side.specs.Filled.{Level, Final, Owned, Finished, sideRows, sideSets}
 use Rattle.reading.specs.Speech.{over}
 use Rattle.side.proofs.Inserting.{patterns-length, pattern-length}
 use Rattle.side.proofs.Parts.{patterns-at, part-is, part-tail, small-part, symbols-of, symbols-rest}

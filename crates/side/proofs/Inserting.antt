@@ -2,23 +2,23 @@
 -- Assumes nothing.
 use mathlib.Core.Path.{_≡_, refl, sym, ap, ap₂, _∙_, subst}
 use mathlib.Core.Logic.{_≢_, _⊎_, inl, inr}
-use Prim.Native.Nat.{ℕ, zero, suc, _+_, _-_, _*_, _≤_, _<_}
+use Prim.Native.Nat.{ℕ, zero, suc, _+_, _*_, _≤_, _<_}
 use native.Mathlib.Omega.{arith}
 use native.Mathlib.Decide.{decLe}
 use native.Mathlib.Numerals.{add-one}
-use mathlib.Core.Bool.{Bool, true, false, cond, not, _&&_, _||_, or-true}
+use mathlib.Core.Bool.{true, false, or-true}
 use mathlib.Core.List.{List, [], _∷_, _++_, append-nil}
 use lib.Dec.{eqb, eqb→eq}
 use lib.ListN.{length, getD, take, drop, length-append, length-take, length-drop, take-append-drop}
 use lib.Seq.{append-snoc, take-suc, take-all, getD-take, getD-drop}
 use borrow.Author.Tests.{eqb-false}
-use Rattle.reading.specs.Fitting.{Str, same}
+use Rattle.reading.specs.Fitting.{Str}
 use Rattle.tables.specs.States.{member, index, numberOne, states, numbered}
 use Rattle.tables.proofs.Trie.{distinct, child, insert}
 use Rattle.tables.proofs.Truth.{byBool, clash, true-eq}
 use Rattle.tables.proofs.Suffix.{same-refl, Closed}
 use Rattle.tables.proofs.Count.{Within, states-length}
-use Rattle.tables.proofs.Numbering.{member-append, getD-index, index-lt, index-append, index-new, index-getD, numbered-closed, numbered-nil, numbered-pattern, distinct-states, index-nil}
+use Rattle.tables.proofs.Numbering.{member-append, getD-index, index-lt, index-new, numbered-closed, numbered-nil, numbered-pattern, distinct-states, index-nil}
 use Rattle.tables.proofs.Build.{child-new, child-kept, child-fresh, other-string, child-none, states-more}
 use Rattle.side.specs.Patterns.{patternAt, patternsOf, Patterns, stateCount}
 use Rattle.side.specs.Steps.{Children, NewChild, Step}

@@ -1,30 +1,27 @@
 -- The states are completed by ascending length, each from its failure state.
 -- Assumes nothing.
 use mathlib.Core.Path.{_≡_, refl, sym, ap, ap₂, _∙_, subst, subst₂}
-use mathlib.Core.Logic.{_≢_, _⊎_, inl, inr, ⊎-elim}
-use Prim.Native.Nat.{ℕ, zero, suc, _+_, _-_, _*_, _/_, _%_, _≤_, _<_, zero-le, suc-le-suc}
-use native.Mathlib.Nat.{le-of-suc-le-suc, not-suc-le-zero}
+use mathlib.Core.Logic.{_⊎_, inl, inr, ⊎-elim}
+use Prim.Native.Nat.{ℕ, zero, suc, _+_, _*_, _/_, _%_, _≤_, _<_, zero-le, suc-le-suc}
+use native.Mathlib.Nat.{not-suc-le-zero}
 use native.Mathlib.Omega.{arith}
-use native.Mathlib.Decide.{decLe}
-use native.Mathlib.Numerals.{add-one}
-use mathlib.Core.Bool.{Bool, true, false, cond, not, _&&_, _||_, or-true, or-false, or-assoc}
-use mathlib.Core.List.{List, [], _∷_, _++_, tail, append-nil}
+use mathlib.Core.Bool.{Bool, true, false, cond, _||_, or-true, or-false}
+use mathlib.Core.List.{List, [], _∷_, _++_, append-nil}
 use lib.Dec.{eqb, eqb→eq}
 use lib.Bits.{bitOr}
-use lib.ListN.{length, getD, take, drop, length-append, length-take}
+use lib.ListN.{length, getD, take, length-append}
 use lib.Seq.{append-snoc}
-use borrow.Author.Tests.{eqb-false}
 use Rattle.reading.specs.Fitting.{Str, same, starts, ends}
 use Rattle.tables.specs.States.{longest, member, index, states, numbered, entry}
-use Rattle.tables.proofs.Trie.{distinct, child, failure, startsAny}
+use Rattle.tables.proofs.Trie.{child, failure, startsAny}
 use Rattle.tables.proofs.Truth.{byBool, clash, true-eq, and-left, and-right}
 use Rattle.tables.proofs.Suffix.{same-refl, Closed, longest-passes}
 use Rattle.tables.proofs.Symbols.{Small}
 use Rattle.tables.specs.Words.{pack}
-use Rattle.tables.proofs.Numbering.{getD-index, index-lt, index-getD, numbered-closed, numbered-nil, numbered-is, numbered-pattern, distinct-states, index-nil}
-use Rattle.tables.proofs.Build.{entry-child, entry-word, entry-fail, entry-root, failure-shorter, ends-failure, complete-row}
+use Rattle.tables.proofs.Numbering.{getD-index, index-lt, numbered-closed, numbered-nil, numbered-is, numbered-pattern, index-nil}
+use Rattle.tables.proofs.Build.{entry-child, entry-word, entry-fail, ends-failure, complete-row}
 use Rattle.tables.proofs.Sets.{pack-or}
-use Rattle.side.specs.Wrote.{Wrote, Past}
+use Rattle.side.specs.Wrote.{Wrote}
 use Rattle.side.specs.Steps.{cell, run, Inside, Numbered, completed, united}
 use Rattle.side.specs.Filled.{atPlace, owns, holds, word, Final, Young, Level, Finished}
 

@@ -1,13 +1,12 @@
 -- Each place is put into the set of its pattern's own state.
 -- Assumes nothing.
-use mathlib.Core.Path.{_≡_, refl, sym, ap, ap₂, _∙_, subst}
-use Prim.Native.Nat.{ℕ, zero, suc, _+_, _-_, _*_, _/_, _%_, _^_, _≤_, _<_}
+use mathlib.Core.Path.{_≡_, refl, sym, ap, ap₂, _∙_}
+use Prim.Native.Nat.{ℕ, zero, suc, _+_, _*_, _/_, _%_, _^_, _<_}
 use native.Mathlib.Omega.{arith}
-use native.Mathlib.Nat.{add-zero}
 use native.Mathlib.Decide.{decLe}
 use native.Mathlib.Numerals.{add-one}
 use mathlib.Core.Logic.{_≢_}
-use mathlib.Core.Bool.{Bool, true, false, cond, _&&_, _||_, or-false, and-false}
+use mathlib.Core.Bool.{Bool, true, false, _&&_, _||_, or-false, and-false}
 use mathlib.Core.List.{List, [], _∷_, _++_}
 use lib.Dec.{eqb, eqb→eq, eqb·suc-suc, eqb·zero-suc, eqb·suc-zero}
 use lib.Bits.{bitOr}
@@ -19,9 +18,9 @@ use Rattle.tables.specs.States.{member, index, states}
 use Rattle.tables.proofs.Truth.{byBool, true-eq}
 use Rattle.tables.proofs.Suffix.{same-refl, same-eq}
 use Rattle.tables.specs.Words.{pack}
-use Rattle.tables.proofs.Numbering.{getD-index, index-lt, index-getD, distinct-states}
+use Rattle.tables.proofs.Numbering.{getD-index, index-getD, distinct-states}
 use Rattle.tables.proofs.Sets.{pack-put}
-use Rattle.side.specs.Wrote.{Wrote, Past}
+use Rattle.side.specs.Wrote.{Wrote}
 use Rattle.side.specs.Filled.{atPlace, owns, word, Owned}
 use Rattle.side.proofs.Levels.{word-ext, pack-ext}
 

@@ -1,12 +1,12 @@
 -- The patterns as parts of the symbols that lie in the list.
 -- Assumes nothing.
-use mathlib.Core.Path.{_≡_, refl, sym, ap, ap₂, _∙_, subst}
+use mathlib.Core.Path.{_≡_, refl, sym, ap, _∙_, subst}
 use Prim.Native.Nat.{ℕ, zero, suc, _+_, _-_, _*_, _≤_, _<_}
 use native.Mathlib.Omega.{arith}
 use native.Mathlib.Decide.{decLe}
 use mathlib.Core.List.{List, [], _∷_, _++_, tail}
-use lib.ListN.{length, getD, take, drop, length-append, List·getD-append}
-use lib.Seq.{drop-cons, getD-append-seam, getD-at}
+use lib.ListN.{length, getD, take, drop, List·getD-append}
+use lib.Seq.{drop-cons, getD-at}
 use Rattle.reading.specs.Fitting.{Str}
 use Rattle.tables.proofs.Symbols.{Small}
 use Rattle.side.specs.Patterns.{patternAt, patternsOf, Patterns}

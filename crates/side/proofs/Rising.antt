@@ -1,28 +1,27 @@
 -- The loop over the patterns at one length, and the loop over the lengths.
 -- Assumes nothing.
-use mathlib.Core.Path.{_≡_, refl, sym, ap, ap₂, _∙_, subst, subst₂}
+use mathlib.Core.Path.{_≡_, refl, sym, ap, _∙_, subst}
 use mathlib.Core.Logic.{_≢_, _⊎_, inl, inr, ⊎-elim}
-use Prim.Native.Nat.{ℕ, zero, suc, _+_, _-_, _*_, _/_, _%_, _≤_, _<_, zero-le, suc-le-suc}
+use Prim.Native.Nat.{ℕ, zero, suc, _+_, _*_, _≤_, _<_, zero-le, suc-le-suc}
 use native.Mathlib.Nat.{le-of-suc-le-suc, not-suc-le-zero}
 use native.Mathlib.Omega.{arith}
 use native.Mathlib.Decide.{decLe}
-use native.Mathlib.Numerals.{add-one}
-use mathlib.Core.Bool.{Bool, true, false, cond, _&&_, _||_, or-true}
-use mathlib.Core.List.{List, [], _∷_, _++_, tail, append-nil}
+use mathlib.Core.Bool.{true, or-true}
+use mathlib.Core.List.{List, [], _∷_, tail}
 use lib.Dec.{eqb, eqb→eq, eqb-refl}
-use lib.ListN.{length, getD, take, drop, length-append, length-take}
+use lib.ListN.{length, getD, take, length-take}
 use borrow.Author.Tests.{eqb-false}
-use Rattle.reading.specs.Fitting.{Str, same, starts, ends}
+use Rattle.reading.specs.Fitting.{Str, same, starts}
 use Rattle.tables.specs.States.{longest, member, index, states, numbered, entry}
 use Rattle.tables.proofs.Trie.{child, failure, startsAny}
-use Rattle.tables.proofs.Truth.{byBool, clash, true-eq, eq-true}
+use Rattle.tables.proofs.Truth.{byBool, true-eq, eq-true}
 use Rattle.tables.proofs.Suffix.{same-refl, longest-passes}
 use Rattle.tables.proofs.Numbering.{getD-index, index-lt, index-getD, numbered-closed, numbered-nil, numbered-is, distinct-states, index-nil}
-use Rattle.tables.proofs.Build.{entry-child, entry-root, failure-shorter}
-use Rattle.side.specs.Wrote.{Wrote, Past}
+use Rattle.tables.proofs.Build.{failure-shorter}
+use Rattle.side.specs.Wrote.{Wrote}
 use Rattle.side.specs.Steps.{cell, Numbered}
 use Rattle.side.specs.Filled.{owns, holds, word, Final, Young, Level, Owned, Finished}
-use Rattle.side.proofs.Levels.{completes, started, some-state}
+use Rattle.side.proofs.Levels.{completes, started}
 
 -- ---- what is not written stays
 

@@ -3,16 +3,15 @@
 use mathlib.Core.Path.{_≡_}
 use mathlib.Core.Logic.{_⊎_}
 use Prim.Native.Nat.{ℕ, zero, suc, _+_, _*_, _/_, _%_, _≤_, _<_}
-use mathlib.Core.Bool.{Bool, true, false}
-use mathlib.Core.List.{List, [], _∷_, _++_}
-use lib.ListN.{length, getD, take, drop}
+use mathlib.Core.Bool.{Bool, false}
+use mathlib.Core.List.{List, [], _∷_}
+use lib.ListN.{length, getD, take}
 use Rattle.reading.specs.Fitting.{Str, same, ends}
 use Rattle.tables.specs.States.{states, entry, index}
 use Rattle.tables.proofs.Trie.{child}
 use Rattle.tables.specs.Words.{pack, tab}
-use Rattle.side.specs.Patterns.{patternsOf}
-use Rattle.side.specs.Wrote.{Wrote, Past}
-use Rattle.side.specs.Steps.{cell, run, part, completed, united}
+use Rattle.side.specs.Wrote.{Wrote}
+use Rattle.side.specs.Steps.{cell, completed, united}
 
 -- the pattern at place p passes the test
 abbrev pub atPlace : (Str → Bool) → List Str → ℕ → Bool

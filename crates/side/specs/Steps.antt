@@ -2,9 +2,9 @@
 -- Assumes nothing.
 use mathlib.Core.Path.{_≡_}
 use mathlib.Core.Logic.{_≢_, _⊎_}
-use Prim.Native.Nat.{ℕ, zero, suc, _+_, _-_, _*_, _≤_, _<_}
-use mathlib.Core.Bool.{Bool, cond}
-use mathlib.Core.List.{List, [], _∷_, _++_}
+use Prim.Native.Nat.{ℕ, _+_, _-_, _*_, _≤_, _<_}
+use mathlib.Core.Bool.{cond}
+use mathlib.Core.List.{List, [], _∷_}
 use lib.Dec.{eqb}
 use lib.ListN.{length, getD, take, drop}
 use lib.Bits.{bitOr}
@@ -12,7 +12,7 @@ use Rattle.reading.specs.Fitting.{Str}
 use Rattle.tables.specs.States.{states}
 use Rattle.tables.proofs.Trie.{child}
 use Rattle.side.specs.Patterns.{patternsOf}
-use Rattle.side.specs.Wrote.{Wrote, Past}
+use Rattle.side.specs.Wrote.{Past}
 use Rattle.side.specs.declared.Place.{Place}
 
 -- the entry of state q under c

@@ -1,6 +1,6 @@
 -- Refusal 0, or what a build of a ruleset gives.
 -- Assumes nothing.
-use mathlib.Core.Path.{_≡_, sym, _∙_}
+use mathlib.Core.Path.{sym, _∙_}
 use borrow.Author.Needs.{needs}
 use borrow.Author.Tests.{not-true, not-false}
 use Rattle.build.proofs.Whole.{no-ruleset, is-ruleset}

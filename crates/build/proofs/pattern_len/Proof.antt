@@ -1,11 +1,9 @@
 -- The length of a pattern, from the lengths in the rule's slot.
 -- Assumes nothing.
-use mathlib.Core.Path.{_≡_, sym, ap, ap₂, _∙_}
-use Prim.Native.Nat.{ℕ, _+_, _-_, _<_}
+use mathlib.Core.Path.{sym, ap, _∙_}
 use mathlib.Core.Bool.{Bool}
 use native.Mathlib.Omega.{arith}
-use lib.ListN.{length, getD}
-use borrow.Author.Needs.{needs}
+use lib.ListN.{length}
 use Rattle.build.specs.Sides.{patternIn}
 use Rattle.build.proofs.Symbols as S
 use Rattle.build.proofs.pattern_len.Statement.{statement}

@@ -1,12 +1,11 @@
 -- The loop that lays the patterns of a side.
 -- Assumes nothing.
-use Prim.Native.Nat.{ℕ, _+_, _-_, _*_, _≤_, _<_}
+use Prim.Native.Nat.{_-_, _<_}
 use native.Mathlib.Omega.{arith}
 use borrow.Author.Needs.{needs}
-use lib.ListN.{length}
 use Rattle.image.specs.Image.{two}
 use Rattle.image.proofs.Tests.{valid-count}
-use Rattle.build.proofs.Laying.{Laying, begin, fits, next, finished, laid-at}
+use Rattle.build.proofs.Laying.{Laying, begin, fits, lens-room, next, finished, laid-at}
 use Rattle.build.proofs.patterns.Statement.{statement}
 use Rattle.build.proofs.patterns.Tie as tie
 
@@ -19,9 +18,7 @@ abbrev μ-loop : tie.MeasureT-loop
 loop-holds : tie.Need-loop-holds Inv-loop μ-loop
 loop-holds c =
     let st = c .before .before .before in
-    let a : 10 * two 0 (st .args .image .now) ≤ length (st .args .pats .now) = omega (arith, st .pre .1, st .pre .2) in
-    let b : two 0 (st .args .image .now) ≤ length (st .args .lens .now) = omega (arith, st .pre .1, st .pre .3) in
-    begin _ _ (st .pre .0) _ _ a b (st .pre .4)
+    begin _ _ (st .pre .0) _ _ (st .pre .2)
 
 pattern-len-requires : tie.Need-pattern-len-requires Inv-loop μ-loop
 pattern-len-requires c κs =
@@ -31,7 +28,8 @@ pattern-len-requires c κs =
 slice-write-lens : tie.Need-slice-write-lens Inv-loop μ-loop
 slice-write-lens c =
     let st = c .before .before .before .before .before .before in
-    omega (arith, st .pre .3, c .before .before .loop .inv .lsLen)
+    let h : c .before .before .loop .i < two 0 (st .args .image .now) = omega (arith, st .pre .1, c .before .loop-test .taken) in
+    lens-room _ _ (st .pre .0) _ _ (st .pre .2) _ _ _ (c .before .before .loop .inv) h _ (c .pattern-len .ensures)
 
 mul-put-pattern : tie.Need-mul-put-pattern Inv-loop μ-loop
 mul-put-pattern c =
@@ -41,11 +39,9 @@ mul-put-pattern c =
 put-pattern-requires : tie.Need-put-pattern-requires Inv-loop μ-loop
 put-pattern-requires c κs =
     let st = c .before .before .before .before .before .before .before in
-    let a : 10 * two 0 (st .args .image .now) ≤ length (st .args .pats .now) = omega (arith, st .pre .1, st .pre .2) in
-    let b : two 0 (st .args .image .now) ≤ length (st .args .lens .now) = omega (arith, st .pre .1, st .pre .3) in
     let h : c .before .before .before .loop .i < two 0 (st .args .image .now) = omega (arith, st .pre .1, c .before .before .loop-test .taken) in
     let e = c .before .pattern-len .ensures in
-    (st .pre .0, h, e, fits _ _ (st .pre .0) _ _ a b _ _ _ (c .before .before .before .loop .inv) h _ e)
+    (st .pre .0, h, e, fits _ _ (st .pre .0) _ _ (st .pre .2) _ _ _ (c .before .before .before .loop .inv) h _ e)
 
 add-i : tie.Need-add-i Inv-loop μ-loop
 add-i c = search needs
@@ -56,10 +52,8 @@ loop-less c = search needs
 loop-again : tie.Need-loop-again Inv-loop μ-loop
 loop-again c =
     let st = c .before .before .before .before .before .before .before .before .before .before in
-    let a : 10 * two 0 (st .args .image .now) ≤ length (st .args .pats .now) = omega (arith, st .pre .1, st .pre .2) in
-    let b : two 0 (st .args .image .now) ≤ length (st .args .lens .now) = omega (arith, st .pre .1, st .pre .3) in
     let h : c .before .before .before .before .before .before .loop .i < two 0 (st .args .image .now) = omega (arith, st .pre .1, c .before .before .before .before .before .loop-test .taken) in
-    next _ _ (st .pre .0) _ _ a b _ _ _ (c .before .before .before .before .before .before .loop .inv) h _ (c .before .before .before .before .pattern-len .ensures) _ (c .before .before .put-pattern .ensures)
+    next _ _ (st .pre .0) _ _ (st .pre .2) _ _ _ (c .before .before .before .before .before .before .loop .inv) h _ (c .before .before .before .before .pattern-len .ensures) _ (c .before .before .put-pattern .ensures)
 
 same-length : tie.Need-same-length Inv-loop μ-loop
 same-length c = c .before .loop .inv .psLen
@@ -70,9 +64,7 @@ same-length-2 c = c .before .loop .inv .lsLen
 returns : tie.Need-returns Inv-loop μ-loop
 returns c =
     let st = c .before .before .before .before .before in
-    let a : 10 * two 0 (st .args .image .now) ≤ length (st .args .pats .now) = omega (arith, st .pre .1, st .pre .2) in
-    let b : two 0 (st .args .image .now) ≤ length (st .args .lens .now) = omega (arith, st .pre .1, st .pre .3) in
-    finished _ _ (st .pre .0) _ _ a b _ _ (laid-at _ (omega (arith, st .pre .1, c .before .loop .inv .reached)) (c .before .loop .inv))
+    finished _ _ (st .pre .0) _ _ (st .pre .2) _ _ (laid-at _ (omega (arith, st .pre .1, c .before .loop .inv .reached)) (c .before .loop .inv))
 
 pub patterns-spec : {M : Type 1} → statement M
 patterns-spec =

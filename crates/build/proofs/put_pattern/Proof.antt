@@ -1,9 +1,9 @@
 -- The loop that lays one pattern.
 -- Assumes nothing.
-use Prim.Native.Nat.{ℕ, _+_, _-_, _≤_}
+use Prim.Native.Nat.{_-_, _≤_}
 use native.Mathlib.Omega.{arith}
 use borrow.Author.Needs.{needs}
-use lib.ListN.{length, getD}
+use lib.ListN.{getD}
 use Rattle.side.specs.Wrote.{Wrote}
 use Rattle.side.proofs.Writing.{begin, next, full}
 use Rattle.build.specs.Sides.{patternIn}

@@ -1,70 +1,54 @@
-use mathlib.Core.Path.{_≡_, refl, sym, _∙_}
+-- From a state to its child: found in the chain, or attached to it.
+-- Assumes nothing.
+use mathlib.Core.Path.{refl, sym, _∙_}
 use Rattle.count.proofs.Seeking as S
 use borrow.Author.Needs.{needs}
 use Rattle.count.proofs.descend.Statement.{statement}
 use Rattle.count.proofs.descend.Tie as tie
-use Rattle.count.proofs.descend.Reads as reads
-use Rattle.count.proofs.descend.Lts as lts
-use Rattle.count.proofs.attach.Reads as attach-reads
-use Rattle.count.proofs.find.Reads as find-reads
-use Rattle.count.proofs.wide16.Reads as wide16-reads
 
--- src/lib.rt:58:39
 mul-wide16 : tie.Need-mul-wide16
 mul-wide16 c = search needs
 
--- src/lib.rt:58:39
 slice-read-wide16 : tie.Need-slice-read-wide16
 slice-read-wide16 c = search needs
 
--- src/lib.rt:58:32
 wide16-requires : tie.Need-wide16-requires
 wide16-requires c κs = search needs
 
--- src/lib.rt:58:9
 find-requires : tie.Need-find-requires
 find-requires c κs =
     let st = c .before .before .before .before .before .before .before in
     S.may-seek _ _ _ _ _ (st .args .c) _ (st .pre .2) (st .pre .0) (c .wide16 .ensures)
 
--- src/lib.rt:60:9
 same-length : tie.Need-same-length
 same-length c = search needs
 
--- src/lib.rt:60:9
 same-length-2 : tie.Need-same-length-2
 same-length-2 c = search needs
 
--- src/lib.rt:60:9
 returns : tie.Need-returns
 returns c =
     let st = c .before .before .before .before .before .before .before .before .before in
     S.found-child _ _ _ _ _ _ _ (st .pre .2) (st .pre .0) (c .before .before .wide16 .ensures) _ (c .before .find .ensures) _ (c .if1 .taken) refl refl
 
--- src/lib.rt:62:5
 attach-requires : tie.Need-attach-requires
 attach-requires c κs =
     let st = c .before .before .before .before .before .before .before .before .before .before .before .before in
     let e = S.sought _ _ _ _ _ _ _ (st .pre .2) (st .pre .0) (c .before .before .before .before .before .wide16 .ensures) _ (c .before .before .before .before .find .ensures) in
     (st .pre .0, st .pre .1, st .pre .3 (sym e ∙ c .before .before .before .if1 .left))
 
--- src/lib.rt:65:16
 add-t13 : tie.Need-add-t13
 add-t13 c = search needs
 
--- src/lib.rt:52:1
 same-length-3 : tie.Need-same-length-3
 same-length-3 c = search needs
 
--- src/lib.rt:52:1
 same-length-4 : tie.Need-same-length-4
 same-length-4 c = search needs
 
--- src/lib.rt:52:1
 same-length-5 : tie.Need-same-length-5
 same-length-5 c = search needs
 
--- src/lib.rt:52:1
 returns-2 : tie.Need-returns-2
 returns-2 c =
     let st = c .before .before .before .before .before .before .before .before .before .before .before .before .before .before .before .before .before .before .before in

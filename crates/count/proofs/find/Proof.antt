@@ -1,12 +1,11 @@
-use mathlib.Core.Path.{_≡_, sym, subst}
+-- The search in a chain of siblings: its numbers fall, and the rest of the chain gives what the whole does.
+-- Assumes nothing.
+use mathlib.Core.Path.{sym, subst}
 use native.Mathlib.Omega.{arith}
 use borrow.Author.Needs.{needs}
 use Rattle.count.proofs.Seeking as S
 use Rattle.count.proofs.find.Statement.{statement}
 use Rattle.count.proofs.find.Tie as tie
-use Rattle.count.proofs.find.Reads as reads
-use Rattle.count.proofs.find.Lts as lts
-use Rattle.count.proofs.wide16.Reads as wide16-reads
 
 abbrev Inv-loop : tie.InvT-loop
 Inv-loop next symbol s c k₀ k = S.Seeking next symbol s c k
@@ -14,41 +13,32 @@ Inv-loop next symbol s c k₀ k = S.Seeking next symbol s c k
 abbrev μ-loop : tie.MeasureT-loop
 μ-loop next symbol s c k₀ k = k
 
--- src/lib.rt:29:5
 loop-holds : tie.Need-loop-holds Inv-loop μ-loop
 loop-holds c = S.begin _ _ _ _
 
--- src/lib.rt:30:12
 shared-slice-read-if1 : tie.Need-shared-slice-read-if1 Inv-loop μ-loop
 shared-slice-read-if1 c = omega (arith, c .before .before .loop .inv .below, c .before .before .before .before .before .pre .1)
 
--- src/lib.rt:31:13
 returns : tie.Need-returns Inv-loop μ-loop
 returns c = S.hit _ _ _ _ (c .before .before .before .before .before .before .pre .2) (c .before .before .before .before .before .before .pre .0) _ (c .before .before .before .loop .inv) (c .before .before .loop-test .taken) (c .if1 .taken)
 
--- src/lib.rt:33:20
 mul-wide16 : tie.Need-mul-wide16 Inv-loop μ-loop
 mul-wide16 c = search needs
 
--- src/lib.rt:33:20
 shared-slice-read-wide16 : tie.Need-shared-slice-read-wide16 Inv-loop μ-loop
 shared-slice-read-wide16 c = omega (arith, c .before .before .before .before .loop .inv .below, c .before .before .before .before .before .before .before .pre .0)
 
--- src/lib.rt:33:9
 wide16-requires : tie.Need-wide16-requires Inv-loop μ-loop
 wide16-requires c κs = search needs
 
--- src/lib.rt:29:5
 loop-less : tie.Need-loop-less Inv-loop μ-loop
 loop-less c = omega (arith, c .wide16 .ensures, c .before .before .before .before .before .before .before .before .pre .2 (c .before .before .before .before .before .loop .k) (c .before .before .before .before .loop-test .taken) (c .before .before .before .before .before .loop .inv .below))
 
--- src/lib.rt:29:5
 loop-again : tie.Need-loop-again Inv-loop μ-loop
 loop-again c =
     subst (S.Seeking _ _ _ _) (sym (c .wide16 .ensures))
     (S.miss _ _ _ _ (c .before .before .before .before .before .before .before .before .pre .2) (c .before .before .before .before .before .before .before .before .pre .0) _ (c .before .before .before .before .before .loop .inv) (c .before .before .before .before .loop-test .taken) (c .before .before .if1 .left))
 
--- src/lib.rt:24:1
 returns-2 : tie.Need-returns-2 Inv-loop μ-loop
 returns-2 c = S.ended _ _ _ _ (c .before .before .before .before .pre .2) (c .before .before .before .before .pre .0) _ (c .before .loop .inv) (omega arith)
 

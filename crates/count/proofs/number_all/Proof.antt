@@ -1,5 +1,7 @@
-use mathlib.Core.Path.{_≡_, _∙_}
-use Prim.Native.Nat.{ℕ, _+_, _-_, _≤_}
+-- The loop over the patterns, from the empty string alone.
+-- Assumes nothing.
+use mathlib.Core.Path.{_∙_}
+use Prim.Native.Nat.{_+_, _-_, _≤_}
 use native.Mathlib.Omega.{arith}
 use borrow.Author.Needs.{needs}
 use lib.ListN.{length-set}
@@ -8,9 +10,6 @@ use Rattle.count.specs.Chains.{Counted}
 use Rattle.count.proofs.Growing as G
 use Rattle.count.proofs.number_all.Statement.{statement}
 use Rattle.count.proofs.number_all.Tie as tie
-use Rattle.count.proofs.number_all.Reads as reads
-use Rattle.count.proofs.number_all.Lts as lts
-use Rattle.count.proofs.number_one.Reads as number-one-reads
 
 abbrev Inv-loop : tie.InvT-loop
 Inv-loop first₀ next₀ symbol₀ pats lens n count₀ i₀ first next symbol count i = (i ≤ n) × Counted pats lens i first₀ next₀ symbol₀ count first next symbol
@@ -18,21 +17,17 @@ Inv-loop first₀ next₀ symbol₀ pats lens n count₀ i₀ first next symbol 
 abbrev μ-loop : tie.MeasureT-loop
 μ-loop first₀ next₀ symbol₀ pats lens n count₀ i₀ first next symbol count i = n - i
 
--- src/lib.rt:108:5
 slice-write-first : tie.Need-slice-write-first Inv-loop μ-loop
 slice-write-first c = G.some-room _ _ _ _ _ _ (c .before .before .before .before .before .pre .1)
 
--- src/lib.rt:111:5
 loop-holds : tie.Need-loop-holds Inv-loop μ-loop
 loop-holds c = (omega arith, G.first _ _ _ _ _ _ (c .before .before .before .before .before .pre .1))
 
--- src/lib.rt:112:9
 number-one-requires : tie.Need-number-one-requires Inv-loop μ-loop
 number-one-requires c κs =
     let l = c .before .before .before .before .loop in
     let st = c .before .before .before .before .before .before .before .before .before .before in
-    let h : l .i + 1 ≤ st .args .n = omega (arith, c .before .before .before .loop-test .taken) in
-    (
+    let h : l .i + 1 ≤ st .args .n = omega (arith, c .before .before .before .loop-test .taken) in (
       patterns-less (st .args .pats .now) (st .args .lens .now) (l .i + 1) (st .args .n) h (st .pre .0),
       l .inv .1 .count,
       G.room-next _ _ _ _ _ _ (st .pre .1) _ _ _ _ _ (l .inv .1) h,
@@ -40,32 +35,25 @@ number-one-requires c κs =
       l .inv .1 .children,
     )
 
--- src/lib.rt:113:9
 add-i : tie.Need-add-i Inv-loop μ-loop
 add-i c = search needs
 
--- src/lib.rt:111:5
 loop-less : tie.Need-loop-less Inv-loop μ-loop
 loop-less c = search needs
 
--- src/lib.rt:111:5
 loop-again : tie.Need-loop-again Inv-loop μ-loop
 loop-again c =
     (omega (arith, c .before .before .before .before .before .before .before .before .before .before .loop-test .taken), G.another _ _ _ _ _ _ _ _ _ _ _ _ _ _ (c .before .before .before .before .before .before .before .before .before .before .before .loop .inv .1) (c .before .before .before .before .before .before .number-one .ensures))
 
--- src/lib.rt:97:1
 same-length : tie.Need-same-length Inv-loop μ-loop
 same-length c = c .before .loop .inv .1 .alike .firsts ∙ simp length-set
 
--- src/lib.rt:97:1
 same-length-2 : tie.Need-same-length-2 Inv-loop μ-loop
 same-length-2 c = c .before .loop .inv .1 .alike .nexts
 
--- src/lib.rt:97:1
 same-length-3 : tie.Need-same-length-3 Inv-loop μ-loop
 same-length-3 c = c .before .loop .inv .1 .alike .symbols
 
--- src/lib.rt:97:1
 returns : tie.Need-returns Inv-loop μ-loop
 returns c = G.counted _ _ _ (c .before .loop .i) _ (omega arith) (c .before .loop .inv .1 .count)
 

@@ -1,7 +1,9 @@
+-- The loop over the patterns that numbers their prefixes.
+-- Assumes nothing.
 use Rattle.side.specs.Patterns.{stateCount}
-use Prim.Native.Nat.{ℕ, _+_, _-_, _*_, _≤_, _<_}
-use mathlib.Core.Path.{_≡_, refl, sym, ap, _∙_, subst}
-use lib.ListN.{length, getD}
+use Prim.Native.Nat.{_+_, _-_, _*_, _≤_}
+use mathlib.Core.Path.{_∙_}
+use lib.ListN.{length}
 use Rattle.side.specs.Steps.{Counted}
 use Rattle.side.proofs.Counting as C
 use Rattle.side.proofs.Inserting.{patterns-less, count-grows, count-some}
@@ -9,10 +11,6 @@ use borrow.Author.Needs.{needs}
 use native.Mathlib.Omega.{arith}
 use Rattle.side.proofs.number_all.Statement.{statement}
 use Rattle.side.proofs.number_all.Tie as tie
-use Rattle.side.proofs.number_all.Reads as reads
-use Rattle.side.proofs.number_all.Lts as lts
-use Rattle.side.proofs.clear_row.Reads as clear-row-reads
-use Rattle.side.proofs.number_one.Reads as number-one-reads
 
 abbrev Inv-loop : tie.InvT-loop
 Inv-loop rows₀ pats lens n count₀ i₀ rows count i = (i ≤ n) × Counted pats lens i rows₀ count rows
@@ -20,18 +18,15 @@ Inv-loop rows₀ pats lens n count₀ i₀ rows count i = (i ≤ n) × Counted p
 abbrev μ-loop : tie.MeasureT-loop
 μ-loop rows₀ pats lens n count₀ i₀ rows count i = n - i
 
--- src/lib.rt:92:5
 clear-row-requires : tie.Need-clear-row-requires Inv-loop μ-loop
 clear-row-requires c κs =
     let st = c .before .before .before .before in
     let h = count-some (st .args .pats .now) (st .args .lens .now) (st .args .n) in
     let g : 64 ≤ length (st .args .rows .now) = omega (arith, st .pre .1) in g
 
--- src/lib.rt:95:5
 loop-holds : tie.Need-loop-holds Inv-loop μ-loop
 loop-holds c = (omega arith, C.first _ _ _ _ (c .before .before .clear-row .ensures))
 
--- src/lib.rt:96:9
 number-one-requires : tie.Need-number-one-requires Inv-loop μ-loop
 number-one-requires c κs =
     let l = c .before .before in
@@ -46,15 +41,12 @@ number-one-requires c κs =
     let m : 64 * stateCount ps ls (l .loop .i + 1) ≤ length (l .loop .rows) = omega (arith, pre .1, l .loop .inv .1 .past .len, r .kept .0) in
     (patterns-less ps ls (l .loop .i + 1) (st .args .n) h (pre .0), l .loop .inv .1 .count, m, l .loop .inv .1 .rows)
 
--- src/lib.rt:97:9
 add-i : tie.Need-add-i Inv-loop μ-loop
 add-i c = search needs
 
--- src/lib.rt:95:5
 loop-less : tie.Need-loop-less Inv-loop μ-loop
 loop-less c = search needs
 
--- src/lib.rt:95:5
 loop-again : tie.Need-loop-again Inv-loop μ-loop
 loop-again c =
     let l = c .before .before .before .before .before in
@@ -66,7 +58,6 @@ loop-again c =
     let ls = st .args .lens .now in
     (omega arith, C.another _ _ (st .args .n) _ _ _ _ _ _ (omega arith) (l .loop .inv .1) (c .before .before .number-one .ensures))
 
--- src/lib.rt:88:1
 same-length : tie.Need-same-length Inv-loop μ-loop
 same-length c =
     let l = c .before in
@@ -78,7 +69,6 @@ same-length c =
     let ls = st .args .lens .now in
     l .loop .inv .1 .past .len ∙ r .kept .0
 
--- src/lib.rt:88:1
 returns : tie.Need-returns Inv-loop μ-loop
 returns c =
     let l = c .before in

@@ -1,15 +1,11 @@
-use Prim.Native.Nat.{ℕ, _+_, _-_, _*_, _≤_, _<_}
-use mathlib.Core.Path.{_≡_, refl, sym, ap, _∙_, subst}
-use lib.ListN.{length, getD}
+-- The loop over the symbols of one pattern.
+-- Assumes nothing.
+use Prim.Native.Nat.{_-_}
 use Rattle.side.proofs.Counting as C
 use borrow.Author.Needs.{needs}
 use native.Mathlib.Omega.{arith}
 use Rattle.side.proofs.number_one.Statement.{statement}
 use Rattle.side.proofs.number_one.Tie as tie
-use Rattle.side.proofs.number_one.Reads as reads
-use Rattle.side.proofs.number_one.Lts as lts
-use Rattle.side.proofs.descend.Reads as descend-reads
-use Rattle.side.proofs.wide.Reads as wide-reads
 
 abbrev Inv-loop : tie.InvT-loop
 Inv-loop rows₀ pats lens i count a len at₀ m₀ rows at m = C.Symbols pats lens i rows₀ rows at m
@@ -17,25 +13,20 @@ Inv-loop rows₀ pats lens i count a len at₀ m₀ rows at m = C.Symbols pats l
 abbrev μ-loop : tie.MeasureT-loop
 μ-loop rows₀ pats lens i count a len at₀ m₀ rows at m = len - m
 
--- src/lib.rt:73:13
 mul-a : tie.Need-mul-a Inv-loop μ-loop
 mul-a c = search needs
 
--- src/lib.rt:74:20
 shared-slice-read-wide : tie.Need-shared-slice-read-wide Inv-loop μ-loop
 shared-slice-read-wide c = search needs
 
--- src/lib.rt:74:9
 wide-requires : tie.Need-wide-requires Inv-loop μ-loop
 wide-requires c κs = search needs
 
--- src/lib.rt:80:5
 loop-holds : tie.Need-loop-holds Inv-loop μ-loop
 loop-holds c =
     let st = c .before .before .before .before .before in
     C.begin _ _ _ (st .pre .0) _ (st .pre .2) _ (st .pre .3) (st .pre .1)
 
--- src/lib.rt:81:37
 add-descend : tie.Need-add-descend Inv-loop μ-loop
 add-descend c =
     let l = c .before .before in
@@ -44,7 +35,6 @@ add-descend c =
     let pre = st .pre in
     omega (arith, w .wide .ensures, pre .0 .short (st .args .i) (omega arith), pre .0 .few)
 
--- src/lib.rt:81:32
 shared-slice-read-descend : tie.Need-shared-slice-read-descend Inv-loop μ-loop
 shared-slice-read-descend c =
     let l = c .before .before .before in
@@ -53,7 +43,6 @@ shared-slice-read-descend c =
     let pre = st .pre in
     omega (arith, w .wide .ensures, pre .0 .short (st .args .i) (omega arith), pre .0 .room)
 
--- src/lib.rt:81:9
 descend-requires : tie.Need-descend-requires Inv-loop μ-loop
 descend-requires c κs =
     let l = c .before .before .before in
@@ -62,15 +51,12 @@ descend-requires c κs =
     let pre = st .pre in
     C.asks _ _ _ (pre .0) _ (pre .2) _ _ _ (l .loop .inv) (omega (arith, w .wide .ensures))
 
--- src/lib.rt:82:9
 add-m : tie.Need-add-m Inv-loop μ-loop
 add-m c = search needs
 
--- src/lib.rt:80:5
 loop-less : tie.Need-loop-less Inv-loop μ-loop
 loop-less c = search needs
 
--- src/lib.rt:80:5
 loop-again : tie.Need-loop-again Inv-loop μ-loop
 loop-again c =
     let l = c .before .before .before .before .before .before in
@@ -79,11 +65,9 @@ loop-again c =
     let pre = st .pre in
     C.next _ _ _ (pre .0) _ (pre .2) _ _ _ (l .loop .inv) (omega (arith, w .wide .ensures)) _ _ (c .before .before .descend .ensures)
 
--- src/lib.rt:69:1
 same-length : tie.Need-same-length Inv-loop μ-loop
 same-length c = c .before .loop .inv .past .len
 
--- src/lib.rt:69:1
 returns : tie.Need-returns Inv-loop μ-loop
 returns c =
     let l = c .before in

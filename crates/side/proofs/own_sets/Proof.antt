@@ -1,19 +1,12 @@
-use Prim.Native.Nat.{ℕ, _+_, _-_, _*_, _≤_, _<_}
-use mathlib.Core.Path.{_≡_, refl, sym, ap, _∙_, subst}
-use lib.ListN.{length, getD}
-use Rattle.side.specs.Patterns.{patternsOf}
-use Rattle.side.specs.Wrote.{Past}
-use Rattle.side.specs.Filled.{Owned}
+-- The loop that puts each place into the set of its pattern's state.
+-- Assumes nothing.
+use Prim.Native.Nat.{_+_, _-_, _*_, _≤_}
+use lib.ListN.{length}
 use Rattle.side.proofs.Filling as F
 use borrow.Author.Needs.{needs}
 use native.Mathlib.Omega.{arith}
 use Rattle.side.proofs.own_sets.Statement.{statement}
 use Rattle.side.proofs.own_sets.Tie as tie
-use Rattle.side.proofs.own_sets.Reads as reads
-use Rattle.side.proofs.own_sets.Lts as lts
-use Rattle.side.proofs.put_place.Reads as put-place-reads
-use Rattle.side.proofs.state_of.Reads as state-of-reads
-use Rattle.side.proofs.wide.Reads as wide-reads
 
 abbrev Inv-loop : tie.InvT-loop
 Inv-loop sets₀ rows count pats lens n i₀ sets i = F.Owning pats lens n count sets₀ sets i
@@ -21,25 +14,20 @@ Inv-loop sets₀ rows count pats lens n i₀ sets i = F.Owning pats lens n count
 abbrev μ-loop : tie.MeasureT-loop
 μ-loop sets₀ rows count pats lens n i₀ sets i = n - i
 
--- src/lib.rt:180:5
 loop-holds : tie.Need-loop-holds Inv-loop μ-loop
 loop-holds c =
     let pre = c .before .before .before .before .pre in
     F.own-begin _ _ _ _ _ (c .before .before .before .before .args .rows .now) (pre .0) (pre .1) (pre .2) (pre .3) (pre .4) (pre .5)
 
--- src/lib.rt:181:17
 mul-a : tie.Need-mul-a Inv-loop μ-loop
 mul-a c = search needs
 
--- src/lib.rt:182:26
 shared-slice-read-wide : tie.Need-shared-slice-read-wide Inv-loop μ-loop
 shared-slice-read-wide c = search needs
 
--- src/lib.rt:182:21
 wide-requires : tie.Need-wide-requires Inv-loop μ-loop
 wide-requires c κs = search needs
 
--- src/lib.rt:182:17
 add-e : tie.Need-add-e Inv-loop μ-loop
 add-e c =
     let l = c .before .before .before in
@@ -47,7 +35,6 @@ add-e c =
     let pre = st .pre in
     omega (arith, c .wide .ensures, pre .0 .few, pre .0 .short (l .loop .i) (omega arith))
 
--- src/lib.rt:183:13
 state-of-requires : tie.Need-state-of-requires Inv-loop μ-loop
 state-of-requires c κs =
     let l = c .before .before .before in
@@ -55,7 +42,6 @@ state-of-requires c κs =
     let pre = st .pre in
     F.own-asks _ _ _ _ _ _ (pre .0) (pre .1) (pre .2) (pre .3) (pre .4) _ _ (l .loop .inv) (omega arith) _ (c .wide .ensures)
 
--- src/lib.rt:184:9
 put-place-requires : tie.Need-put-place-requires Inv-loop μ-loop
 put-place-requires c κs =
     let l = c .before .before .before .before .before in
@@ -64,15 +50,12 @@ put-place-requires c κs =
     let g : 8 * c .before .state-of .result + 8 ≤ length (l .loop .sets) = omega (arith, c .before .state-of .ensures .1, pre .3, l .loop .inv .setsPast .len) in
     (g, omega (arith, pre .0 .few))
 
--- src/lib.rt:185:9
 add-i : tie.Need-add-i Inv-loop μ-loop
 add-i c = search needs
 
--- src/lib.rt:180:5
 loop-less : tie.Need-loop-less Inv-loop μ-loop
 loop-less c = search needs
 
--- src/lib.rt:180:5
 loop-again : tie.Need-loop-again Inv-loop μ-loop
 loop-again c =
     let l = c .before .before .before .before .before .before .before .before in
@@ -82,11 +65,9 @@ loop-again c =
     let w = s .before in
     F.own-another _ _ _ _ _ (st .args .rows .now) (pre .0) (pre .1) (pre .2) (pre .3) (pre .4) _ _ (l .loop .inv) (omega arith) _ (w .wide .ensures) _ _ (s .state-of .ensures .0) (s .state-of .ensures .1) (c .before .before .put-place .ensures)
 
--- src/lib.rt:175:1
 same-length : tie.Need-same-length Inv-loop μ-loop
 same-length c = c .before .loop .inv .setsPast .len
 
--- src/lib.rt:175:1
 returns : tie.Need-returns Inv-loop μ-loop
 returns c =
     let l = c .before in
