@@ -1,0 +1,391 @@
+-- Many names in one call: while names are answered in turn, what stands and what is to come make the same lot.
+-- Assumes nothing.
+use Prim.Native.Nat.{ℕ, zero, suc, _+_, _-_, _*_, _/_, _≤_, _<_}
+use mathlib.Core.Path.{_≡_, refl, sym, ap, ap₂, _∙_, subst}
+use mathlib.Core.Bool.{Bool, true, false}
+use mathlib.Core.List.{List, [], _∷_, _++_, append-assoc, append-nil}
+use native.Mathlib.Omega.{arith}
+use lib.Dec.{leb, ltb}
+use lib.ListN.{length, getD, take, drop, set, length-append, length-drop, drop-of-length-le, take-append-drop}
+use lib.Seq.{drop-cons, drop-drop, take-at, drop-at, take-append-add, drop-append-add, length-take-le, take-all, sets-eq}
+use borrow.Rule.Slice.PartMut.{midOf, putMid}
+use borrow.Author.Tests.{leb-true, leb-false, le-leb, lt-leb, ltb-true, ltb-false, lt-ltb, le-ltb}
+use Rattle.rules.specs.Shape.{pick}
+use Rattle.image.specs.Image.{valid, entriesOf}
+use Rattle.reading.specs.Fitting.{Str}
+use Rattle.reading.specs.Reading.{Reading, finished, stopped}
+use Rattle.reading.specs.Speech.{phonesOf, numbersOf, Told, Said, toldOf, saying, over, delivered, judgedName, refused}
+use Rattle.tables.specs.Walk.{Walked, walkWords, walkSaid}
+use Rattle.walk.specs.Walked.{walkedOf}
+use Rattle.walk.specs.declared.WalkAnswer.{WalkAnswer}
+use Rattle.tables.proofs.Truth.{byBool, clash}
+use Rattle.host.specs.Codes.{phonesGiven, numbersGiven}
+use Rattle.host.specs.Many.{namesIn, replied, Lot, then, each, spokenAll, Many, manyFrom, manySaid, rest, whole, Within, hasNext, nextName, Next}
+use Rattle.host.specs.declared.Progress.{Progress}
+
+-- ---- parts of lists
+
+-- z stands from a on, and what it gives ends at b
+module _ (a g b : ℕ) (xs zs ys : List ℕ) (h : a ≤ length xs) (e : b ≡ a + g) (now : ys ≡ take a xs ++ zs) where
+  seam : b ≡ length (take a xs) + g
+  seam = omega (arith, e, length-take-le a xs h)
+
+  pub part-take : (ls : List ℕ) → take b ys ++ ls ≡ take a xs ++ (take g zs ++ ls)
+  part-take ls =
+      ap (λ (l : List ℕ). l ++ ls) (ap₂ (λ (n : ℕ) (l : List ℕ). take n l) seam now ∙ take-append-add (take a xs) zs g)
+      ∙ append-assoc (take a xs) (take g zs) ls
+
+  pub part-drop : drop b ys ≡ drop g zs
+  part-drop = ap₂ (λ (n : ℕ) (l : List ℕ). drop n l) seam now ∙ drop-append-add (take a xs) zs g
+
+  pub part-in : g ≤ length zs → b ≤ length ys
+  part-in k = omega (arith, k, e, ap length now, length-append (take a xs) zs, length-take-le a xs h)
+
+  pub part-length : length zs ≡ length (drop a xs) → length ys ≡ length xs
+  part-length k = omega (arith, k, ap length now, length-append (take a xs) zs, length-take-le a xs h, length-drop a xs, h)
+
+-- vs are put from a to b
+module _ (a b : ℕ) (xs vs ys : List ℕ) (h : a ≤ length xs) (e : b ≡ a + length vs) (now : ys ≡ take a xs ++ (vs ++ drop b xs)) where
+  joined : ys ≡ (take a xs ++ vs) ++ drop b xs
+  joined = now ∙ sym (append-assoc (take a xs) vs (drop b xs))
+
+  long : length (take a xs ++ vs) ≡ b
+  long = omega (arith, length-append (take a xs) vs, length-take-le a xs h, e)
+
+  pub put-over : (ls : List ℕ) → take b ys ++ over ls (drop b ys) ≡ take a xs ++ over (vs ++ ls) (drop a xs)
+  put-over ls =
+      let t : take b ys ≡ take a xs ++ vs = ap (take b) joined ∙ take-at (take a xs ++ vs) (drop b xs) b long in
+      let d : drop b ys ≡ drop b xs = ap (drop b) joined ∙ drop-at (take a xs ++ vs) (drop b xs) b long in
+      let n : b + length ls ≡ a + length (vs ++ ls) = omega (arith, e, length-append vs ls) in
+      let q : drop (length ls) (drop b xs) ≡ drop (length (vs ++ ls)) (drop a xs) =
+      drop-drop (length ls) b xs ∙ (ap (λ (k : ℕ). drop k xs) n ∙ sym (drop-drop (length (vs ++ ls)) a xs)) in
+      ap₂ (λ (u v : List ℕ). u ++ over ls v) t d
+      ∙ (append-assoc (take a xs) vs (ls ++ drop (length ls) (drop b xs))
+      ∙ ap (λ (l : List ℕ). take a xs ++ l) (sym (append-assoc vs ls (drop (length ls) (drop b xs))) ∙ ap (λ (l : List ℕ). (vs ++ ls) ++ l) q))
+
+  pub put-length : b ≤ length xs → length ys ≡ length xs
+  put-length k = omega (arith, ap length joined, length-append (take a xs ++ vs) (drop b xs), long, length-drop b xs, k)
+
+-- ---- the names
+
+pick-true : (a b : Bool) → pick a b false ≡ true → (a ≡ true) × (b ≡ true)
+pick-true true b h = (refl, h)
+pick-true false b h = absurd (clash h refl)
+
+module _ (names : List ℕ) (at count k : ℕ) where
+  module _ (h : hasNext names at count k ≡ true) where
+    pub next-count : count < k
+    next-count = ltb-true count k (pick-true (ltb count k) _ h .0)
+
+    pub next-whole : at + 1 + getD names at 0 ≤ length names
+    next-whole = leb-true _ (length names) (pick-true (ltb count k) _ h .1)
+
+    -- the next name, and the names after it
+    pub names-next : namesIn (k - count) (drop at names) ≡ take (getD names at 0) (drop (at + 1) names) ∷ namesIn (k - (count + 1)) (drop (at + 1 + getD names at 0) names)
+    names-next =
+        let n = getD names at 0 in
+        let s = drop (at + 1) names in
+        let fuel : k - count ≡ suc (k - (count + 1)) = omega (arith, next-count) in
+        let one : suc at ≡ at + 1 = omega arith in
+        let inside : at < length names = omega (arith, next-whole) in
+        let tail : drop at names ≡ n ∷ s = drop-cons names at 0 inside ∙ ap (λ (m : ℕ). n ∷ drop m names) one in
+        let room : n ≤ length s = omega (arith, length-drop (at + 1) names, next-whole) in
+        ap₂ namesIn fuel tail
+        ∙ (ap (λ (t : Bool). pick t (take n s ∷ namesIn (k - (count + 1)) (drop n s)) []) (le-leb n (length s) room)
+        ∙ ap (λ (l : List ℕ). take n s ∷ namesIn (k - (count + 1)) l) (drop-drop n (at + 1) names))
+
+  names-nil : (j : ℕ) → namesIn j [] ≡ []
+  names-nil zero = refl
+  names-nil (suc j) = refl
+
+  names-broken : (j n : ℕ) (s : List ℕ) → leb n (length s) ≡ false → namesIn j (n ∷ s) ≡ []
+  names-broken zero n s h = refl
+  names-broken (suc j) n s h = ap (λ (t : Bool). pick t (take n s ∷ namesIn j (drop n s)) []) h
+
+  pub names-end : hasNext names at count k ≡ false → namesIn (k - count) (drop at names) ≡ []
+  names-end h =
+      byBool (ltb count k)
+      (λ c. byBool (leb (at + 1) (length names))
+      (λ i.
+      let n = getD names at 0 in
+      let s = drop (at + 1) names in
+      let inside : at < length names = omega (arith, leb-true (at + 1) (length names) i) in
+      let one : suc at ≡ at + 1 = omega arith in
+      let no : leb (at + 1 + n) (length names) ≡ false = ap (λ (t : Bool). pick t (leb (at + 1 + n) (length names)) false) (sym c) ∙ h in
+      let over-end : length names < at + 1 + n = leb-false (at + 1 + n) (length names) no in
+      let tail : drop at names ≡ n ∷ s = drop-cons names at 0 inside ∙ ap (λ (m : ℕ). n ∷ drop m names) one in
+      ap (namesIn (k - count)) tail ∙ names-broken (k - count) n s (lt-leb n (length s) (omega (arith, length-drop (at + 1) names, over-end, inside))))
+      (λ i.
+      let none : drop at names ≡ [] = drop-of-length-le names {i = at} (omega (arith, leb-false (at + 1) (length names) i)) in
+      ap (namesIn (k - count)) none ∙ names-nil (k - count)))
+      (λ c.
+      let fuel : k - count ≡ 0 = omega (arith, ltb-false count k c) in
+      ap (λ (j : ℕ). namesIn j (drop at names)) fuel)
+
+-- ---- the lot
+
+-- an answer gives no more than the lent memory has, which keeps its length
+pub record Fitting (s : Said) (phones numbers : List ℕ) : Type 0 where
+  pub phones-fit : phonesGiven (s .told) ≤ length phones
+  pub numbers-fit : numbersGiven (s .told) ≤ length numbers
+  pub phones-keep : length (s .phones) ≡ length phones
+  pub numbers-keep : length (s .numbers) ≡ length numbers
+
+abbrev pub Fits : (Str → List ℕ → List ℕ → Walked) → Type 0
+Fits f = (n : Str) (phones numbers : List ℕ) → Fitting (f n phones numbers .said) phones numbers
+
+lot-is : (l m : Lot) → l .count ≡ m .count → l .replies ≡ m .replies → l .phones ≡ m .phones → l .numbers ≡ m .numbers → l ≡ m
+lot-is l m a b c d = λ i. record { count = a i; replies = b i; phones = c i; numbers = d i }
+
+abbrev pub start : Progress
+start = record { at = 0; count = 0; phones = 0; numbers = 0 }
+
+-- the lot of the call is that of what stands with what is to come; p lies in the lent memory, which keeps its lengths
+pub record Going (f : Str → List ℕ → List ℕ → Walked) (names : List ℕ) (k : ℕ) (ph₀ nu₀ re₀ ph nu re : List ℕ) (p : Progress) : Type 0 where
+  pub same : whole f names k ph nu re p ≡ whole f names k ph₀ nu₀ re₀ start
+  pub within : Within f names k ph nu re p
+  pub phones-long : length ph ≡ length ph₀
+  pub numbers-long : length nu ≡ length nu₀
+  pub replies-long : length re ≡ length re₀
+
+module _ (f : Str → List ℕ → List ℕ → Walked) (names : List ℕ) (k : ℕ) where
+  pub begin : (ph nu re : List ℕ) → 4 * k ≤ length re → Going f names k ph nu re ph nu re start
+  begin ph nu re h = record {
+    same = refl;
+    within = record { at-in = omega arith; phones-in = omega arith; numbers-in = omega arith; count-in = omega arith; replies-in = h };
+    phones-long = refl;
+    numbers-long = refl;
+    replies-long = refl;
+  }
+
+  module _ (ph nu re : List ℕ) (p : Progress) (i : Within f names k ph nu re p) (h : hasNext names (p .at) (p .count) k ≡ true)
+      (ph′ nu′ re′ : List ℕ) (p′ : Progress) (x : Next f names ph nu re p ph′ nu′ re′ p′) where
+    abbrev w : Walked
+    w = nextName f names ph nu re p
+
+    replies-room : 4 * p .count + 4 ≤ length re
+    replies-room = omega (arith, i .replies-in, next-count names (p .at) (p .count) k h)
+
+    reply-end : 4 * p′ .count ≡ 4 * p .count + length (replied w)
+    reply-end = omega (arith, x .count-next)
+
+    replies-put : re′ ≡ take (4 * p .count) re ++ (replied w ++ drop (4 * p′ .count) re)
+    replies-put =
+        let four : 4 * p .count + 4 ≡ 4 * p′ .count = omega (arith, x .count-next) in
+        x .replies-now ∙ ap (λ (m : ℕ). take (4 * p .count) re ++ (replied w ++ drop m re)) four
+
+    rest-is : rest f names k ph nu p ≡ then w (rest f names k ph′ nu′ p′)
+    rest-is =
+        let ns : namesIn (k - p .count) (drop (p .at) names) ≡ take (getD names (p .at) 0) (drop (p .at + 1) names) ∷ namesIn (k - p′ .count) (drop (p′ .at) names) =
+        names-next names (p .at) (p .count) k h ∙ ap₂ (λ (m n : ℕ). take (getD names (p .at) 0) (drop (p .at + 1) names) ∷ namesIn (k - m) (drop n names)) (sym (x .count-next)) (sym (x .at-next)) in
+        let dp = part-drop (p .phones) (phonesGiven (w .said .told)) (p′ .phones) ph (w .said .phones) ph′ (i .phones-in) (x .phones-next) (x .phones-now) in
+        let dn = part-drop (p .numbers) (numbersGiven (w .said .told)) (p′ .numbers) nu (w .said .numbers) nu′ (i .numbers-in) (x .numbers-next) (x .numbers-now) in
+        ap (λ (l : List Str). each f l (drop (p .phones) ph) (drop (p .numbers) nu)) ns
+        ∙ ap₂ (λ (u v : List ℕ). then w (each f (namesIn (k - p′ .count) (drop (p′ .at) names)) u v)) (sym dp) (sym dn)
+
+    whole-is : whole f names k ph′ nu′ re′ p′ ≡ whole f names k ph nu re p
+    whole-is =
+        let l = rest f names k ph′ nu′ p′ in
+        lot-is (whole f names k ph′ nu′ re′ p′) (whole f names k ph nu re p)
+        (omega (arith, x .count-next, ap (λ (m : Lot). m .count) rest-is))
+        (put-over (4 * p .count) (4 * p′ .count) re (replied w) re′ (omega (arith, replies-room)) reply-end replies-put (l .replies)
+        ∙ ap (λ (m : Lot). take (4 * p .count) re ++ over (m .replies) (drop (4 * p .count) re)) (sym rest-is))
+        (part-take (p .phones) (phonesGiven (w .said .told)) (p′ .phones) ph (w .said .phones) ph′ (i .phones-in) (x .phones-next) (x .phones-now) (l .phones)
+        ∙ ap (λ (m : Lot). take (p .phones) ph ++ m .phones) (sym rest-is))
+        (part-take (p .numbers) (numbersGiven (w .said .told)) (p′ .numbers) nu (w .said .numbers) nu′ (i .numbers-in) (x .numbers-next) (x .numbers-now) (l .numbers)
+        ∙ ap (λ (m : Lot). take (p .numbers) nu ++ m .numbers) (sym rest-is))
+
+    fit-phones : Fits f → phonesGiven (w .said .told) ≤ length (w .said .phones)
+    fit-phones fits =
+        let a = fits (take (getD names (p .at) 0) (drop (p .at + 1) names)) (drop (p .phones) ph) (drop (p .numbers) nu) in
+        omega (arith, a .phones-fit, a .phones-keep)
+
+    fit-numbers : Fits f → numbersGiven (w .said .told) ≤ length (w .said .numbers)
+    fit-numbers fits =
+        let a = fits (take (getD names (p .at) 0) (drop (p .at + 1) names)) (drop (p .phones) ph) (drop (p .numbers) nu) in
+        omega (arith, a .numbers-fit, a .numbers-keep)
+
+    replies-keep : length re′ ≡ length re
+    replies-keep = put-length (4 * p .count) (4 * p′ .count) re (replied w) re′ (omega (arith, replies-room)) reply-end replies-put (omega (arith, replies-room, x .count-next))
+
+    phones-keep : Fits f → length ph′ ≡ length ph
+    phones-keep fits =
+        part-length (p .phones) (phonesGiven (w .said .told)) (p′ .phones) ph (w .said .phones) ph′ (i .phones-in) (x .phones-next) (x .phones-now) (fits (take (getD names (p .at) 0) (drop (p .at + 1) names)) (drop (p .phones) ph) (drop (p .numbers) nu) .phones-keep)
+
+    numbers-keep : Fits f → length nu′ ≡ length nu
+    numbers-keep fits =
+        part-length (p .numbers) (numbersGiven (w .said .told)) (p′ .numbers) nu (w .said .numbers) nu′ (i .numbers-in) (x .numbers-next) (x .numbers-now) (fits (take (getD names (p .at) 0) (drop (p .at + 1) names)) (drop (p .phones) ph) (drop (p .numbers) nu) .numbers-keep)
+
+    within-next : Fits f → Within f names k ph′ nu′ re′ p′
+    within-next fits = record {
+      at-in = omega (arith, x .at-next, next-whole names (p .at) (p .count) k h);
+      phones-in = part-in (p .phones) (phonesGiven (w .said .told)) (p′ .phones) ph (w .said .phones) ph′ (i .phones-in) (x .phones-next) (x .phones-now) (fit-phones fits);
+      numbers-in = part-in (p .numbers) (numbersGiven (w .said .told)) (p′ .numbers) nu (w .said .numbers) nu′ (i .numbers-in) (x .numbers-next) (x .numbers-now) (fit-numbers fits);
+      count-in = omega (arith, x .count-next, next-count names (p .at) (p .count) k h);
+      replies-in = omega (arith, i .replies-in, replies-keep);
+    }
+
+  -- one name more
+  pub next : Fits f → (ph₀ nu₀ re₀ ph nu re : List ℕ) (p : Progress) → Going f names k ph₀ nu₀ re₀ ph nu re p → hasNext names (p .at) (p .count) k ≡ true
+      → (ph′ nu′ re′ : List ℕ) (p′ : Progress) → Next f names ph nu re p ph′ nu′ re′ p′ → Going f names k ph₀ nu₀ re₀ ph′ nu′ re′ p′
+  next fits ph₀ nu₀ re₀ ph nu re p g h ph′ nu′ re′ p′ x = record {
+    same = whole-is ph nu re p (g .within) h ph′ nu′ re′ p′ x ∙ g .same;
+    within = within-next ph nu re p (g .within) h ph′ nu′ re′ p′ x fits;
+    phones-long = phones-keep ph nu re p (g .within) h ph′ nu′ re′ p′ x fits ∙ g .phones-long;
+    numbers-long = numbers-keep ph nu re p (g .within) h ph′ nu′ re′ p′ x fits ∙ g .numbers-long;
+    replies-long = replies-keep ph nu re p (g .within) h ph′ nu′ re′ p′ x ∙ g .replies-long;
+  }
+
+  -- no name more: what stands is the lot
+  whole-end : (ph nu re : List ℕ) (p : Progress) → hasNext names (p .at) (p .count) k ≡ false
+      → whole f names k ph nu re p ≡ record { count = p .count; replies = re; phones = ph; numbers = nu }
+  whole-end ph nu re p h =
+      let r : rest f names k ph nu p ≡ record { count = 0; replies = []; phones = drop (p .phones) ph; numbers = drop (p .numbers) nu } =
+      ap (λ (l : List Str). each f l (drop (p .phones) ph) (drop (p .numbers) nu)) (names-end names (p .at) (p .count) k h) in
+      lot-is (whole f names k ph nu re p) (record { count = p .count; replies = re; phones = ph; numbers = nu })
+      (omega (arith, ap (λ (m : Lot). m .count) r))
+      (ap (λ (m : Lot). take (4 * p .count) re ++ over (m .replies) (drop (4 * p .count) re)) r ∙ take-append-drop (4 * p .count) re)
+      (ap (λ (m : Lot). take (p .phones) ph ++ m .phones) r ∙ take-append-drop (p .phones) ph)
+      (ap (λ (m : Lot). take (p .numbers) nu ++ m .numbers) r ∙ take-append-drop (p .numbers) nu)
+
+  whole-start : (ph nu re : List ℕ)
+      → whole f names k ph nu re start
+      ≡ record { count = each f (namesIn k names) ph nu .count; replies = over (each f (namesIn k names) ph nu .replies) re; phones = each f (namesIn k names) ph nu .phones; numbers = each f (namesIn k names) ph nu .numbers }
+  whole-start ph nu re =
+      let z : k - 0 ≡ k = omega arith in
+      let r : rest f names k ph nu start ≡ each f (namesIn k names) ph nu = ap (λ (j : ℕ). each f (namesIn j names) ph nu) z in
+      lot-is (whole f names k ph nu re start) (record { count = each f (namesIn k names) ph nu .count; replies = over (each f (namesIn k names) ph nu .replies) re; phones = each f (namesIn k names) ph nu .phones; numbers = each f (namesIn k names) ph nu .numbers })
+      (omega (arith, ap (λ (m : Lot). m .count) r)) (ap (λ (m : Lot). over (m .replies) re) r) (ap (λ (m : Lot). m .phones) r) (ap (λ (m : Lot). m .numbers) r)
+
+  module _ (ph₀ nu₀ re₀ ph nu re : List ℕ) (p : Progress) (g : Going f names k ph₀ nu₀ re₀ ph nu re p) (h : hasNext names (p .at) (p .count) k ≡ false) where
+    ended : _≡_ {A = Lot} (record { count = p .count; replies = re; phones = ph; numbers = nu })
+        (record { count = each f (namesIn k names) ph₀ nu₀ .count; replies = over (each f (namesIn k names) ph₀ nu₀ .replies) re₀; phones = each f (namesIn k names) ph₀ nu₀ .phones; numbers = each f (namesIn k names) ph₀ nu₀ .numbers })
+    ended = sym (whole-end ph nu re p h) ∙ (g .same ∙ whole-start ph₀ nu₀ re₀)
+
+    pub end-count : p .count ≡ each f (namesIn k names) ph₀ nu₀ .count
+    end-count = ap (λ (m : Lot). m .count) ended
+
+    pub end-replies : re ≡ over (each f (namesIn k names) ph₀ nu₀ .replies) re₀
+    end-replies = ap (λ (m : Lot). m .replies) ended
+
+    pub end-phones : ph ≡ each f (namesIn k names) ph₀ nu₀ .phones
+    end-phones = ap (λ (m : Lot). m .phones) ended
+
+    pub end-numbers : nu ≡ each f (namesIn k names) ph₀ nu₀ .numbers
+    end-numbers = ap (λ (m : Lot). m .numbers) ended
+
+-- ---- the walk gives no more than the lent memory has
+
+over-length : (ys xs : List ℕ) → length ys ≤ length xs → length (over ys xs) ≡ length xs
+over-length ys xs h = omega (arith, length-append ys (drop (length ys) xs), length-drop (length ys) xs, h)
+
+kept : (n p : ℕ) (phones numbers : List ℕ) → Fitting (saying (refused n p) phones numbers) phones numbers
+kept n p phones numbers = record { phones-fit = omega arith; numbers-fit = omega arith; phones-keep = refl; numbers-keep = refl }
+
+delivered-fit : (o : Reading) (phones numbers : List ℕ) → Fitting (delivered o phones numbers) phones numbers
+delivered-fit (stopped n p) phones numbers = kept n p phones numbers
+delivered-fit (finished rs) phones numbers =
+    byBool (leb (length (phonesOf rs)) (length phones))
+    (λ a. byBool (leb (length (numbersOf rs)) (length numbers))
+    (λ b.
+    let h = leb-true (length (phonesOf rs)) (length phones) a in
+    let k = leb-true (length (numbersOf rs)) (length numbers) b in
+    rw (a, b) (record { phones-fit = h; numbers-fit = k; phones-keep = over-length (phonesOf rs) phones h; numbers-keep = over-length (numbersOf rs) numbers k }))
+    (λ b. rw (a, b) (kept 5 (length (numbersOf rs)) phones numbers)))
+    (λ a. rw a (kept 4 (length (phonesOf rs)) phones numbers))
+
+pub walk-fits : (image ws ss : List ℕ) → Fits (walkSaid image ws ss)
+unfolding walkSaid
+walk-fits image ws ss n phones numbers =
+    byBool (valid image) (λ v. rw v (delivered-fit (judgedName n (walkWords ws ss (entriesOf image) n)) phones numbers)) (λ v. rw v (kept 0 0 phones numbers))
+
+-- ---- one name, as the code answers it
+
+-- a part that runs to the end, `&mut xs[a..]`, as the borrow checker has it
+tail-is : (a : ℕ) (xs : List ℕ) → midOf a (length xs - a) xs ≡ drop a xs
+tail-is a xs = take-all (length xs - a) (drop a xs) (simp length-drop (omega arith))
+
+put-tail : (a : ℕ) (xs zs : List ℕ) → putMid a (length xs - a) xs zs ≡ take a xs ++ zs
+put-tail a xs zs =
+    let e : drop (length xs - a) (drop a xs) ≡ [] = drop-of-length-le (drop a xs) {i = length xs - a} (simp length-drop (omega arith)) in
+    ap (λ (t : List ℕ). take a xs ++ (zs ++ t)) e ∙ ap (λ (t : List ℕ). take a xs ++ t) (append-nil zs)
+
+module _ (image ws ss names ph nu re : List ℕ) (p : Progress) (n : ℕ) (r : WalkAnswer) (zs ys : List ℕ) (here : n ≡ getD names (p .at) 0)
+    (e : walkedOf r zs ys ≡ walkSaid image ws ss (take (p .at + 1 + n - (p .at + 1)) (drop (p .at + 1) names)) (midOf (p .phones) (length ph - p .phones) ph) (midOf (p .numbers) (length nu - p .numbers) nu)) where
+  named : walkedOf r zs ys ≡ nextName (walkSaid image ws ss) names ph nu re p
+  named =
+      let size : p .at + 1 + n - (p .at + 1) ≡ getD names (p .at) 0 = omega (arith, here) in
+      e ∙ (ap (λ (k : ℕ). walkSaid image ws ss (take k (drop (p .at + 1) names)) (midOf (p .phones) (length ph - p .phones) ph) (midOf (p .numbers) (length nu - p .numbers) nu)) size
+      ∙ ap₂ (walkSaid image ws ss (take (getD names (p .at) 0) (drop (p .at + 1) names))) (tail-is (p .phones) ph) (tail-is (p .numbers) nu))
+
+  -- what the answer gives has room after what was given before
+  pub phones-room : (g : ℕ) → g ≡ phonesGiven (toldOf (r .speech)) → p .phones ≤ length ph → p .phones + g ≤ length ph
+  phones-room g h k =
+      let a = walk-fits image ws ss (take (getD names (p .at) 0) (drop (p .at + 1) names)) (drop (p .phones) ph) (drop (p .numbers) nu) .phones-fit in
+      let b : phonesGiven (toldOf (r .speech)) ≡ phonesGiven (nextName (walkSaid image ws ss) names ph nu re p .said .told) = ap (λ (x : Walked). phonesGiven (x .said .told)) named in
+      omega (arith, a, b, h, k, length-drop (p .phones) ph)
+
+  pub numbers-room : (g : ℕ) → g ≡ numbersGiven (toldOf (r .speech)) → p .numbers ≤ length nu → p .numbers + g ≤ length nu
+  numbers-room g h k =
+      let a = walk-fits image ws ss (take (getD names (p .at) 0) (drop (p .at + 1) names)) (drop (p .phones) ph) (drop (p .numbers) nu) .numbers-fit in
+      let b : numbersGiven (toldOf (r .speech)) ≡ numbersGiven (nextName (walkSaid image ws ss) names ph nu re p .said .told) = ap (λ (x : Walked). numbersGiven (x .said .told)) named in
+      omega (arith, a, b, h, k, length-drop (p .numbers) nu)
+
+  pub next-is : (g h : ℕ) → g ≡ phonesGiven (toldOf (r .speech)) → h ≡ numbersGiven (toldOf (r .speech)) → (re′ : List ℕ)
+      → re′ ≡ take (4 * p .count) re ++ (replied (walkedOf r zs ys) ++ drop (4 * p .count + 4) re)
+      → Next (walkSaid image ws ss) names ph nu re p (putMid (p .phones) (length ph - p .phones) ph zs) (putMid (p .numbers) (length nu - p .numbers) nu ys) re′
+      (record { at = p .at + 1 + n; count = p .count + 1; phones = p .phones + g; numbers = p .numbers + h })
+  next-is g h eg eh re′ er = record {
+    at-next = ap (λ (k : ℕ). p .at + 1 + k) here;
+    count-next = refl;
+    phones-next = ap (λ (k : ℕ). p .phones + k) (eg ∙ ap (λ (x : Walked). phonesGiven (x .said .told)) named);
+    numbers-next = ap (λ (k : ℕ). p .numbers + k) (eh ∙ ap (λ (x : Walked). numbersGiven (x .said .told)) named);
+    phones-now = put-tail (p .phones) ph zs ∙ ap (λ (x : Walked). take (p .phones) ph ++ x .said .phones) named;
+    numbers-now = put-tail (p .numbers) nu ys ∙ ap (λ (x : Walked). take (p .numbers) nu ++ x .said .numbers) named;
+    replies-now = er ∙ ap (λ (x : Walked). take (4 * p .count) re ++ (replied x ++ drop (4 * p .count + 4) re)) named;
+  }
+
+-- four stores one after another
+pub put-four : (re : List ℕ) (at a b c d a′ b′ c′ : ℕ) → at + 4 ≤ length re → a ≡ a′ → b ≡ b′ → c ≡ c′
+    → set (set (set (set re at a) (at + 1) b) (at + 2) c) (at + 3) d ≡ take at re ++ (a′ ∷ b′ ∷ c′ ∷ d ∷ drop (at + 4) re)
+put-four re at a b c d a′ b′ c′ h ea eb ec =
+    let e₁ : at + 1 ≡ suc at = omega arith in
+    let e₂ : at + 2 ≡ suc (suc at) = omega arith in
+    let e₃ : at + 3 ≡ suc (suc (suc at)) = omega arith in
+    ap (λ (x : ℕ). set (set (set (set re at x) (at + 1) b) (at + 2) c) (at + 3) d) ea
+    ∙ (ap₂ (λ (x y : ℕ). set (set (set (set re at a′) (at + 1) x) (at + 2) y) (at + 3) d) eb ec
+    ∙ (ap (λ (i : ℕ). set (set (set (set re at a′) i b′) (at + 2) c′) (at + 3) d) e₁
+    ∙ (ap₂ (λ (i j : ℕ). set (set (set (set re at a′) (suc at) b′) i c′) j d) e₂ e₃
+    ∙ (sets-eq (a′ ∷ b′ ∷ c′ ∷ d ∷ []) re at h ∙ append-assoc (take at re) (a′ ∷ b′ ∷ c′ ∷ d ∷ []) (drop (at + 4) re)))))
+
+-- ---- whether a name is left
+
+has-full : (t : Bool) → false ≡ pick t false false
+has-full true = refl
+has-full false = refl
+
+module _ (names : List ℕ) (at count k : ℕ) where
+  pub has-none : k ≤ count → false ≡ hasNext names at count k
+  has-none h = ap (λ (t : Bool). pick t (leb (at + 1 + getD names at 0) (length names)) false) (sym (le-ltb count k h))
+
+  pub has-broken : length names < at + 1 + getD names at 0 → false ≡ hasNext names at count k
+  has-broken h = has-full (ltb count k) ∙ ap (λ (t : Bool). pick (ltb count k) t false) (sym (lt-leb (at + 1 + getD names at 0) (length names) h))
+
+  pub has-one : count < k → at + 1 + getD names at 0 ≤ length names → true ≡ hasNext names at count k
+  has-one h i = ap₂ (λ (s t : Bool). pick s t false) (sym (lt-ltb count k h)) (sym (le-leb (at + 1 + getD names at 0) (length names) i))
+
+-- ---- the whole call
+
+module _ (image ws ss names ph nu re : List ℕ) where
+  module _ (v : valid image ≡ true) where
+    pub many-valid : manySaid image ws ss names ph nu re ≡ manyFrom (spokenAll image ws ss names ph nu re) re
+    unfolding manySaid
+    many-valid = ap (λ (t : Bool). pick t (manyFrom (spokenAll image ws ss names ph nu re) re) (record { code = 0; count = 0; replies = re; phones = ph; numbers = nu })) v
+
+  pub many-invalid : valid image ≡ false → manySaid image ws ss names ph nu re ≡ record { code = 0; count = 0; replies = re; phones = ph; numbers = nu }
+  unfolding manySaid
+  many-invalid v = ap (λ (t : Bool). pick t (manyFrom (spokenAll image ws ss names ph nu re) re) (record { code = 0; count = 0; replies = re; phones = ph; numbers = nu })) v
+
+  pub all-is : spokenAll image ws ss names ph nu re ≡ each (walkSaid image ws ss) (namesIn (length re / 4) names) ph nu
+  unfolding spokenAll
+  all-is = refl

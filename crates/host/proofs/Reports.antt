@@ -1,0 +1,101 @@
+-- What a call's report in numbers says, from the library's equation.
+-- Assumes nothing.
+use Prim.Native.Nat.{ℕ, _+_, _≤_, _<_}
+use mathlib.Core.Path.{_≡_, refl, sym, ap, _∙_}
+use mathlib.Core.Bool.{Bool, true, false}
+use mathlib.Core.List.{List, [], _∷_}
+use native.Mathlib.Omega.{arith}
+use lib.Dec.{eqb, leb}
+use lib.ListN.{length, getD, take, drop, length-drop}
+use lib.Seq.{getD-drop}
+use borrow.Author.Tests.{eq-eqb, ne-eqb, lt-leb, le-leb}
+use Rattle.rules.specs.Shape.{pick}
+use Rattle.rules.specs.declared.Rule.{Rule}
+use Rattle.rules.specs.Refusals.{Reply, accepted, declined}
+use Rattle.image.specs.Image.{imageSize, valid, two, Edited, outcome}
+use Rattle.image.proofs.Bytes.{four-front, six-front}
+use Rattle.reading.specs.Speech.{Told, Said, saying}
+use Rattle.tables.specs.Walk.{Walked}
+use Rattle.host.specs.Codes.{codeOf, placeIn, checked, countIn, lastIn, spokenCode, phonesOrPlace, numbersGiven, blankRule, ruleOf, ruleIn}
+
+-- the numbers of an edit or a reading, and the memory after it
+module _ (a : Reply) (image : List ℕ) (e : Edited) (h : outcome a image ≡ e) where
+  pub code-is : (r : ℕ) → r ≡ codeOf a → r ≡ codeOf (e .reply)
+  code-is r c = c ∙ ap (λ (x : Edited). codeOf (x .reply)) h
+
+  pub place-is : (r : ℕ) → r ≡ placeIn a → r ≡ placeIn (e .reply)
+  place-is r c = c ∙ ap (λ (x : Edited). placeIn (x .reply)) h
+
+  pub image-is : image ≡ e .image
+  image-is = ap (λ (x : Edited). x .image) h
+
+pub checked-is : (image : List ℕ) (b : Bool) → valid image ≡ b → codeOf (checked image) ≡ pick b 255 0
+checked-is image true h = ap (λ (t : Bool). codeOf (pick t accepted (declined 0 0))) h
+checked-is image false h = ap (λ (t : Bool). codeOf (pick t accepted (declined 0 0))) h
+
+-- what memory holds, long enough or not
+pub count-long : (image : List ℕ) → 13316 ≤ length image → two 0 image ≡ countIn image
+count-long image h = ap (λ (t : Bool). pick t (two 0 image) 0) (sym (le-leb imageSize (length image) h))
+
+pub count-short : (image : List ℕ) → length image < 13316 → 0 ≡ countIn image
+count-short image h = ap (λ (t : Bool). pick t (two 0 image) 0) (sym (lt-leb imageSize (length image) h))
+
+pub last-long : (image : List ℕ) → 13316 ≤ length image → two 2 image ≡ lastIn image
+last-long image h = ap (λ (t : Bool). pick t (two 2 image) 0) (sym (le-leb imageSize (length image) h))
+
+pub last-short : (image : List ℕ) → length image < 13316 → 0 ≡ lastIn image
+last-short image h = ap (λ (t : Bool). pick t (two 2 image) 0) (sym (lt-leb imageSize (length image) h))
+
+-- a rule from 24 bytes, read one by one
+four : (k : ℕ) (s : List ℕ) → k + 4 ≤ length s
+    → getD s (k + 0) 0 ∷ getD s (k + 1) 0 ∷ getD s (k + 2) 0 ∷ getD s (k + 3) 0 ∷ [] ≡ take 4 (drop k s)
+four k s h =
+    rw (← getD-drop k s 0 0, ← getD-drop k s 1 0, ← getD-drop k s 2 0, ← getD-drop k s 3 0)
+    (four-front (drop k s) (simp length-drop (omega arith)))
+
+six : (k : ℕ) (s : List ℕ) → k + 6 ≤ length s
+    → getD s (k + 0) 0 ∷ getD s (k + 1) 0 ∷ getD s (k + 2) 0 ∷ getD s (k + 3) 0 ∷ getD s (k + 4) 0 ∷ getD s (k + 5) 0 ∷ []
+    ≡ take 6 (drop k s)
+six k s h =
+    rw (← getD-drop k s 0 0, ← getD-drop k s 1 0, ← getD-drop k s 2 0, ← getD-drop k s 3 0, ← getD-drop k s 4 0, ← getD-drop k s 5 0)
+    (six-front (drop k s) (simp length-drop (omega arith)))
+
+pub rule-of-is : (s : List ℕ) → length s ≡ 24
+    → _≡_ {A = Rule}
+    (record {
+      «left_len» = getD s 0 0;
+      «target_len» = getD s 1 0;
+      «right_len» = getD s 2 0;
+      «phone_len» = getD s 3 0;
+      left = getD s 4 0 ∷ getD s 5 0 ∷ getD s 6 0 ∷ getD s 7 0 ∷ getD s 8 0 ∷ getD s 9 0 ∷ [];
+      target = getD s 10 0 ∷ getD s 11 0 ∷ getD s 12 0 ∷ getD s 13 0 ∷ [];
+      right = getD s 14 0 ∷ getD s 15 0 ∷ getD s 16 0 ∷ getD s 17 0 ∷ getD s 18 0 ∷ getD s 19 0 ∷ [];
+      phones = getD s 20 0 ∷ getD s 21 0 ∷ getD s 22 0 ∷ getD s 23 0 ∷ [];
+    })
+    (ruleOf s)
+rule-of-is s h = cc (six 4 s (omega arith), four 10 s (omega arith), six 14 s (omega arith), four 20 s (omega arith))
+
+pub rule-yes : (s : List ℕ) (r : Rule) → r ≡ ruleOf s → length s ≡ 24 → r ≡ ruleIn s
+unfolding ruleIn
+rule-yes s r e h = e ∙ ap (λ (t : Bool). pick t (ruleOf s) blankRule) (sym (eq-eqb (length s) 24 h))
+
+pub rule-no : (s : List ℕ) → (length s ≡ 24 → ⊥) → blankRule ≡ ruleIn s
+unfolding ruleIn
+rule-no s h = ap (λ (t : Bool). pick t (ruleOf s) blankRule) (sym (ne-eqb (length s) 24 h))
+
+-- the numbers of a call that speaks, and the lent memory after it
+module _ (t : Told) (phones numbers : List ℕ) (s : Said) (h : saying t phones numbers ≡ s) where
+  pub said-code : (r : ℕ) → r ≡ spokenCode t → r ≡ spokenCode (s .told)
+  said-code r c = c ∙ ap (λ (x : Said). spokenCode (x .told)) h
+
+  pub said-given : (r : ℕ) → r ≡ phonesOrPlace t → r ≡ phonesOrPlace (s .told)
+  said-given r c = c ∙ ap (λ (x : Said). phonesOrPlace (x .told)) h
+
+  pub said-applied : (r : ℕ) → r ≡ numbersGiven t → r ≡ numbersGiven (s .told)
+  said-applied r c = c ∙ ap (λ (x : Said). numbersGiven (x .told)) h
+
+  pub said-phones : phones ≡ s .phones
+  said-phones = ap (λ (x : Said). x .phones) h
+
+  pub said-numbers : numbers ≡ s .numbers
+  said-numbers = ap (λ (x : Said). x .numbers) h

@@ -1,0 +1,20 @@
+-- `host::pirrozketa_count` meets its contract.
+-- Assumes nothing.
+use mathlib.Core.Path.{_∙_}
+use native.Mathlib.Omega.{arith}
+use Rattle.host.proofs.Reports.{count-short, count-long}
+use borrow.Author.Needs.{needs}
+use Rattle.host.proofs.pirrozketa_count.Statement.{statement}
+use Rattle.host.proofs.pirrozketa_count.Tie as tie
+
+returns : tie.Need-returns
+returns c = count-short (c .before .before .args .image .now) (omega arith)
+
+two-at-requires : tie.Need-two-at-requires
+two-at-requires c κs = search needs
+
+returns-2 : tie.Need-returns-2
+returns-2 c = c .two-at .ensures ∙ count-long (c .before .before .before .args .image .now) (omega arith)
+
+pub pirrozketa-count-spec : {M : Type 1} → statement M
+pirrozketa-count-spec = tie.close (tie.spec returns two-at-requires returns-2)

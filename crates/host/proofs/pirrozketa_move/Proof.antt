@@ -1,0 +1,27 @@
+-- `host::pirrozketa_move` meets its contract.
+-- Assumes nothing.
+use Rattle.host.proofs.Reports.{code-is, place-is, image-is}
+use borrow.Author.Needs.{needs}
+use Rattle.host.proofs.pirrozketa_move.Statement.{statement}
+use Rattle.host.proofs.pirrozketa_move.Tie as tie
+
+move-rule-requires : tie.Need-move-rule-requires
+move-rule-requires c κs = search needs
+
+place-in-requires : tie.Need-place-in-requires
+place-in-requires c κs = search needs
+
+code-of-requires : tie.Need-code-of-requires
+code-of-requires c κs = search needs
+
+same-length : tie.Need-same-length
+same-length c = search needs
+
+returns : tie.Need-returns
+returns c =
+    let h = c .before .before .before .before .move-rule .ensures in
+    (code-is _ _ _ h _ (c .code-of .ensures), (place-is _ _ _ h _ (c .before .place-in .ensures), image-is _ _ _ h))
+
+pub pirrozketa-move-spec : {M : Type 1} → statement M
+pirrozketa-move-spec =
+    tie.close (tie.spec move-rule-requires place-in-requires code-of-requires same-length returns)

@@ -1,0 +1,43 @@
+-- `host::pirrozketa_read_name` meets its contract.
+-- Assumes nothing.
+use Rattle.host.proofs.Reports.{said-code, said-given, said-applied, said-phones, said-numbers}
+use borrow.Author.Needs.{needs}
+use Rattle.host.proofs.pirrozketa_read_name.Statement.{statement}
+use Rattle.host.proofs.pirrozketa_read_name.Tie as tie
+
+read-name-requires : tie.Need-read-name-requires
+read-name-requires c κs = search needs
+
+phones-or-place-requires : tie.Need-phones-or-place-requires
+phones-or-place-requires c κs = search needs
+
+numbers-given-requires : tie.Need-numbers-given-requires
+numbers-given-requires c κs = search needs
+
+spoken-code-requires : tie.Need-spoken-code-requires
+spoken-code-requires c κs = search needs
+
+same-length : tie.Need-same-length
+same-length c = search needs
+
+same-length-2 : tie.Need-same-length-2
+same-length-2 c = search needs
+
+returns : tie.Need-returns
+returns c =
+    let h = c .before .before .before .before .before .before .before .read-name .ensures in
+    (said-code _ _ _ _ h _ (c .spoken-code .ensures),
+    (said-given _ _ _ _ h _ (c .before .before .phones-or-place .ensures),
+    (said-applied _ _ _ _ h _ (c .before .numbers-given .ensures), (said-phones _ _ _ _ h, said-numbers _ _ _ _ h))))
+
+pub pirrozketa-read-name-spec : {M : Type 1} → statement M
+pirrozketa-read-name-spec =
+    tie.close
+    (tie.spec
+    read-name-requires
+    phones-or-place-requires
+    numbers-given-requires
+    spoken-code-requires
+    same-length
+    same-length-2
+    returns)

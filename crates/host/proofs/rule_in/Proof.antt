@@ -1,0 +1,18 @@
+-- `host::rule_in` meets its contract: 24 bytes are a rule, others are none.
+-- Assumes nothing.
+use Rattle.host.proofs.Reports.{rule-yes, rule-no}
+use borrow.Author.Needs.{needs}
+use Rattle.host.proofs.rule_in.Statement.{statement}
+use Rattle.host.proofs.rule_in.Tie as tie
+
+rule-of-requires : tie.Need-rule-of-requires
+rule-of-requires c κs = search needs
+
+returns : tie.Need-returns
+returns c = rule-yes _ _ (c .rule-of .ensures) (c .before .if1 .taken)
+
+returns-2 : tie.Need-returns-2
+returns-2 c = rule-no _ (c .if1 .left)
+
+pub rule-in-spec : {M : Type 1} → statement M
+rule-in-spec = tie.close (tie.spec rule-of-requires returns returns-2)

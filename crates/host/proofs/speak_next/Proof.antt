@@ -1,0 +1,131 @@
+-- `host::speak_next` meets its contract: one walk, in the part of the lent memory after the answers before it.
+-- Assumes nothing.
+use native.Mathlib.Omega.{arith}
+use borrow.Author.Needs.{needs}
+use Rattle.host.proofs.Answering.{phones-room, numbers-room, next-is}
+use Rattle.host.proofs.speak_next.Statement.{statement}
+use Rattle.host.proofs.speak_next.Tie as tie
+
+add-start : tie.Need-add-start
+add-start c = search needs
+
+shared-slice-read-wide : tie.Need-shared-slice-read-wide
+shared-slice-read-wide c = search needs
+
+wide-requires : tie.Need-wide-requires
+wide-requires c κs = search needs
+
+add-end : tie.Need-add-end
+add-end c = search needs
+
+sub-walk-valid : tie.Need-sub-walk-valid
+sub-walk-valid c = search needs
+
+part-walk-valid-start : tie.Need-part-walk-valid-start
+part-walk-valid-start c = search needs
+
+part-walk-valid-end : tie.Need-part-walk-valid-end
+part-walk-valid-end c = search needs
+
+sub-walk-valid-2 : tie.Need-sub-walk-valid-2
+sub-walk-valid-2 c = search needs
+
+part-walk-valid-start-2 : tie.Need-part-walk-valid-start-2
+part-walk-valid-start-2 c = search needs
+
+part-walk-valid-end-2 : tie.Need-part-walk-valid-end-2
+part-walk-valid-end-2 c = search needs
+
+mul-walk-valid : tie.Need-mul-walk-valid
+mul-walk-valid c = search needs
+
+sub-walk-valid-3 : tie.Need-sub-walk-valid-3
+sub-walk-valid-3 c = search needs
+
+part-walk-valid-start-3 : tie.Need-part-walk-valid-start-3
+part-walk-valid-start-3 c = search needs
+
+part-walk-valid-end-3 : tie.Need-part-walk-valid-end-3
+part-walk-valid-end-3 c = search needs
+
+walk-valid-requires : tie.Need-walk-valid-requires
+walk-valid-requires c κs = search needs
+
+mul-put-reply : tie.Need-mul-put-reply
+mul-put-reply c = search needs
+
+put-reply-requires : tie.Need-put-reply-requires
+put-reply-requires c κs = search needs
+
+add-t28 : tie.Need-add-t28
+add-t28 c = omega (arith, c .before .before .before .before .before .before .before .before .before .before .before .before .before .before .before .before .before .before .before .before .before .before .before .pre .4, c .before .before .before .before .before .before .before .before .before .before .before .before .before .before .before .before .before .before .before .before .before .before .before .good .1 .1 .1 .1 .1 .1 .0)
+
+phones-given-requires : tie.Need-phones-given-requires
+phones-given-requires c κs = search needs
+
+add-t23 : tie.Need-add-t23
+add-t23 c =
+    let st = c .before .before .before .before .before .before .before .before .before .before .before .before .before .before .before .before .before .before .before .before .before .before .before .before in
+    let a = st .args in
+    let w = c .before .before .before .before .before .before .before .before .before .before .before .walk-valid in
+    let n = c .before .before .before .before .before .before .before .before .before .before .before .before .before .before .before .wide in
+    omega (arith, phones-room (a .image .now) (a .words .now) (a .sets .now) (a .names .now) (a .phones .now) (a .numbers .now) (a .replies .now) (a .p) (n .result) (w .result) (w .last .1 .1 .1 .1 .0) (w .last .1 .1 .1 .1 .1 .0) (n .ensures .0) (w .ensures) (c .phones-given .result) (c .phones-given .ensures) (st .pre .2), st .good .1 .1 .1 .1 .0)
+
+numbers-given-requires : tie.Need-numbers-given-requires
+numbers-given-requires c κs = search needs
+
+add-t34 : tie.Need-add-t34
+add-t34 c =
+    let st = c .before .before .before .before .before .before .before .before .before .before .before .before .before .before .before .before .before .before .before .before .before .before .before .before .before in
+    let a = st .args in
+    let w = c .before .before .before .before .before .before .before .before .before .before .before .before .walk-valid in
+    let n = c .before .before .before .before .before .before .before .before .before .before .before .before .before .before .before .before .wide in
+    omega (arith, numbers-room (a .image .now) (a .words .now) (a .sets .now) (a .names .now) (a .phones .now) (a .numbers .now) (a .replies .now) (a .p) (n .result) (w .result) (w .last .1 .1 .1 .1 .0) (w .last .1 .1 .1 .1 .1 .0) (n .ensures .0) (w .ensures) (c .numbers-given .result) (c .numbers-given .ensures) (st .pre .3), st .good .1 .1 .1 .1 .1 .0)
+
+same-length : tie.Need-same-length
+same-length c = search needs
+
+same-length-2 : tie.Need-same-length-2
+same-length-2 c = search needs
+
+same-length-3 : tie.Need-same-length-3
+same-length-3 c = search needs
+
+returns : tie.Need-returns
+returns c =
+    let st = c .before .before .before .before .before .before .before .before .before .before .before .before .before .before .before .before .before .before .before .before .before .before .before .before .before in
+    let a = st .args in
+    let w = c .before .before .before .before .before .before .before .before .before .before .before .before .walk-valid in
+    let n = c .before .before .before .before .before .before .before .before .before .before .before .before .before .before .before .before .wide in
+    next-is (a .image .now) (a .words .now) (a .sets .now) (a .names .now) (a .phones .now) (a .numbers .now) (a .replies .now) (a .p) (n .result) (w .result) (w .last .1 .1 .1 .1 .0) (w .last .1 .1 .1 .1 .1 .0) (n .ensures .0) (w .ensures) (c .before .phones-given .result) (c .numbers-given .result) (c .before .phones-given .ensures) (c .numbers-given .ensures) _ (c .before .before .before .before .before .put-reply .ensures)
+
+pub speak-next-spec : {M : Type 1} → statement M
+speak-next-spec =
+    tie.close
+    (tie.spec
+    add-start
+    shared-slice-read-wide
+    wide-requires
+    add-end
+    sub-walk-valid
+    part-walk-valid-start
+    part-walk-valid-end
+    sub-walk-valid-2
+    part-walk-valid-start-2
+    part-walk-valid-end-2
+    mul-walk-valid
+    sub-walk-valid-3
+    part-walk-valid-start-3
+    part-walk-valid-end-3
+    walk-valid-requires
+    mul-put-reply
+    put-reply-requires
+    add-t28
+    phones-given-requires
+    add-t23
+    numbers-given-requires
+    add-t34
+    same-length
+    same-length-2
+    same-length-3
+    returns)
