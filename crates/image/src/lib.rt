@@ -107,7 +107,7 @@ fn bytes_of(x: Numbered) -> [u8; 26]
 }
 
 // The bytes of `b` are stored from `at` on.
-fn put(s: &mut [u8], at: usize, b: &[u8])
+pub fn put(s: &mut [u8], at: usize, b: &[u8])
     requires { ⌜ at + length (now b) ≤ length (now s) ⌝ }
     ensures { λ _. ⌜ now (s .exit) ≡ paste (now (s .entry)) at (now (b .entry)) (length (now (b .entry))) ⌝ }
 {
