@@ -1,2 +1,4 @@
 pub mod Fields
 pub mod Printed
+pub mod Heard
+pub mod Spoken

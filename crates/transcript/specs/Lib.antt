@@ -1,1 +1,4 @@
 pub mod Answers
+pub mod Names
+pub mod Prepared
+pub mod Stub

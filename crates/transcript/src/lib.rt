@@ -1,11 +1,21 @@
 // What `say` answers: a rule file prepared once, then a name's line in and its answer's line out (document 01, "The six rules").
+use reading::Speech;
+use rules::Answer;
 use rules::Refusal;
 ghost use mathlib.Core.Path.{_≡_};
-ghost use mathlib.Core.List.{List, _∷_, []};
-ghost use Prim.Native.Nat.{ℕ, _+_, _*_, _/_, _%_, _<_, _≤_};
-ghost use lib.ListN.{length, take, drop};
-ghost use Rattle.frames.specs.Lines.{over, overAt};
-ghost use Rattle.transcript.specs.Answers.{two, four, twos, spokenFront, spokenBody, refusedBody, printed, refusalLine};
+ghost use mathlib.Core.Bool.{true};
+ghost use Prim.Native.Nat.{_+_, _*_, _%_, _<_, _≤_};
+ghost use lib.ListN.{length, drop};
+ghost use Rattle.frames.specs.Lines.{soundLine, lineAfter, over, overAt};
+ghost use Rattle.reading.specs.Speech.{toldOf};
+ghost use Rattle.tables.specs.Words.{building, built};
+ghost use Rattle.tables.specs.Walk.{walkSaid};
+ghost use Rattle.rules.specs.Refusals.{replyOf, accepted};
+ghost use Rattle.image.specs.Image.{valid, outcome};
+ghost use Rattle.transcript.specs.Answers.{two, twos, spokenFront, spokenBody, printed, refusalLine, toldBody};
+ghost use Rattle.transcript.specs.Names.{asked, spelt, nameAnswer, cut, heard, ToldWithin};
+ghost use Rattle.transcript.specs.Prepared.{ready, prepared};
+ghost use Rattle.transcript.specs.Stub.{walkedOf, loaded};
 
 // ---- answers
 
@@ -81,7 +91,13 @@ fn put_front(body: &mut [u8], steps: usize, count: usize) -> usize
     ensures next { λ r. ⌜ r ≡ 5 ⌝ }
     ensures bytes { λ _. ⌜ now (body .exit) ≡ over (spokenFront steps count) (now (body .entry)) ⌝ }
 {
-    let front = [4, low(steps / 256), low(steps), low(count / 256), low(count)];
+    let front = [
+        4,
+        low(steps / 256),
+        low(steps),
+        low(count / 256),
+        low(count),
+    ];
     put_field(body, 0, &front)
 }
 
@@ -107,4 +123,142 @@ pub fn spoken_line(steps: usize, phones: &[u8], numbers: &[u16], out: &mut [u8])
     let mut body = [0u8; 390];
     let n = put_spoken(&mut body, steps, phones, numbers);
     frames::write_line(out, 0, &body[..n])
+}
+
+// STUB
+pub struct WalkAnswer {
+    pub steps: usize,
+    pub speech: Speech,
+}
+
+// The line of a walk's answer, and its length.
+fn answer_line(answer: WalkAnswer, phones: &[u8], numbers: &[u16], out: &mut [u8]) -> usize
+    requires { ⌜ (length (now phones) ≤ 256) × ((length (now numbers) ≤ 64) × ((783 ≤ length (now out)) × ToldWithin (toldOf (answer .speech)) (length (now phones)) (length (now numbers)))) ⌝ }
+    ensures len { λ r. ⌜ r ≡ length (printed (toldBody (toldOf (answer .speech)) (answer .steps) (now (phones .entry)) (now (numbers .entry)))) ⌝ }
+    ensures bytes { λ _. ⌜ now (out .exit) ≡ over (printed (toldBody (toldOf (answer .speech)) (answer .steps) (now (phones .entry)) (now (numbers .entry)))) (now (out .entry)) ⌝ }
+{
+    let speech = answer.speech;
+    match speech {
+        Speech::Spoken {
+            phones: p,
+            numbers: n,
+        } => { spoken_line(answer.steps, &phones[..p], &numbers[..n], out) }
+        Speech::Refused(x) => refusal_line(x, out),
+    }
+}
+
+// ---- names
+
+// STUB
+fn walk_valid<'a>(
+    image: &[u8],
+    words: &'a [u16],
+    sets: &'a [u64],
+    name: &[u8],
+    phones: &mut [u8],
+    numbers: &mut [u16],
+) -> WalkAnswer
+    requires { ⌜ valid (now image) ≡ true ⌝ }
+    ensures { λ r. ⌜ walkedOf r (now (phones .exit)) (now (numbers .exit)) ≡ walkSaid (now (image .entry)) (now (words .entry)) (now (sets .entry)) (now (name .entry)) (now (phones .entry)) (now (numbers .entry)) ⌝ }
+{
+    WalkAnswer {
+        steps: 0,
+        speech: Speech::Refused(Refusal::NotRuleset(0)),
+    }
+}
+
+// A name is walked, and its answer's line printed.
+fn speak<'a>(image: &[u8], words: &'a [u16], sets: &'a [u64], name: &[u8], out: &mut [u8]) -> usize
+    requires { ⌜ (valid (now image) ≡ true) × (783 ≤ length (now out)) ⌝ }
+    ensures len { λ r. ⌜ r ≡ length (spelt (now (image .entry)) (now (words .entry)) (now (sets .entry)) (now (name .entry))) ⌝ }
+    ensures bytes { λ _. ⌜ now (out .exit) ≡ over (spelt (now (image .entry)) (now (words .entry)) (now (sets .entry)) (now (name .entry))) (now (out .entry)) ⌝ }
+{
+    let mut phones = [0u8; 256];
+    let mut numbers = [0u16; 64];
+    let answer = walk_valid(image, words, sets, name, &mut phones, &mut numbers);
+    answer_line(answer, &phones, &numbers, out)
+}
+
+// The frame of the line at a place: where its letters end, which start at 1; 0 if it is unsound or does not start with 03. Of a longer frame,
+// whose name is over 64 letters, 65 letters are kept.
+fn hear(text: &[u8], at: usize, frame: &mut [u8]) -> usize
+    requires { ⌜ length (now frame) ≡ 67 ⌝ }
+    ensures end { λ r. ⌜ r ≤ 66 ⌝ }
+    ensures name { λ r. ⌜ heard r (now (frame .exit)) ≡ cut (asked (soundLine (drop at (now (text .entry))))) ⌝ }
+{
+    let line = frames::read_line(text, at, &mut *frame);
+    if !line.sound {
+        return 0;
+    }
+    if frame[0] != 3 {
+        return 0;
+    }
+    let n = line.len;
+    if 67 < n {
+        return 66;
+    }
+    n - 1
+}
+
+// The answer to a line: where the next line starts, and the length of what is to be printed.
+pub struct Answered {
+    pub next: usize,
+    pub len: usize,
+}
+
+// The answer to the line that starts at `at`, at the front of lent bytes.
+pub fn answer_name<'a>(
+    image: &[u8],
+    words: &'a [u16],
+    sets: &'a [u64],
+    text: &[u8],
+    at: usize,
+    out: &mut [u8],
+) -> Answered
+    requires { ⌜ (valid (now image) ≡ true) × (783 ≤ length (now out)) ⌝ }
+    ensures next { λ r. ⌜ r .next ≡ lineAfter (now (text .entry)) at ⌝ }
+    ensures len { λ r. ⌜ r .len ≡ length (nameAnswer (now (image .entry)) (now (words .entry)) (now (sets .entry)) (drop at (now (text .entry)))) ⌝ }
+    ensures bytes { λ _. ⌜ now (out .exit) ≡ over (nameAnswer (now (image .entry)) (now (words .entry)) (now (sets .entry)) (drop at (now (text .entry)))) (now (out .entry)) ⌝ }
+{
+    let next = frames::next_line(text, at);
+    let mut frame = [0u8; 67];
+    let end = hear(text, at, &mut frame);
+    if end == 0 {
+        let len = refusal_line(Refusal::BadLine(0), out);
+        return Answered { next, len };
+    }
+    let len = speak(image, words, sets, &frame[1..end], out);
+    Answered { next, len }
+}
+
+// ---- the rule file
+
+// STUB
+fn read_file(file: &[u8], image: &mut [u8]) -> Answer
+    ensures { λ r. ⌜ outcome (replyOf r) (now (image .exit)) ≡ loaded (now (file .entry)) (now (image .entry)) ⌝ }
+{
+    Answer::Accepted
+}
+
+// STUB
+fn build(image: &[u8], words: &mut [u16], sets: &mut [u64]) -> Answer
+    ensures { λ r. ⌜ building (replyOf r) (now (words .exit)) (now (sets .exit)) ≡ built (now (image .entry)) (now (words .entry)) (now (sets .entry)) ⌝ }
+{
+    Answer::Accepted
+}
+
+// A rule file read into lent memory, and its tables built there. Where this is accepted, the memory holds a ruleset, and names need no further
+// check of it.
+pub fn prepare(rules: &[u8], image: &mut [u8], words: &mut [u16], sets: &mut [u64]) -> Answer
+    ensures all { λ r. ⌜ ready (replyOf r) (now (image .exit)) (now (words .exit)) (now (sets .exit)) ≡ prepared (now (rules .entry)) (now (image .entry)) (now (words .entry)) (now (sets .entry)) ⌝ }
+    ensures usable { λ r. ⌜ replyOf r ≡ accepted → valid (now (image .exit)) ≡ true ⌝ }
+{
+    if 32768 < rules.len() {
+        return Answer::Refused(Refusal::BadLine(32768));
+    }
+    let answer = read_file(rules, &mut *image);
+    if let Answer::Refused(why) = answer {
+        return Answer::Refused(why);
+    }
+    build(&*image, words, sets)
 }

@@ -34,11 +34,12 @@ returns c =
     let front = c .before .before .before .before .before .before .before .before .before .before .before .before .before .before .before .before .put-front in
     let phones = c .before .before .before .before .before .before .before .before .before .before .before .before .put-field in
     let count = c .before .before .before .before .before .before .put-field2 in
-    let numbers = c .before .before .put-numbers in
-    (omega (arith, front .ensures .0, phones .ensures .0, count .ensures .0, numbers .ensures .0),
-    spoken-is (a .steps) (a .phones .now) (a .numbers .now) _ (a .body .now) _ _ _ _ _ _ (c .before .before .before .before .before .before .before .before .before .before .before .before .before .before .before .before .before .before .before .before .before .pre) (front .ensures .1)
-    (rw (front .ensures .0) at (phones .ensures .0)) (rw (front .ensures .0) at (phones .ensures .1))
-    (count .ensures .0) (ap (λ (n : ℕ). n ∷ []) (c .before .before .before .before .before .before .before .before .before .low .ensures)) (count .ensures .1) (numbers .ensures .1))
+    let numbers = c .before .before .put-numbers in (
+      omega (arith, front .ensures .0, phones .ensures .0, count .ensures .0, numbers .ensures .0),
+      spoken-is (a .steps) (a .phones .now) (a .numbers .now) _ (a .body .now) _ _ _ _ _ _ (c .before .before .before .before .before .before .before .before .before .before .before .before .before .before .before .before .before .before .before .before .before .pre) (front .ensures .1)
+          (rw (front .ensures .0) at (phones .ensures .0)) (rw (front .ensures .0) at (phones .ensures .1))
+          (count .ensures .0) (ap (λ (n : ℕ). n ∷ []) (c .before .before .before .before .before .before .before .before .before .low .ensures)) (count .ensures .1) (numbers .ensures .1),
+    )
 
 pub put-spoken-spec : {M : Type 1} → statement M
 put-spoken-spec =

@@ -23,9 +23,10 @@ same-length c = search needs
 
 returns : tie.Need-returns
 returns c =
-    let a = c .before .before .before .before .before .before .before .before .args in
-    (c .before .before .put-field .ensures .0,
-    c .before .before .put-field .ensures .1 ∙ ap₂ (λ (h l : ℕ). overAt (a .at) (h ∷ l ∷ []) (a .body .now)) (c .before .before .before .before .before .before .low .ensures) (c .before .before .before .before .before .low2 .ensures))
+    let a = c .before .before .before .before .before .before .before .before .args in (
+      c .before .before .put-field .ensures .0,
+      c .before .before .put-field .ensures .1 ∙ ap₂ (λ (h l : ℕ). overAt (a .at) (h ∷ l ∷ []) (a .body .now)) (c .before .before .before .before .before .before .low .ensures) (c .before .before .before .before .before .low2 .ensures),
+    )
 
 pub put-two-spec : {M : Type 1} → statement M
 put-two-spec =

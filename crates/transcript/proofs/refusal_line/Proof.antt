@@ -33,9 +33,10 @@ same-length c = search needs
 returns : tie.Need-returns
 returns c =
     let p = c .before .before .before .before .before .before .before .before .before .before .refusal-place .ensures in
-    let n = c .before .before .before .before .before .before .before .before .before .refusal-number .ensures in
-    (c .before .before .write-line .ensures .0,
-    refused-is _ _ _ _ _ _ _ _ (c .before .before .before .before .before .before .before .before .before .before .before .before .args .out .now) _ n p (c .before .before .before .before .before .before .before .before .low .ensures) (c .before .before .before .before .before .before .before .low2 .ensures) (c .before .before .before .before .before .before .low3 .ensures) (c .before .before .before .before .before .low4 .ensures) (c .before .before .write-line .ensures .1))
+    let n = c .before .before .before .before .before .before .before .before .before .refusal-number .ensures in (
+      c .before .before .write-line .ensures .0,
+      refused-is _ _ _ _ _ _ _ _ (c .before .before .before .before .before .before .before .before .before .before .before .before .args .out .now) _ n p (c .before .before .before .before .before .before .before .before .low .ensures) (c .before .before .before .before .before .before .before .low2 .ensures) (c .before .before .before .before .before .before .low3 .ensures) (c .before .before .before .before .before .low4 .ensures) (c .before .before .write-line .ensures .1),
+    )
 
 pub refusal-line-spec : {M : Type 1} → statement M
 refusal-line-spec =
