@@ -251,7 +251,7 @@ fn build(image: &[u8], words: &mut [u16], sets: &mut [u64]) -> Answer
 // check of it.
 pub fn prepare(rules: &[u8], image: &mut [u8], words: &mut [u16], sets: &mut [u64]) -> Answer
     ensures all { λ r. ⌜ ready (replyOf r) (now (image .exit)) (now (words .exit)) (now (sets .exit)) ≡ prepared (now (rules .entry)) (now (image .entry)) (now (words .entry)) (now (sets .entry)) ⌝ }
-    ensures usable { λ r. ⌜ replyOf r ≡ accepted → valid (now (image .exit)) ≡ true ⌝ }
+    ensures usable { λ r. ⌜ (replyOf r ≡ accepted → valid (now (image .exit)) ≡ true) ⌝ }
 {
     if 32768 < rules.len() {
         return Answer::Refused(Refusal::BadLine(32768));
