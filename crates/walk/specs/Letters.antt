@@ -1,0 +1,72 @@
+-- What is found at a reached letter by the sets of two states, and what reading by it gives.
+-- Assumes nothing.
+use Prim.Native.Nat.{ℕ, _+_, _*_, _≤_, _<_}
+use mathlib.Core.Path.{_≡_}
+use mathlib.Core.List.{List}
+use mathlib.Core.Option.{Option, none, some}
+use lib.ListN.{getD, take}
+use Rattle.rules.specs.Shape.{Entry}
+use Rattle.rules.specs.Refusals.{refusalNumber, refusalPlace}
+use Rattle.rules.specs.declared.Refusal.{Refusal}
+use Rattle.rules.specs.declared.Refusal.the-variants.{NoFit, BadTables}
+use Rattle.image.specs.Image.{two, entriesOf}
+use Rattle.reading.specs.Fitting.{fits}
+use Rattle.reading.specs.Reading.{Choice, chosen, nothing, unusable, Reading, finished, stopped, readFrom}
+use Rattle.reading.specs.Places.{entryAt, entriesAt}
+use Rattle.tables.specs.Walk.{lookup}
+use Rattle.tables.specs.Lowest.{lowestFrom, meetWord}
+use Rattle.walk.specs.declared.Found.{Found}
+use Rattle.walk.specs.declared.Found.the-variants.{Place, Empty}
+use Rattle.walk.specs.declared.Chosen.{Chosen}
+use Rattle.walk.specs.declared.Chosen.the-variants.{Rule, Nothing, Unusable}
+use Rattle.walk.specs.declared.Ending.{Ending}
+use Rattle.walk.specs.declared.Ending.the-variants.{Finished, Refused}
+use Rattle.walk.specs.declared.Reached.{Reached}
+
+-- the place found in the words of two sets
+abbrev pub foundOf : Option ℕ → Found
+foundOf none = Empty
+foundOf (some p) = Place p
+
+-- the lowest place that the sets from set words s and t on share
+abbrev pub lowestShared : List ℕ → ℕ → ℕ → Option ℕ
+lowestShared ss s t = lowestFrom (meetWord ss s t) 0 8
+
+-- the choice at position i of the frame f by these two sets
+unfoldable pub choiceBy : List ℕ → List ℕ → ℕ → ℕ → List ℕ → ℕ → Choice
+choiceBy image ss s t f i = lookup (λ e. fits (e .rule) f i) (entriesOf image) (lowestShared ss s t)
+
+-- what the answer `Chosen` says
+abbrev pub choiceOf : List ℕ → Chosen → Choice
+choiceOf image (Rule p) = chosen (entryAt image p)
+choiceOf image Nothing = nothing
+choiceOf image Unusable = unusable
+
+pub record Chooses (image : List ℕ) (choice : Choice) (r : Chosen) : Type 0 where
+  pub is : choiceOf image r ≡ choice
+  pub inside : (p : ℕ) → r ≡ Rule p → p < two 0 image
+
+-- the refusal at position i where no rule is chosen: 3 with the position, or 16
+abbrev pub refusalAt : Chosen → ℕ → Refusal
+refusalAt (Rule p) i = NoFit i
+refusalAt Nothing i = NoFit i
+refusalAt Unusable i = BadTables 0
+
+-- the choice at each position, by the remembered states; the right sets begin at set word `base`
+abbrev pub choicesBy : List ℕ → List ℕ → ℕ → List ℕ → List ℕ → List ℕ → ℕ → Choice
+choicesBy image ss base left right f i = choiceBy image ss (8 * getD left i 0) (base + 8 * getD right i 0) f i
+
+-- what reading came to
+abbrev pub endingAs : Ending → List Entry → Reading
+endingAs Finished rs = finished rs
+endingAs (Refused x) rs = stopped (refusalNumber x) (refusalPlace x)
+
+pub record ReadBy (image : List ℕ) (choose : ℕ → Choice) (n : ℕ) (r : Reached) : Type 0 where
+  pub few : r .count ≤ 64
+  pub inside : (k : ℕ) → k < r .count → getD (r .places) k 0 < two 0 image
+  pub says : endingAs (r .ending) (entriesAt image (take (r .count) (r .places))) ≡ readFrom choose n n 1
+
+-- each remembered state has a set
+pub record Bounded (size base : ℕ) (left right : List ℕ) : Type 0 where
+  pub lefts : (k : ℕ) → 8 * getD left k 0 + 8 ≤ size
+  pub rights : (k : ℕ) → base + 8 * getD right k 0 + 8 ≤ size
