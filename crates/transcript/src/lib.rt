@@ -2,6 +2,7 @@
 use reading::Speech;
 use rules::Answer;
 use rules::Refusal;
+use walk::WalkAnswer;
 ghost use mathlib.Core.Path.{_≡_};
 ghost use mathlib.Core.Bool.{true};
 ghost use Prim.Native.Nat.{_+_, _*_, _%_, _<_, _≤_};
@@ -9,13 +10,12 @@ ghost use lib.ListN.{length, drop};
 ghost use Rattle.frames.specs.Lines.{soundLine, lineAfter, over, overAt};
 ghost use Rattle.reading.specs.Speech.{toldOf};
 ghost use Rattle.tables.specs.Words.{building, built};
-ghost use Rattle.tables.specs.Walk.{walkSaid};
 ghost use Rattle.rules.specs.Refusals.{replyOf, accepted};
 ghost use Rattle.image.specs.Image.{valid, outcome};
 ghost use Rattle.transcript.specs.Answers.{two, twos, spokenFront, spokenBody, printed, refusalLine, toldBody};
 ghost use Rattle.transcript.specs.Names.{asked, spelt, nameAnswer, cut, heard, ToldWithin};
 ghost use Rattle.transcript.specs.Prepared.{ready, prepared};
-ghost use Rattle.transcript.specs.Stub.{walkedOf, loaded};
+ghost use Rattle.transcript.specs.Stub.{loaded};
 
 // ---- answers
 
@@ -125,12 +125,6 @@ pub fn spoken_line(steps: usize, phones: &[u8], numbers: &[u16], out: &mut [u8])
     frames::write_line(out, 0, &body[..n])
 }
 
-// STUB
-pub struct WalkAnswer {
-    pub steps: usize,
-    pub speech: Speech,
-}
-
 // The line of a walk's answer, and its length.
 fn answer_line(answer: WalkAnswer, phones: &[u8], numbers: &[u16], out: &mut [u8]) -> usize
     requires { ⌜ (length (now phones) ≤ 256) × ((length (now numbers) ≤ 64) × ((783 ≤ length (now out)) × ToldWithin (toldOf (answer .speech)) (length (now phones)) (length (now numbers)))) ⌝ }
@@ -149,24 +143,6 @@ fn answer_line(answer: WalkAnswer, phones: &[u8], numbers: &[u16], out: &mut [u8
 
 // ---- names
 
-// STUB
-fn walk_valid<'a>(
-    image: &[u8],
-    words: &'a [u16],
-    sets: &'a [u64],
-    name: &[u8],
-    phones: &mut [u8],
-    numbers: &mut [u16],
-) -> WalkAnswer
-    requires { ⌜ valid (now image) ≡ true ⌝ }
-    ensures { λ r. ⌜ walkedOf r (now (phones .exit)) (now (numbers .exit)) ≡ walkSaid (now (image .entry)) (now (words .entry)) (now (sets .entry)) (now (name .entry)) (now (phones .entry)) (now (numbers .entry)) ⌝ }
-{
-    WalkAnswer {
-        steps: 0,
-        speech: Speech::Refused(Refusal::NotRuleset(0)),
-    }
-}
-
 // A name is walked, and its answer's line printed.
 fn speak<'a>(image: &[u8], words: &'a [u16], sets: &'a [u64], name: &[u8], out: &mut [u8]) -> usize
     requires { ⌜ (valid (now image) ≡ true) × (783 ≤ length (now out)) ⌝ }
@@ -175,7 +151,7 @@ fn speak<'a>(image: &[u8], words: &'a [u16], sets: &'a [u64], name: &[u8], out: 
 {
     let mut phones = [0u8; 256];
     let mut numbers = [0u16; 64];
-    let answer = walk_valid(image, words, sets, name, &mut phones, &mut numbers);
+    let answer = walk::walk_valid(image, words, sets, name, &mut phones, &mut numbers);
     answer_line(answer, &phones, &numbers, out)
 }
 
