@@ -1,0 +1,5 @@
+pub mod Symbols
+pub mod Laying
+pub mod Over
+pub mod Whole
+pub mod Joining

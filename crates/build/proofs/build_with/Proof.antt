@@ -1,0 +1,100 @@
+-- What is needed is known before a lent word is written; then both sides are filled.
+-- Assumes nothing.
+use native.Mathlib.Omega.{arith}
+use borrow.Author.Needs.{needs}
+use Rattle.image.proofs.Tests.{valid-long}
+use Rattle.build.proofs.Whole.{few-words, few-sets, enough}
+use Rattle.build.proofs.build_with.Statement.{statement}
+use Rattle.build.proofs.build_with.Tie as tie
+
+two-at-requires : tie.Need-two-at-requires
+two-at-requires c κs = omega (arith, valid-long _ (c .before .before .before .before .before .pre .0))
+
+cast-n : tie.Need-cast-n
+cast-n c = search needs
+
+count-side-requires : tie.Need-count-side-requires
+count-side-requires c κs = (c .before .before .before .before .before .before .before .before .pre .0, c .before .before .two-at .ensures, c .before .before .before .before .before .before .before .before .pre .1)
+
+count-side-requires-2 : tie.Need-count-side-requires-2
+count-side-requires-2 c κs = (c .before .before .before .before .before .before .before .before .before .before .before .before .before .before .before .pre .0, c .before .before .before .before .before .before .before .before .before .two-at .ensures, c .before .before .before .before .before .before .count-side .ensures .scratch)
+
+add-needed : tie.Need-add-needed
+add-needed c = omega (arith, c .before .before .before .before .count-side2 .ensures .few, c .before .before .before .before .before .before .before .before .before .before .before .count-side .ensures .few)
+
+mul-needed : tie.Need-mul-needed
+mul-needed c = omega (arith, c .before .before .before .before .count-side2 .ensures .few, c .before .before .before .before .before .before .before .before .before .before .before .count-side .ensures .few)
+
+add-needed-2 : tie.Need-add-needed-2
+add-needed-2 c = omega (arith, c .before .before .before .before .count-side2 .ensures .few, c .before .before .before .before .before .before .before .before .before .before .before .count-side .ensures .few)
+
+same-length : tie.Need-same-length
+same-length c = search needs
+
+same-length-2 : tie.Need-same-length-2
+same-length-2 c = search needs
+
+returns : tie.Need-returns
+returns c = few-words _ _ _ (c .before .before .before .before .before .before .before .before .before .before .before .before .count-side .ensures .is) (c .before .before .before .before .before .count-side2 .ensures .is) _ _ (c .if1 .taken)
+
+add-places : tie.Need-add-places
+add-places c = omega (arith, c .before .before .before .before .before .count-side2 .ensures .few, c .before .before .before .before .before .before .before .before .before .before .before .before .count-side .ensures .few)
+
+mul-places : tie.Need-mul-places
+mul-places c = omega (arith, c .before .before .before .before .before .count-side2 .ensures .few, c .before .before .before .before .before .before .before .before .before .before .before .before .count-side .ensures .few)
+
+same-length-3 : tie.Need-same-length-3
+same-length-3 c = search needs
+
+same-length-4 : tie.Need-same-length-4
+same-length-4 c = search needs
+
+returns-2 : tie.Need-returns-2
+returns-2 c = few-sets _ _ _ (c .before .before .before .before .before .before .before .before .before .before .before .before .before .count-side .ensures .is) (c .before .before .before .before .before .before .count-side2 .ensures .is) _ _ (omega (arith, c .before .if1 .left)) (c .if2 .taken)
+
+fill-requires : tie.Need-fill-requires
+fill-requires c κs =
+    let a = c .before .before .before .before .before .before .before .before .before .before .before .before .before .before .before .before .before .count-side .ensures in
+    let b = c .before .before .before .before .before .before .before .before .before .before .count-side2 .ensures in
+    (c .before .before .before .before .before .before .before .before .before .before .before .before .before .before .before .before .before .before .before .before .before .before .before .before .before .before .pre .0, c .before .before .before .before .before .before .before .before .before .before .before .before .before .before .before .before .before .before .before .before .two-at .ensures, a .is, b .is, a .few, b .few, omega (arith, c .before .before .before .before .before .if1 .left), omega (arith, c .before .before .before .before .if2 .left), b .scratch)
+
+same-length-5 : tie.Need-same-length-5
+same-length-5 c = search needs
+
+same-length-6 : tie.Need-same-length-6
+same-length-6 c = search needs
+
+same-length-7 : tie.Need-same-length-7
+same-length-7 c = search needs
+
+same-length-8 : tie.Need-same-length-8
+same-length-8 c = search needs
+
+returns-3 : tie.Need-returns-3
+returns-3 c = enough _ _ _ (c .before .before .before .before .before .before .before .before .before .before .before .before .before .before .before .before .before .before .before .before .before .before .before .before .before .before .count-side .ensures .is) (c .before .before .before .before .before .before .before .before .before .before .before .before .before .before .before .before .before .before .before .count-side2 .ensures .is) _ _ (omega (arith, c .before .before .before .before .before .before .before .before .before .before .before .before .before .before .if1 .left)) (omega (arith, c .before .before .before .before .before .before .before .before .before .before .before .before .before .if2 .left)) _ _ (c .before .before .before .before .before .before .before .before .fill .ensures .0) (c .before .before .before .before .before .before .before .before .fill .ensures .1)
+
+pub build-with-spec : {M : Type 1} → statement M
+build-with-spec =
+    tie.close
+    (tie.spec
+    two-at-requires
+    cast-n
+    count-side-requires
+    count-side-requires-2
+    add-needed
+    mul-needed
+    add-needed-2
+    same-length
+    same-length-2
+    returns
+    add-places
+    mul-places
+    same-length-3
+    same-length-4
+    returns-2
+    fill-requires
+    same-length-5
+    same-length-6
+    same-length-7
+    same-length-8
+    returns-3)

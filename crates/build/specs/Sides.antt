@@ -1,0 +1,43 @@
+-- The two sides of a ruleset's tables, and the patterns of one as they are laid out for the row filler.
+-- Assumes nothing.
+use mathlib.Core.Path.{_≡_}
+use Prim.Native.Nat.{ℕ, _≤_, _<_}
+use mathlib.Core.Bool.{Bool, true, false}
+use mathlib.Core.List.{List, map}
+use lib.ListN.{length, getD}
+use Rattle.rules.specs.Shape.{Entry}
+use Rattle.image.specs.Image.{two, entriesOf}
+use Rattle.reading.specs.Fitting.{Str}
+use Rattle.reading.specs.Meaning.{noEntry}
+use Rattle.tables.specs.Tables.{Table, tableOf, leftPattern, rightPattern}
+use Rattle.side.specs.Patterns.{patternsOf, Patterns}
+
+-- the right pattern of a rule, or the left
+abbrev pub sideOf : Bool → Entry → Str
+sideOf true = rightPattern
+sideOf false = leftPattern
+
+-- the pattern of the rule at a place
+abbrev pub patternIn : List ℕ → Bool → ℕ → Str
+patternIn image right place = sideOf right (getD (entriesOf image) place noEntry)
+
+abbrev pub sideTable : List ℕ → Bool → Table
+sideTable image right = tableOf (sideOf right) (entriesOf image)
+
+-- Scratch memory for the patterns of one side: whatever symbols it holds.
+pub record Scratch (ps ls : List ℕ) : Type 0 where
+  pub room : 5120 ≤ length ps
+  pub lens : 512 ≤ length ls
+  pub low : (k : ℕ) → getD ps k 0 < 64
+
+-- the patterns of a side lie in it
+pub record Laid (image : List ℕ) (right : Bool) (ps ls : List ℕ) : Type 0 where
+  pub scratch : Scratch ps ls
+  pub ok : Patterns ps ls (two 0 image)
+  pub are : patternsOf ps ls (two 0 image) ≡ map (sideOf right) (entriesOf image)
+
+-- the states of a side are counted
+pub record Counted (image : List ℕ) (right : Bool) (r : ℕ) (ps ls : List ℕ) : Type 0 where
+  pub is : r ≡ sideTable image right .count
+  pub few : r ≤ 5121
+  pub scratch : Scratch ps ls

@@ -1,0 +1,66 @@
+-- What is left of one side: its rows and its sets.
+-- Assumes nothing.
+use mathlib.Core.Path.{_≡_}
+use mathlib.Core.Logic.{_⊎_}
+use Prim.Native.Nat.{ℕ, zero, suc, _+_, _*_, _/_, _%_, _≤_, _<_}
+use mathlib.Core.Bool.{Bool, false}
+use mathlib.Core.List.{List, [], _∷_}
+use lib.ListN.{length, getD, take}
+use Rattle.reading.specs.Fitting.{Str, same, ends}
+use Rattle.tables.specs.States.{states, entry, index}
+use Rattle.tables.proofs.Trie.{child}
+use Rattle.tables.specs.Words.{pack, tab}
+use Rattle.side.specs.Wrote.{Wrote}
+use Rattle.side.specs.Steps.{cell, completed, united}
+
+-- the pattern at place p passes the test
+abbrev pub atPlace : (Str → Bool) → List Str → ℕ → Bool
+atPlace t [] p = false
+atPlace t (s ∷ l) zero = t s
+atPlace t (s ∷ l) (suc p) = atPlace t l p
+
+-- the places of the patterns that are s, and of those that end s
+abbrev pub owns : List Str → Str → ℕ → Bool
+owns pats s = atPlace (λ x. same x s) pats
+
+abbrev pub holds : List Str → Str → ℕ → Bool
+holds pats s = atPlace (λ x. ends x s) pats
+
+-- word j of a set
+abbrev pub word : (ℕ → Bool) → ℕ → ℕ
+word f j = pack (λ b. f (64 * j + b)) 64
+
+-- the rows and the sets of a list of patterns
+abbrev pub sideRows : List Str → List ℕ
+sideRows pats = tab (64 * length (states pats)) (λ k. entry (states pats) (k / 64) (k % 64))
+
+abbrev pub sideSets : List Str → List ℕ
+sideSets pats = tab (8 * length (states pats)) (λ k. word (holds pats (getD (states pats) (k / 8) [])) (k % 8))
+
+module _ (pats : List Str) (rows sets : List ℕ) where
+  abbrev st : List Str
+  st = states pats
+
+  -- the row and the set of q are finished
+  pub record Final (q : ℕ) : Type 0 where
+    pub row : (c : ℕ) → c < 64 → cell rows q c ≡ entry st q c
+    pub set : (j : ℕ) → j < 8 → getD sets (8 * q + j) 0 ≡ word (holds pats (getD st q [])) j
+
+  -- they hold its children, and the places of the patterns that are its string
+  pub record Young (q : ℕ) : Type 0 where
+    pub row : (c : ℕ) → c < 64 → cell rows q c ≡ child st q c
+    pub set : (j : ℕ) → j < 8 → getD sets (8 * q + j) 0 ≡ word (owns pats (getD st q [])) j
+
+  -- the states of fewer than d symbols are finished, and those of d symbols that start one of the first i patterns
+  pub record Level (d i : ℕ) : Type 0 where
+    pub final : (q : ℕ) → q < length st → length (getD st q []) < d → Final q
+    pub these : (k : ℕ) → k < i → d ≤ length (getD pats k []) → Final (index (take d (getD pats k [])) st)
+    pub either : (q : ℕ) → q < length st → Final q ⊎ Young q
+
+-- the places of the first i patterns stand in the sets of their own states
+pub record Owned (pats : List Str) (i : ℕ) (sets : List ℕ) : Type 0 where
+  pub words : (q j : ℕ) → q < length (states pats) → j < 8 → getD sets (8 * q + j) 0 ≡ word (owns (take i pats) (getD (states pats) q [])) j
+
+pub record Finished (rows sets : List ℕ) (q f : ℕ) (rows′ sets′ : List ℕ) : Type 0 where
+  pub row : Wrote rows (64 * q) 64 (completed rows q f) rows′
+  pub set : Wrote sets (8 * q) 8 (united sets q f) sets′
