@@ -56,6 +56,7 @@ pub record Found (text : List ℕ) (at : ℕ) (line : Line) : Type 0 where
   pub rest : List ℕ
   pub is : soundLine (drop at text) ≡ Good f rest
   pub many : line .len ≡ length f
+  pub next : line .next ≡ length text - length rest
   pub onward : drop (line .next) text ≡ rest
   pub within : line .next ≤ length text
 
@@ -71,6 +72,7 @@ module _ (text : List ℕ) (at : ℕ) (line : Line) where
         rest = rest;
         is = p;
         many = ap (λ (r : Line). r .len) e;
+        next = ap (λ (r : Line). r .next) e;
         onward =
             ap (λ (k : ℕ). drop k text) m
             ∙ (sym (drop-drop (length (lineOf f)) at text) ∙ (ap (drop (length (lineOf f))) w ∙ drop-append-seam (lineOf f) rest));

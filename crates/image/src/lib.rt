@@ -171,14 +171,14 @@ fn entries_valid(image: &[u8], count: usize, last: u16) -> bool
     true
 }
 
-fn has_bit(word: u64, k: u64) -> bool
+pub fn has_bit(word: u64, k: u64) -> bool
     requires { ⌜ k < 64 ⌝ }
     ensures { λ r. ⌜ r ≡ bit word k ⌝ }
 {
     (word >> k) % 2 == 1
 }
 
-fn with_bit(word: u64, k: u64) -> u64
+pub fn with_bit(word: u64, k: u64) -> u64
     requires { ⌜ k < 64 ⌝ }
     ensures { λ r. ⌜ r ≡ bitOr word (2 ^ k) ⌝ }
 {

@@ -1,0 +1,285 @@
+-- What stands in the lent bytes while a file is written. Assumes nothing.
+use Prim.Native.Nat.{ℕ, zero, suc, _+_, _-_, _*_, _/_, _%_, _≤_, _<_}
+use mathlib.Core.Path.{_≡_, refl, sym, ap, ap₂, _∙_}
+use mathlib.Core.List.{List, [], _∷_, _++_, append-assoc, append-nil, map}
+use mathlib.Core.Bool.{Bool, true, false}
+use native.Mathlib.Omega.{arith}
+use native.Mathlib.Numerals.{add-one}
+use borrow.Author.Tests.{le-leb, lt-leb}
+use lib.ListN.{length, getD, take, drop, length-append, length-map, take-append-drop}
+use lib.Seq.{paste, take-suc, take-take, take-all, take-length, take-at, length-take-le, drop-append-add, drop-drop}
+use Rattle.rules.specs.Shape.{pick, first, Entry, view, entryOf}
+use Rattle.rules.specs.declared.Numbered.{Numbered}
+use Rattle.rules.proofs.Laws.{length-first, first-take}
+use Rattle.image.specs.State.{entry, entries, noNumbered}
+use Rattle.image.specs.Image.{two, listed, entriesOf, valid}
+use Rattle.image.proofs.Stored.{Fine, valid-fine}
+use Rattle.image.proofs.Scan.{rulesIn, slotIn, slot-get, length-listed}
+use Rattle.frames.specs.Lines.{lineOf, framed, sumByte, over, overAt}
+use Rattle.frames.proofs.Lines.{length-line}
+use Rattle.frames.proofs.Over.{over-length, over-at, over-at-length}
+use Rattle.file.specs.File.{headLine, ruleFront, ruleBody, ruleLine, ruleLines, encode}
+use Rattle.file.specs.Loading.{listingOf, wrote, refused, filing, filed, Short}
+use Rattle.file.proofs.Bodies.{both, bounded, in-range}
+use Rattle.file.proofs.Accepts.{length-rule}
+
+-- ---- the body of a rule, part by part
+
+pasted : (d b : List ℕ) (at : ℕ) → paste d at b (length b) ≡ overAt at b d
+pasted d b at =
+    append-assoc (take at d) (take (length b) b) (drop (at + length b) d)
+    ∙ ap₂ (λ (t r : List ℕ). take at d ++ (t ++ r)) (take-length b) (sym (drop-drop (length b) at d))
+
+pub pushed : (d z a : List ℕ) (at n e : ℕ) → e ≡ n → n ≤ length a → z ≡ paste d at (take e a) (length (take e a)) → z ≡ overAt at (first n a 0) d
+pushed d z a at n e q h p =
+    p ∙ (pasted d (take e a) at ∙ ap (λ (b : List ℕ). overAt at b d) (ap (λ (k : ℕ). take k a) q ∙ sym (first-take n a 0 h)))
+
+module _ (x : Numbered) (xs w s₁ s₂ s₃ z : List ℕ) where
+  abbrev front : List ℕ
+  front = ruleFront (x .number) (x .rule .«left_len») (x .rule .«target_len») (x .rule .«right_len») (x .rule .«phone_len»)
+
+  abbrev l : List ℕ
+  l = first (x .rule .«left_len») (x .rule .left) 0
+
+  abbrev t : List ℕ
+  t = first (x .rule .«target_len») (x .rule .target) 0
+
+  abbrev r : List ℕ
+  r = first (x .rule .«right_len») (x .rule .right) 0
+
+  abbrev p : List ℕ
+  p = first (x .rule .«phone_len») (x .rule .phones) 0
+
+  sizes : (length l ≡ x .rule .«left_len») × ((length t ≡ x .rule .«target_len») × ((length r ≡ x .rule .«right_len») × (length p ≡ x .rule .«phone_len»)))
+  sizes = (
+    length-first (x .rule .«left_len») (x .rule .left) 0,
+    (
+      length-first (x .rule .«target_len») (x .rule .target) 0,
+      (length-first (x .rule .«right_len») (x .rule .right) 0, length-first (x .rule .«phone_len») (x .rule .phones) 0),
+    ),
+  )
+
+  lengths : front ++ (l ++ (t ++ (r ++ p))) ≡ ruleBody (entryOf x)
+  lengths = rw (sizes .0, sizes .1 .0, sizes .1 .1 .0, sizes .1 .1 .1)
+
+  pub body-size : 7 + x .rule .«left_len» + x .rule .«target_len» + x .rule .«right_len» + x .rule .«phone_len» ≡ length (ruleBody (entryOf x))
+  body-size =
+      omega (arith, sizes .0, sizes .1 .0, sizes .1 .1 .0, sizes .1 .1 .1, ap length lengths, length-append l (t ++ (r ++ p)), length-append t (r ++ p), length-append r p)
+
+  module _ (a b d : ℕ) (ea : a ≡ 7 + x .rule .«left_len») (eb : b ≡ a + x .rule .«target_len») (ed : d ≡ b + x .rule .«right_len») where
+    pub body-is : w ≡ over front xs → s₁ ≡ overAt 7 l w → s₂ ≡ overAt a t s₁ → s₃ ≡ overAt b r s₂ → z ≡ overAt d p s₃ → z ≡ over (ruleBody (entryOf x)) xs
+    body-is e₀ e₁ e₂ e₃ e₄ =
+        let n₁ = sizes .0 in
+        let n₂ = sizes .1 .0 in
+        let n₃ = sizes .1 .1 .0 in
+        let g₁ : s₁ ≡ over (front ++ l) xs = e₁ ∙ over-at front xs l w 7 e₀ refl in
+        let m₁ : length (front ++ l) ≡ a = omega arith in
+        let g₂ : s₂ ≡ over ((front ++ l) ++ t) xs = e₂ ∙ over-at (front ++ l) xs t s₁ a g₁ m₁ in
+        let m₂ : length ((front ++ l) ++ t) ≡ b = omega (arith, length-append (front ++ l) t) in
+        let g₃ : s₃ ≡ over (((front ++ l) ++ t) ++ r) xs = e₃ ∙ over-at ((front ++ l) ++ t) xs r s₂ b g₂ m₂ in
+        let m₃ : length (((front ++ l) ++ t) ++ r) ≡ d = omega (arith, length-append ((front ++ l) ++ t) r) in
+        e₄ ∙ (over-at (((front ++ l) ++ t) ++ r) xs p s₃ d g₃ m₃
+        ∙ ap (λ (b : List ℕ). over b xs)
+        (append-assoc ((front ++ l) ++ t) r p ∙ (append-assoc (front ++ l) t (r ++ p) ∙ (append-assoc front l (t ++ (r ++ p)) ∙ lengths))))
+
+pub size-is : (x : Numbered) → 17 + 2 * (x .rule .«left_len» + (x .rule .«target_len» + (x .rule .«right_len» + x .rule .«phone_len»))) ≡ length (ruleLine (entryOf x))
+size-is x =
+    let r = x .rule in
+    omega (
+      arith,
+      length-rule (entryOf x),
+      length-first (r .«left_len») (r .left) 0,
+      length-first (r .«target_len») (r .target) 0,
+      length-first (r .«right_len») (r .right) 0,
+      length-first (r .«phone_len») (r .phones) 0,
+    )
+
+-- a rule's line from its body in lent bytes
+module _ (x : Numbered) (s : Short x) (n : ℕ) (e : n ≡ length (ruleBody (entryOf x))) where
+  pub body-short : n ≤ 27
+  body-short = omega (arith, e, body-size x [] [] [] [] [] [], s .left, s .target, s .right, s .phones)
+
+  pub line-size : 2 * n + 3 ≡ length (ruleLine (entryOf x))
+  line-size = omega (arith, e, length-line (framed (ruleBody (entryOf x))), length-append (ruleBody (entryOf x)) (sumByte (ruleBody (entryOf x)) ∷ []))
+
+  pub body-front : (xs z : List ℕ) → z ≡ over (ruleBody (entryOf x)) xs → take n z ≡ ruleBody (entryOf x)
+  body-front xs z f = ap (take n) f ∙ take-at (ruleBody (entryOf x)) (drop (length (ruleBody (entryOf x))) xs) n (sym e)
+
+-- ---- the lines of the first rules of a list
+
+abbrev pub linesTo : List Numbered → ℕ → List ℕ
+linesTo rules i = ruleLines (map entryOf (take i rules))
+
+lines-append : (a b : List Entry) → ruleLines (a ++ b) ≡ ruleLines a ++ ruleLines b
+lines-append [] b = refl
+lines-append (x ∷ a) b = ap (λ (l : List ℕ). ruleLine x ++ l) (lines-append a b) ∙ sym (append-assoc (ruleLine x) (ruleLines a) (ruleLines b))
+
+map-append : (a b : List Numbered) → map entryOf (a ++ b) ≡ map entryOf a ++ map entryOf b
+map-append [] b = refl
+map-append (x ∷ a) b = ap (λ (l : List Entry). entryOf x ∷ l) (map-append a b)
+
+lines-next : (rules : List Numbered) (i : ℕ) → i < length rules → linesTo rules (i + 1) ≡ linesTo rules i ++ ruleLine (entryOf (getD rules i noNumbered))
+lines-next rules i h =
+    let x = getD rules i noNumbered in
+    let e : take (i + 1) rules ≡ take i rules ++ (x ∷ []) = rw (add-one) (take-suc rules i noNumbered h) in
+    ap (λ (l : List Numbered). ruleLines (map entryOf l)) e
+    ∙ (ap ruleLines (map-append (take i rules) (x ∷ [])) ∙ (lines-append (map entryOf (take i rules)) (entryOf x ∷ [])
+    ∙ ap (λ (l : List ℕ). linesTo rules i ++ l) (append-nil (ruleLine (entryOf x)))))
+
+lines-more : (rules : List Numbered) (i n : ℕ) → i ≤ n → length (linesTo rules i) ≤ length (linesTo rules n)
+lines-more rules i n h =
+    let e : take i rules ++ drop i (take n rules) ≡ take n rules =
+    ap (λ (l : List Numbered). l ++ drop i (take n rules)) (sym (take-take i n rules h)) ∙ take-append-drop i (take n rules) in
+    let f : linesTo rules n ≡ linesTo rules i ++ ruleLines (map entryOf (drop i (take n rules))) =
+    ap (λ (l : List Numbered). ruleLines (map entryOf l)) (sym e) ∙ (ap ruleLines (map-append (take i rules) (drop i (take n rules))) ∙ lines-append (map entryOf (take i rules)) (map entryOf (drop i (take n rules)))) in
+    omega (arith, ap length f, length-append (linesTo rules i) (ruleLines (map entryOf (drop i (take n rules)))))
+
+entries-at : (last : ℕ) (l : List Numbered) (i : ℕ) → entries last l ≡ true → i < length l → entry last (getD l i noNumbered) ≡ true
+entries-at last [] i e h = absurd (omega arith)
+entries-at last (x ∷ l) zero e h = both (entry last x) _ e .0
+entries-at last (x ∷ l) (suc i) e h = entries-at last l i (both (entry last x) _ e .1) (omega arith)
+
+-- a rule struct of the shape has lengths not above its arrays
+short : (last : ℕ) (x : Numbered) → entry last x ≡ true → Short x
+short last x e =
+    let r = x .rule in
+    let b = bounded (view r) (in-range last (entryOf x) e .shaped) in
+    record {
+      left = rw (length-first (r .«left_len») (r .left) 0) at (b .left);
+      target = rw (length-first (r .«target_len») (r .target) 0) at (b .target);
+      right = rw (length-first (r .«right_len») (r .right) 0) at (b .right);
+      phones = rw (length-first (r .«phone_len») (r .phones) 0) at (b .phones);
+    }
+
+-- ---- the rules of an image, of which the first i are written
+
+module _ (image : List ℕ) (count : ℕ) where
+  abbrev lines : ℕ → List ℕ
+  lines = linesTo (rulesIn count image)
+
+  full : length (rulesIn count image) ≡ count
+  full = length-listed count (drop 4 image)
+
+  next : (i : ℕ) → i < count → (x : Numbered) → x ≡ slotIn image i → lines (i + 1) ≡ lines i ++ ruleLine (entryOf x)
+  next i h x e =
+      lines-next (rulesIn count image) i (omega (arith, full))
+      ∙ ap (λ (y : Numbered). lines i ++ ruleLine (entryOf y)) (slot-get image count i h ∙ sym e)
+
+  all : (i : ℕ) → i ≤ count → count ≤ i → lines i ≡ ruleLines (map entryOf (rulesIn count image))
+  all i h k = ap (λ (l : List Numbered). ruleLines (map entryOf l)) (take-all i (rulesIn count image) (omega (arith, full)))
+
+  -- the sizes added up
+  pub record Sized (n i : ℕ) : Type 0 where
+    pub within : i ≤ count
+    pub sum : n ≡ 15 + length (lines i)
+    pub small : n ≤ 15 + 2057 * i
+
+  pub sized-next : (n i m : ℕ) (x : Numbered) → Sized n i → i < count → x ≡ slotIn image i → m ≡ length (ruleLine (entryOf x)) → m ≤ 2057 → Sized (n + m) (i + 1)
+  sized-next n i m x s h e f b = record {
+    within = omega arith;
+    sum = omega (arith, s .sum, ap length (next i h x e), length-append (lines i) (ruleLine (entryOf x)));
+    small = omega (arith, s .small);
+  }
+
+  pub sized-end : (n i : ℕ) → Sized n i → count ≤ i → n ≡ 15 + length (ruleLines (map entryOf (rulesIn count image)))
+  sized-end n i s h = s .sum ∙ ap (λ (l : List ℕ). 15 + length l) (all i (s .within) h)
+
+  -- the lines, one after the other
+  pub record Lined (xs out : List ℕ) (at i : ℕ) : Type 0 where
+    pub within : i ≤ count
+    pub place : at ≡ 15 + length (lines i)
+    pub written : out ≡ over (take 15 xs ++ lines i) xs
+
+  module _ (xs : List ℕ) (room : 15 + length (ruleLines (map entryOf (rulesIn count image))) ≤ length xs) where
+    head : length (take 15 xs) ≡ 15
+    head = length-take-le 15 xs (omega arith)
+
+    pub lined-start : Lined xs xs 15 0
+    lined-start = record {
+      within = omega arith;
+      place = refl;
+      written =
+          let e : length (take 15 xs ++ []) ≡ 15 = ap length (append-nil (take 15 xs)) ∙ head in
+          sym (ap₂ (λ (l : List ℕ) (n : ℕ). l ++ drop n xs) (append-nil (take 15 xs)) e ∙ take-append-drop 15 xs);
+    }
+
+    module _ (out : List ℕ) (at i : ℕ) (p : Lined xs out at i) where
+      so-far : length (take 15 xs ++ lines i) ≡ at
+      so-far = omega (arith, p .place, length-append (take 15 xs) (lines i), head)
+
+      fits : 15 + length (lines i) ≤ length xs
+      fits =
+          let w = p .within in
+          omega (arith, lines-more (rulesIn count image) i count w, ap length (all count (omega arith) (omega arith)))
+
+      pub lined-length : length out ≡ length xs
+      lined-length = ap length (p .written) ∙ over-length (take 15 xs ++ lines i) xs (omega (arith, so-far, p .place, fits))
+
+      pub lined-end : count ≤ i → out ≡ over (take 15 xs ++ ruleLines (map entryOf (rulesIn count image))) xs
+      lined-end h = p .written ∙ ap (λ (l : List ℕ). over (take 15 xs ++ l) xs) (all i (p .within) h)
+
+      module _ (h : i < count) (x : Numbered) (e : x ≡ slotIn image i) where
+        pub lined-short : (last : ℕ) → entries last (rulesIn count image) ≡ true → Short x
+        lined-short last ok =
+            short last x (ap (entry last) (e ∙ sym (slot-get image count i h)) ∙ entries-at last (rulesIn count image) i ok (omega (arith, full)))
+
+        more : 15 + length (lines (i + 1)) ≤ length xs
+        more = omega (arith, lines-more (rulesIn count image) (i + 1) count (omega arith), ap length (all count (omega arith) (omega arith)))
+
+        pub lined-room : at + length (ruleLine (entryOf x)) ≤ length out
+        lined-room = omega (arith, p .place, lined-length, more, ap length (next i h x e), length-append (lines i) (ruleLine (entryOf x)))
+
+        pub lined-next : (z : List ℕ) (m : ℕ) → z ≡ overAt at (ruleLine (entryOf x)) out → m ≡ at + length (ruleLine (entryOf x)) → Lined xs z m (i + 1)
+        lined-next z m f g = record {
+          within = omega arith;
+          place = omega (arith, p .place, ap length (next i h x e), length-append (lines i) (ruleLine (entryOf x)));
+          written =
+              f ∙ (over-at (take 15 xs ++ lines i) xs (ruleLine (entryOf x)) out at (p .written) so-far
+              ∙ ap (λ (l : List ℕ). over l xs)
+              (append-assoc (take 15 xs) (lines i) (ruleLine (entryOf x)) ∙ ap (λ (l : List ℕ). take 15 xs ++ l) (sym (next i h x e))));
+        }
+
+-- ---- the whole file
+
+drop-over : (p xs : List ℕ) (m : ℕ) → drop (length p + m) (over p xs) ≡ drop (length p + m) xs
+drop-over p xs m = drop-append-add p (drop (length p) xs) m ∙ drop-drop m (length p) xs
+
+over-over : (p q xs : List ℕ) → over (p ++ q) (over p xs) ≡ over (p ++ q) xs
+over-over p q xs = ap (λ (l : List ℕ). (p ++ q) ++ l) (rw length-append (drop-over p xs (length q)))
+
+pub write-none : (image xs : List ℕ) → valid image ≡ false → filing (refused 0 0) xs ≡ filed image xs
+unfolding filed
+write-none image xs e = rw e
+
+module _ (image xs : List ℕ) (ok : valid image ≡ true) (count : ℕ) (ec : count ≡ two 0 image) (n : ℕ)
+    (en : n ≡ 15 + length (ruleLines (map entryOf (rulesIn count image)))) where
+  encoded : encode (listingOf image) ≡ headLine count (two 2 image) ++ ruleLines (map entryOf (rulesIn count image))
+  unfolding encode entriesOf
+  encoded =
+      let k : length (map entryOf (rulesIn (two 0 image) image)) ≡ two 0 image = length-map (rulesIn (two 0 image) image) entryOf ∙ length-listed (two 0 image) (drop 4 image) in
+      ap (λ (m : ℕ). headLine m (two 2 image) ++ ruleLines (map entryOf (rulesIn (two 0 image) image))) k
+      ∙ ap (λ (m : ℕ). headLine m (two 2 image) ++ ruleLines (map entryOf (rulesIn m image))) (sym ec)
+
+  size : n ≡ length (encode (listingOf image))
+  size = omega (arith, en, ap length encoded, length-append (headLine count (two 2 image)) (ruleLines (map entryOf (rulesIn count image))))
+
+  pub write-room : length xs < n → filing (refused 15 n) xs ≡ filed image xs
+  unfolding filed
+  write-room h = rw (ok, ← size, lt-leb _ _ h)
+
+  module _ (h : n ≤ length xs) (last : ℕ) (el : last ≡ two 2 image) (w : List ℕ) (ew : w ≡ over (headLine count last) xs) where
+    pub headed-length : length w ≡ length xs
+    headed-length = ap length ew ∙ over-length (headLine count last) xs (omega (arith, en))
+
+    pub write-done : (z : List ℕ) → z ≡ over (take 15 w ++ ruleLines (map entryOf (rulesIn count image))) w → filing (wrote n) z ≡ filed image xs
+    unfolding filed encode
+    write-done z ez =
+        let body = ruleLines (map entryOf (rulesIn count image)) in
+        let t : take 15 w ≡ headLine count last = ap (take 15) ew in
+        let g : z ≡ over (encode (listingOf image)) xs =
+        ez ∙ (ap₂ (λ (a b : List ℕ). over (a ++ body) b) t ew ∙ (over-over (headLine count last) body xs
+        ∙ (ap (λ (m : ℕ). over (headLine count m ++ body) xs) el ∙ ap (λ (l : List ℕ). over l xs) (sym encoded)))) in
+        rw (ok, ← size, le-leb _ _ h) (ap (filing (wrote n)) g)
+
+pub valid-entries : (image : List ℕ) → valid image ≡ true → (count last : ℕ) → count ≡ two 0 image → last ≡ two 2 image → entries last (rulesIn count image) ≡ true
+valid-entries image ok count last ec el = rw (ec, el) (valid-fine image ok .each)

@@ -1,0 +1,106 @@
+-- The rule file of document 01: its writing, and its reading with the refusals 13 and 14.
+use Prim.Native.Nat.{ℕ, zero, suc, _+_, _-_, _*_, _/_, _%_}
+use mathlib.Core.List.{List, [], _∷_, _++_}
+use mathlib.Core.Bool.{Bool, true, false}
+use lib.ListN.{length, getD, take, drop}
+use lib.Dec.{leb, eqb}
+use Rattle.rules.specs.Limits.{maxRules}
+use Rattle.rules.specs.Shape.{pick, Production, Entry}
+use Rattle.image.specs.Image.{two}
+use Rattle.frames.specs.Lines.{lineOf, framed, Parsed, soundLine}
+use Rattle.frames.specs.Lines.Parsed.{Bad, Good}
+use Rattle.file.specs.Listing.{Listing, entry, member}
+
+-- ---- the writing
+
+-- head: 01, edition 01, rule count (2), last (2)
+abbrev pub headBody : ℕ → ℕ → List ℕ
+headBody n last = 1 ∷ 1 ∷ n / 256 ∷ n % 256 ∷ last / 256 ∷ last % 256 ∷ []
+
+-- rule: 02, number (2), four lengths
+abbrev pub ruleFront : ℕ → ℕ → ℕ → ℕ → ℕ → List ℕ
+ruleFront n l t r p = 2 ∷ n / 256 ∷ n % 256 ∷ l ∷ t ∷ r ∷ p ∷ []
+
+-- and then their bytes
+abbrev pub ruleBody : Entry → List ℕ
+ruleBody e =
+    ruleFront (e .number) (length (e .rule .left)) (length (e .rule .target)) (length (e .rule .right)) (length (e .rule .phones))
+    ++ (e .rule .left ++ (e .rule .target ++ (e .rule .right ++ e .rule .phones)))
+
+abbrev pub headLine : ℕ → ℕ → List ℕ
+headLine n last = lineOf (framed (headBody n last))
+
+abbrev pub ruleLine : Entry → List ℕ
+ruleLine e = lineOf (framed (ruleBody e))
+
+abbrev pub ruleLines : List Entry → List ℕ
+ruleLines [] = []
+ruleLines (e ∷ es) = ruleLine e ++ ruleLines es
+
+-- the file of a ruleset
+unfoldable pub encode : Listing → List ℕ
+encode b = headLine (length (b .rules)) (b .last) ++ ruleLines (b .rules)
+
+-- ---- the reading
+
+pub data Read : Type 0 where
+  Accepted : Listing → Read
+  -- refusal 13, with its place
+  Malformed : ℕ → Read
+  -- refusal 14, with its place
+  Broken : ℕ → Read
+
+abbrev pub headCount : List ℕ → ℕ
+headCount f = two 2 f
+
+abbrev pub headLast : List ℕ → ℕ
+headLast f = two 4 f
+
+-- a sound frame is a head
+abbrev pub isHead : List ℕ → Bool
+isHead f = pick (eqb (length f) 7) (pick (eqb (getD f 0 0) 1) (pick (eqb (getD f 1 0) 1) (leb (headCount f) maxRules) false) false) false
+
+-- a sound frame has a rule's first byte and length
+abbrev pub isRule : List ℕ → Bool
+isRule f = pick (eqb (getD f 0 0) 2) (eqb (length f) (8 + (getD f 3 0 + (getD f 4 0 + (getD f 5 0 + getD f 6 0))))) false
+
+-- the rule of such a frame
+abbrev pub ruleOf : List ℕ → Entry
+ruleOf f = record {
+  number = two 1 f;
+  rule = record {
+    left = take (getD f 3 0) (drop 7 f);
+    target = take (getD f 4 0) (drop (getD f 3 0) (drop 7 f));
+    right = take (getD f 5 0) (drop (getD f 4 0) (drop (getD f 3 0) (drop 7 f)));
+    phones = take (getD f 6 0) (drop (getD f 5 0) (drop (getD f 4 0) (drop (getD f 3 0) (drop 7 f))));
+  };
+}
+
+-- a rule after those of `done`: of the shape, with a number from 1 to last that none of them has
+abbrev pub fine : ℕ → List Entry → Entry → Bool
+fine last done e = pick (entry last e) (pick (member (e .number) done) false true) false
+
+-- a frame that is a rule after those of `done`
+abbrev pub ruleFits : ℕ → List Entry → List ℕ → Bool
+ruleFits last done f = pick (isRule f) (fine last done (ruleOf f)) false
+
+abbrev pub onLine : Parsed → Read → (List ℕ → List ℕ → Read) → Read
+onLine Bad r k = r
+onLine (Good f rest) r k = k f rest
+
+-- after the last rule there is nothing
+abbrev pub ended : ℕ → Listing → List ℕ → Read
+ended len b [] = Accepted b
+ended len b (x ∷ s) = Broken (len - length (x ∷ s))
+
+-- n rule lines, after the rules of `done`. The place of a line is the file's length less what is left from its start.
+abbrev pub readRules : ℕ → ℕ → ℕ → List Entry → List ℕ → Read
+readRules len last zero done s = ended len (record { rules = done; last = last }) s
+readRules len last (suc n) done s =
+    onLine (soundLine s) (Malformed (len - length s))
+    (λ f rest. pick (ruleFits last done f) (readRules len last n (done ++ (ruleOf f ∷ [])) rest) (Broken (len - length s)))
+
+unfoldable pub readFile : List ℕ → Read
+readFile s =
+    onLine (soundLine s) (Malformed 0)
+    (λ f rest. pick (isHead f) (readRules (length s) (headLast f) (headCount f) [] rest) (Broken 0))
