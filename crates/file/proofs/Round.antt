@@ -170,8 +170,7 @@ written-read d xs h ok long =
     let b = listingOf d in
     let v = formed d h ok in
     let l = loaded-accepted (encode b) b xs long (accepts b v) in
-    let k = kept b v xs long in
-    (
+    let k = kept b v xs long in (
       ap (λ (q : Edited). q .reply) l,
       record {
         entries = ap (λ (q : Edited). entriesOf (q .image)) l ∙ ap (λ (q : Listing). q .rules) k;

@@ -1,4 +1,3 @@
 pub mod Answers
 pub mod Names
 pub mod Prepared
-pub mod Stub

@@ -8,7 +8,7 @@ use Rattle.rules.specs.Shape.{pick}
 use Rattle.rules.specs.Refusals.{Reply, accepted, declined}
 use Rattle.image.specs.Image.{Edited}
 use Rattle.tables.specs.Words.{Built, built}
-use Rattle.transcript.specs.Stub.{loaded}
+use Rattle.file.specs.Loading.{loaded}
 
 -- either input has at most so many bytes
 abbrev pub maxInput : ℕ

@@ -9,13 +9,11 @@ ghost use Prim.Native.Nat.{_+_, _*_, _%_, _<_, _≤_};
 ghost use lib.ListN.{length, drop};
 ghost use Rattle.frames.specs.Lines.{soundLine, lineAfter, over, overAt};
 ghost use Rattle.reading.specs.Speech.{toldOf};
-ghost use Rattle.tables.specs.Words.{building, built};
 ghost use Rattle.rules.specs.Refusals.{replyOf, accepted};
-ghost use Rattle.image.specs.Image.{valid, outcome};
+ghost use Rattle.image.specs.Image.{valid};
 ghost use Rattle.transcript.specs.Answers.{two, twos, spokenFront, spokenBody, printed, refusalLine, toldBody};
 ghost use Rattle.transcript.specs.Names.{asked, spelt, nameAnswer, cut, heard, ToldWithin};
 ghost use Rattle.transcript.specs.Prepared.{ready, prepared};
-ghost use Rattle.transcript.specs.Stub.{loaded};
 
 // ---- answers
 
@@ -209,20 +207,6 @@ pub fn answer_name<'a>(
 
 // ---- the rule file
 
-// STUB
-fn read_file(file: &[u8], image: &mut [u8]) -> Answer
-    ensures { λ r. ⌜ outcome (replyOf r) (now (image .exit)) ≡ loaded (now (file .entry)) (now (image .entry)) ⌝ }
-{
-    Answer::Accepted
-}
-
-// STUB
-fn build(image: &[u8], words: &mut [u16], sets: &mut [u64]) -> Answer
-    ensures { λ r. ⌜ building (replyOf r) (now (words .exit)) (now (sets .exit)) ≡ built (now (image .entry)) (now (words .entry)) (now (sets .entry)) ⌝ }
-{
-    Answer::Accepted
-}
-
 // A rule file read into lent memory, and its tables built there. Where this is accepted, the memory holds a ruleset, and names need no further
 // check of it.
 pub fn prepare(rules: &[u8], image: &mut [u8], words: &mut [u16], sets: &mut [u64]) -> Answer
@@ -232,9 +216,9 @@ pub fn prepare(rules: &[u8], image: &mut [u8], words: &mut [u16], sets: &mut [u6
     if 32768 < rules.len() {
         return Answer::Refused(Refusal::BadLine(32768));
     }
-    let answer = read_file(rules, &mut *image);
+    let answer = file::read_file(rules, &mut *image);
     if let Answer::Refused(why) = answer {
         return Answer::Refused(why);
     }
-    build(&*image, words, sets)
+    build::build(&*image, words, sets)
 }

@@ -1,3 +1,4 @@
+-- `transcript::answer_line` meets its contract, by the cases of the answer. Assumes nothing.
 use Rattle.transcript.proofs.Spoken.{spoken-within, spoken-told, refused-told, length-refusal}
 use Rattle.frames.specs.Lines.{over}
 use lib.Seq.{length-take-le}

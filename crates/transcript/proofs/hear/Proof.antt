@@ -1,3 +1,4 @@
+-- `transcript::hear` meets its contract, by what the report of a line tells. Assumes nothing.
 use Rattle.transcript.proofs.Heard.{wrong, right}
 use Rattle.transcript.proofs.Heard.{heard-bad, heard-other, heard-long, heard-short, some}
 use borrow.Author.Tests.{eq-eqb, ne-eqb}

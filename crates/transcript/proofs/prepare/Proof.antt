@@ -1,3 +1,4 @@
+-- `transcript::prepare` meets its contract; what a build accepts is a ruleset. Assumes nothing.
 use borrow.Author.Needs.{needs}
 use Rattle.transcript.proofs.prepare.Statement.{statement}
 use Rattle.transcript.proofs.prepare.Tie as tie

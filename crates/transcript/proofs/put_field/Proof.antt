@@ -1,3 +1,4 @@
+-- `transcript::put_field` meets its contract: a paste of the whole field. Assumes nothing.
 use Rattle.transcript.proofs.Fields.{paste-all}
 use mathlib.Core.Path.{refl, _∙_}
 use borrow.Author.Needs.{needs}

@@ -1,3 +1,5 @@
+-- `transcript::put_numbers` meets its contract. The loop's invariant: the numbers so far are laid from `from` on.
+-- Assumes nothing.
 use Prim.Native.Nat.{_-_}
 use native.Mathlib.Omega.{arith}
 use lib.ListN.{length}

@@ -1,3 +1,4 @@
+-- `transcript::put_spoken` meets its contract: its fields laid one after the other. Assumes nothing.
 use Rattle.transcript.proofs.Fields.{spoken-is}
 use Prim.Native.Nat.{ℕ}
 use mathlib.Core.List.{List, [], _∷_}

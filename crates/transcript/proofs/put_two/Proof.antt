@@ -1,3 +1,4 @@
+-- `transcript::put_two` meets its contract. Assumes nothing.
 use Rattle.frames.specs.Lines.{overAt}
 use Prim.Native.Nat.{ℕ}
 use mathlib.Core.List.{[], _∷_}

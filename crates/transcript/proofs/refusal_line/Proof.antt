@@ -1,3 +1,4 @@
+-- `transcript::refusal_line` meets its contract. Assumes nothing.
 use Rattle.transcript.proofs.Printed.{refused-is}
 use borrow.Author.Needs.{needs}
 use Rattle.transcript.proofs.refusal_line.Statement.{statement}

@@ -1,3 +1,4 @@
+-- `transcript::speak` meets its contract: what the walk tells fits its lent memory. Assumes nothing.
 use Rattle.transcript.proofs.Spoken.{spelt-is, told-within}
 use Rattle.transcript.specs.Names.{lentPhones, lentNumbers}
 use Rattle.reading.specs.Speech.{toldOf}
