@@ -212,9 +212,30 @@ fn read_rules(buf: &mut [u8]) -> usize
 
 // The names of the checklist: 5 is e, 11 k, 14 n, 1 a, 2 b.
 fn names<'a>(image: &[u8], words: &'a [u16], sets: &'a [u64]) {
-    spoken(image, words, sets, b"the last letter is silent, and reached (eke)", &[5, 11, 5], &[5, 2, 3]);
-    spoken(image, words, sets, b"two rules fit, the first in order wins (knee)", &[11, 14, 5, 5], &[1, 6, 4]);
-    uncovered(image, words, sets, b"a letter that no rule covers (nab)", &[14, 1, 2], 2);
+    spoken(
+        image,
+        words,
+        sets,
+        b"the last letter is silent, and reached (eke)",
+        &[5, 11, 5],
+        &[5, 2, 3],
+    );
+    spoken(
+        image,
+        words,
+        sets,
+        b"two rules fit, the first in order wins (knee)",
+        &[11, 14, 5, 5],
+        &[1, 6, 4],
+    );
+    uncovered(
+        image,
+        words,
+        sets,
+        b"a letter that no rule covers (nab)",
+        &[14, 1, 2],
+        2,
+    );
 }
 
 fn run<'a>(

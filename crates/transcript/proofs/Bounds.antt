@@ -2,10 +2,8 @@
 --     onward           the next line starts after this one
 --     answer-short     no answer's line has more than 783 bytes
 -- Assumes nothing.
-use Prim.Native.Nat.{ℕ, zero, suc, _+_, _-_, _*_, _≤_, _<_}
-use mathlib.Core.Path.{_≡_, refl, sym, ap, _∙_}
+use Prim.Native.Nat.{ℕ, zero, suc, _+_, _-_, _≤_, _<_}
 use mathlib.Core.List.{List, [], _∷_}
-use mathlib.Core.Bool.{Bool, true, false}
 use native.Mathlib.Omega.{arith}
 use lib.Dec.{eqb}
 use lib.ListN.{length, take, drop, length-drop}
@@ -19,13 +17,13 @@ use Rattle.transcript.proofs.Fields.{length-spoken}
 use Rattle.transcript.proofs.Printed.{length-printed}
 use Rattle.transcript.proofs.Spoken.{walk-within}
 
+past-within : (s : List ℕ) → length (pastLine s) ≤ length s
+past-within [] = omega arith
+past-within (a ∷ s) = byBool (eqb a 10) (λ e. rw e (omega arith)) (λ e. rw e (omega (arith, past-within s)))
+
 past-shorter : (s : List ℕ) → 0 < length s → length (pastLine s) < length s
 past-shorter [] h = absurd (omega arith)
-past-shorter (a ∷ s) h = byBool (eqb a 10) (λ e. rw e (omega arith)) (λ e. rw e (past-rest s))
-  where
-    past-rest : (s : List ℕ) → length (pastLine s) < 1 + length s
-    past-rest [] = omega arith
-    past-rest (b ∷ s) = byBool (eqb b 10) (λ e. rw e (omega arith)) (λ e. rw e (omega (arith, past-rest s)))
+past-shorter (a ∷ s) h = byBool (eqb a 10) (λ e. rw e (omega arith)) (λ e. rw e (omega (arith, past-within s)))
 
 pub onward : (text : List ℕ) (at : ℕ) → at < length text → at < lineAfter text at
 unfolding lineAfter

@@ -4,14 +4,14 @@
 --     Put              the loop that stores rule numbers
 -- Assumes nothing.
 use Prim.Native.Nat.{ℕ, _+_, _*_, _/_, _%_, _≤_, _<_}
-use mathlib.Core.Path.{_≡_, refl, sym, ap, ap₂, _∙_}
-use mathlib.Core.List.{List, [], _∷_, _++_, append-assoc, append-nil}
+use mathlib.Core.Path.{_≡_, refl, sym, ap, _∙_}
+use mathlib.Core.List.{List, [], _∷_, _++_, append-assoc}
 use native.Mathlib.Omega.{arith}
 use native.Mathlib.Numerals.{add-one}
 use lib.ListN.{length, take, drop, getD, length-append, take-append-drop}
-use lib.Seq.{paste, take-length, drop-drop, take-suc, take-all, take-at, length-take-le}
+use lib.Seq.{paste, take-length, drop-drop, take-suc, take-all, length-take-le}
 use Rattle.frames.specs.Lines.{over, overAt}
-use Rattle.frames.proofs.Over.{over-part, over-at, over-length, over-at-length}
+use Rattle.frames.proofs.Over.{over-part, over-at, over-at-length}
 use Rattle.transcript.specs.Answers.{two, twos, spokenFront, spokenBody}
 
 pub paste-all : (d s : List ℕ) (at : ℕ) → paste d at s (length s) ≡ overAt at s d

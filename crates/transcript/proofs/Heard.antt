@@ -2,7 +2,7 @@
 -- Assumes nothing.
 use Prim.Native.Nat.{ℕ, _+_, _-_, _≤_, _<_}
 use mathlib.Core.Path.{_≡_, refl, sym, ap, ap₂, _∙_}
-use mathlib.Core.List.{List, [], _∷_, _++_}
+use mathlib.Core.List.{List, [], _∷_}
 use mathlib.Core.Bool.{Bool, true, false, not}
 use native.Mathlib.Omega.{arith}
 use borrow.Author.Tests.{ne-eqb, ltb-true, ltb-false}
@@ -12,10 +12,9 @@ use lib.Seq.{take-all, take-take, take-append-le, drop-append-le, length-take-le
 use Rattle.rules.specs.Shape.{pick}
 use Rattle.frames.specs.declared.Line.{Line}
 use Rattle.frames.specs.Lines.{Parsed, soundLine, decoded, report, over}
-use Rattle.frames.specs.Lines.Parsed.{Bad, Good}
 use Rattle.frames.proofs.Lines.{byBool, sound-was}
 use Rattle.frames.proofs.Report.{Found, found, not-found, decoded-sound}
-use Rattle.transcript.specs.Names.{Asked, unsound, name, lettersIn, asked, cut, heard}
+use Rattle.transcript.specs.Names.{unsound, name, lettersIn, asked, cut, heard}
 
 -- ---- 67 bytes of a frame
 

@@ -1,10 +1,9 @@
 -- What preparing a rule file gives in each of its cases.
 -- Assumes nothing.
 use Prim.Native.Nat.{ℕ, _≤_, _<_}
-use mathlib.Core.Path.{_≡_, refl, sym, ap, _∙_, subst}
+use mathlib.Core.Path.{_≡_, sym, ap, _∙_, subst}
 use mathlib.Core.List.{List}
-use mathlib.Core.Bool.{Bool, true, false}
-use native.Mathlib.Omega.{arith}
+use mathlib.Core.Bool.{Bool, true}
 use borrow.Author.Tests.{le-leb, lt-leb}
 use lib.ListN.{length}
 use Rattle.rules.specs.Shape.{pick}
@@ -16,7 +15,7 @@ use Rattle.image.specs.Image.{valid, entriesOf, Edited, outcome}
 use Rattle.frames.proofs.Lines.{byBool}
 use Rattle.file.specs.Loading.{loaded}
 use Rattle.tables.specs.Words.{Built, building, builtFrom, built}
-use Rattle.transcript.specs.Prepared.{maxInput, Prepared, ready, withTables, onward, prepared}
+use Rattle.transcript.specs.Prepared.{maxInput, ready, withTables, onward, prepared}
 
 module _ (rules image words sets : List ℕ) where
   pub too-long : maxInput < length rules → ready (declined 13 maxInput) image words sets ≡ prepared rules image words sets

@@ -6,7 +6,6 @@ use lib.Dec.{leb}
 use lib.ListN.{length}
 use Rattle.rules.specs.Shape.{pick}
 use Rattle.rules.specs.Refusals.{Reply, accepted, declined}
-use Rattle.image.specs.Image.{Edited}
 use Rattle.tables.specs.Words.{Built, built}
 use Rattle.file.specs.Loading.{loaded}
 

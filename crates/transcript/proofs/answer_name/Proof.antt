@@ -5,7 +5,7 @@ use Rattle.frames.specs.Lines.{over}
 use lib.ListN.{length, drop}
 use Prim.Native.Nat.{ℕ}
 use mathlib.Core.List.{List}
-use mathlib.Core.Path.{_≡_, sym, ap, _∙_}
+use mathlib.Core.Path.{sym, ap, _∙_}
 use native.Mathlib.Omega.{arith}
 use borrow.Author.Needs.{needs}
 use Rattle.transcript.proofs.answer_name.Statement.{statement}

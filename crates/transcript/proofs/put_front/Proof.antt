@@ -1,5 +1,4 @@
 -- `transcript::put_front` meets its contract. Assumes nothing.
-use Rattle.frames.specs.Lines.{overAt}
 use borrow.Author.Needs.{needs}
 use Rattle.transcript.proofs.put_front.Statement.{statement}
 use Rattle.transcript.proofs.put_front.Tie as tie

@@ -1,8 +1,8 @@
 -- `transcript::put_spoken` meets its contract: its fields laid one after the other. Assumes nothing.
 use Rattle.transcript.proofs.Fields.{spoken-is}
 use Prim.Native.Nat.{ℕ}
-use mathlib.Core.List.{List, [], _∷_}
-use mathlib.Core.Path.{_≡_, ap}
+use mathlib.Core.List.{[], _∷_}
+use mathlib.Core.Path.{ap}
 use native.Mathlib.Omega.{arith}
 use borrow.Author.Needs.{needs}
 use Rattle.transcript.proofs.put_spoken.Statement.{statement}

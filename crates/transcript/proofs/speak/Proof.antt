@@ -4,9 +4,9 @@ use Rattle.transcript.specs.Names.{lentPhones, lentNumbers}
 use Rattle.reading.specs.Speech.{toldOf}
 use Rattle.frames.specs.Lines.{over}
 use lib.ListN.{length}
-use Prim.Native.Nat.{ℕ, _≤_}
+use Prim.Native.Nat.{ℕ}
 use mathlib.Core.List.{List}
-use mathlib.Core.Path.{_≡_, sym, ap, _∙_}
+use mathlib.Core.Path.{_≡_, ap, _∙_}
 use native.Mathlib.Omega.{arith}
 use borrow.Author.Needs.{needs}
 use Rattle.transcript.proofs.speak.Statement.{statement}

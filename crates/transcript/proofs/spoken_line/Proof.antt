@@ -3,7 +3,7 @@ use Rattle.transcript.specs.Answers.{spokenBody}
 use Rattle.transcript.proofs.Printed.{front-is, printed-is, length-printed}
 use Rattle.transcript.proofs.Fields.{length-spoken}
 use lib.ListN.{length}
-use mathlib.Core.Path.{_≡_, ap, sym, _∙_}
+use mathlib.Core.Path.{ap, sym, _∙_}
 use native.Mathlib.Omega.{arith}
 use borrow.Author.Needs.{needs}
 use Rattle.transcript.proofs.spoken_line.Statement.{statement}
