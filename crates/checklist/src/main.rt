@@ -6,8 +6,7 @@ use reading::Speech;
 use rules::Answer;
 use rules::Refusal;
 use rules::Rule;
-ghost use Prim.Native.Nat.{_≤_};
-ghost use lib.ListN.{length};
+ghost use Rattle.io.specs.Counts.{Counts};
 
 fn print(text: &[u8]) {
     io::write_all(STDOUT_FILENO, text);
@@ -199,7 +198,7 @@ fn drop_and_add(image: &mut [u8]) {
 
 // The bytes of rules.hex, as many as the buffer holds.
 fn read_rules(buf: &mut [u8]) -> usize
-    ensures { λ r. ⌜ r ≤ length (now (buf .entry)) ⌝ }
+    ensures { λ r. ⌜ Counts r (now (buf .exit)) ⌝ }
 {
     let fd = os::open_read(b"rules.hex");
     if fd < 0 {

@@ -6,8 +6,9 @@ use rules::Answer;
 use rules::Refusal;
 ghost use mathlib.Core.Path.{_≡_};
 ghost use mathlib.Core.Bool.{true};
-ghost use Prim.Native.Nat.{_<_, _≤_};
+ghost use Prim.Native.Nat.{_<_};
 ghost use lib.ListN.{length};
+ghost use Rattle.io.specs.Counts.{Counts};
 ghost use Rattle.image.specs.Image.{valid};
 
 // A refusal's line.
@@ -43,7 +44,7 @@ fn say_lines<'a>(image: &[u8], words: &'a [u16], sets: &'a [u64], text: &[u8])
 
 // The bytes of rules.hex, as many as the buffer holds; a missing file counts as empty.
 fn read_rules(buf: &mut [u8]) -> usize
-    ensures { λ r. ⌜ r ≤ length (now (buf .entry)) ⌝ }
+    ensures { λ r. ⌜ Counts r (now (buf .exit)) ⌝ }
 {
     let fd = os::open_read(b"rules.hex");
     if fd < 0 {
@@ -54,20 +55,36 @@ fn read_rules(buf: &mut [u8]) -> usize
     n
 }
 
-// The rule file, then the names, through one buffer of a byte more than either may have.
-fn run<'a>(buf: &mut [u8], image: &mut [u8], words: &'a mut [u16], sets: &'a mut [u64]) {
+// The rule file is made ready for names; if it is refused, its refusal is printed.
+fn load(buf: &mut [u8], image: &mut [u8], words: &mut [u16], sets: &mut [u64]) -> bool
+    ensures { λ r. ⌜ (r ≡ true → valid (now (image .exit)) ≡ true) ⌝ }
+{
     let n = read_rules(&mut *buf);
-    let answer = transcript::prepare(&buf[..n], &mut *image, &mut *words, &mut *sets);
+    let answer = transcript::prepare(&buf[..n], image, words, sets);
     if let Answer::Refused(x) = answer {
         print_refusal(x);
-        return;
+        return false;
     }
-    let m = io::read_full(STDIN_FILENO, &mut *buf);
-    if 32768 < m {
+    true
+}
+
+// The names on standard input.
+fn say_all<'a>(buf: &mut [u8], image: &[u8], words: &'a [u16], sets: &'a [u64])
+    requires { ⌜ valid (now image) ≡ true ⌝ }
+{
+    let n = io::read_full(STDIN_FILENO, &mut *buf);
+    if 32768 < n {
         print_refusal(Refusal::BadLine(32768));
         return;
     }
-    say_lines(image, words, sets, &buf[..m]);
+    say_lines(image, words, sets, &buf[..n]);
+}
+
+// Both inputs go through one buffer, of a byte more than either may have.
+fn run<'a>(buf: &mut [u8], image: &mut [u8], words: &'a mut [u16], sets: &'a mut [u64]) {
+    if load(&mut *buf, &mut *image, &mut *words, &mut *sets) {
+        say_all(buf, image, words, sets);
+    }
 }
 
 fn main() {
