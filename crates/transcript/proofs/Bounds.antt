@@ -1,0 +1,57 @@
+-- Bounds for a caller that goes through a text line by line.
+--     onward           the next line starts after this one
+--     answer-short     no answer's line has more than 783 bytes
+-- Assumes nothing.
+use Prim.Native.Nat.{ℕ, zero, suc, _+_, _-_, _≤_, _<_}
+use mathlib.Core.List.{List, [], _∷_}
+use native.Mathlib.Omega.{arith}
+use lib.Dec.{eqb}
+use lib.ListN.{length, take, drop, length-drop}
+use Rattle.frames.specs.Lines.{pastLine, lineAfter, soundLine}
+use Rattle.frames.proofs.Lines.{byBool}
+use Rattle.reading.specs.Speech.{Told, spoken, refused}
+use Rattle.tables.specs.Walk.{walkSaid}
+use Rattle.transcript.specs.Answers.{spokenBody, refusedBody, printed, toldBody}
+use Rattle.transcript.specs.Names.{Asked, unsound, name, asked, lentPhones, lentNumbers, spelt, answerTo, nameAnswer, ToldWithin}
+use Rattle.transcript.proofs.Fields.{length-spoken}
+use Rattle.transcript.proofs.Printed.{length-printed}
+use Rattle.transcript.proofs.Spoken.{walk-within}
+
+past-within : (s : List ℕ) → length (pastLine s) ≤ length s
+past-within [] = omega arith
+past-within (a ∷ s) = byBool (eqb a 10) (λ e. rw e (omega arith)) (λ e. rw e (omega (arith, past-within s)))
+
+past-shorter : (s : List ℕ) → 0 < length s → length (pastLine s) < length s
+past-shorter [] h = absurd (omega arith)
+past-shorter (a ∷ s) h = byBool (eqb a 10) (λ e. rw e (omega arith)) (λ e. rw e (omega (arith, past-within s)))
+
+pub onward : (text : List ℕ) (at : ℕ) → at < length text → at < lineAfter text at
+unfolding lineAfter
+onward text at h = let d = length-drop at text in omega (arith, past-shorter (drop at text) (omega arith))
+
+-- ---- lengths of answers
+
+length-first : (n : ℕ) (l : List ℕ) → length (take n l) ≤ n
+length-first zero l = omega arith
+length-first (suc n) [] = omega arith
+length-first (suc n) (a ∷ l) = omega (arith, length-first n l)
+
+told-short : (t : Told) (steps : ℕ) (phones numbers : List ℕ) → ToldWithin t 256 64 → length (printed (toldBody t steps phones numbers)) ≤ 783
+told-short (spoken p n) steps phones numbers w =
+    omega (arith, length-printed (spokenBody steps (take p phones) (take n numbers)), length-spoken steps (take p phones) (take n numbers), length-first p phones, length-first n numbers, w .0, w .1)
+told-short (refused k p) steps phones numbers w = omega (arith, length-printed (refusedBody k p))
+
+module _ (image words sets : List ℕ) where
+  spelt-short : (letters : List ℕ) → length (spelt image words sets letters) ≤ 783
+  unfolding spelt lentPhones lentNumbers
+  spelt-short letters =
+      let w = walkSaid image words sets letters lentPhones lentNumbers in
+      told-short (w .said .told) (w .steps) (w .said .phones) (w .said .numbers) (walk-within image words sets letters lentPhones lentNumbers)
+
+  asked-short : (a : Asked) → length (answerTo image words sets a) ≤ 783
+  asked-short unsound = omega (arith, length-printed (refusedBody 13 0))
+  asked-short (name letters) = spelt-short letters
+
+  pub answer-short : (s : List ℕ) → length (nameAnswer image words sets s) ≤ 783
+  unfolding nameAnswer
+  answer-short s = asked-short (asked (soundLine s))

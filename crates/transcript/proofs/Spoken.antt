@@ -1,0 +1,106 @@
+-- What a walk tells fits the memory lent to it, and a name over 64 letters is answered as its first 65 are.
+-- Assumes nothing.
+use Prim.Native.Nat.{ℕ, _-_, _≤_, _<_}
+use mathlib.Core.Path.{_≡_, refl, sym, ap, _∙_, subst}
+use mathlib.Core.List.{List}
+use mathlib.Core.Bool.{Bool, true, false}
+use native.Mathlib.Omega.{arith}
+use borrow.Author.Tests.{leb-true, leb-false, lt-leb, ne-eqb}
+use lib.Dec.{leb}
+use lib.ListN.{length, take, drop}
+use lib.Seq.{take-all, length-take-le}
+use Rattle.rules.specs.Limits.{maxName}
+use Rattle.rules.specs.Shape.{pick}
+use Rattle.rules.specs.Refusals.{refusalNumber, refusalPlace}
+use Rattle.rules.specs.declared.Refusal.{Refusal}
+use Rattle.image.specs.Image.{valid, entriesOf}
+use Rattle.frames.specs.Lines.{soundLine}
+use Rattle.frames.proofs.Lines.{byBool}
+use Rattle.reading.specs.Reading.{Reading, finished, stopped}
+use Rattle.reading.specs.Speech.{Told, refused, toldOf, Said, saying, phonesOf, numbersOf, delivered, judgedName}
+use Rattle.reading.specs.declared.Speech.{Speech}
+use Rattle.reading.specs.declared.Speech.the-variants.{Spoken, Refused}
+use Rattle.tables.specs.Words.{leftOf, rightOf}
+use Rattle.tables.specs.Walk.{Walked, walkedAs, walkWords, walkSteps, walkSaid}
+use Rattle.transcript.specs.Answers.{spokenBody, refusedBody, printed, refusalLine, toldBody, walkedLine}
+use Rattle.transcript.proofs.Printed.{length-printed}
+use Rattle.transcript.specs.Names.{Asked, unsound, name, lentPhones, lentNumbers, spelt, asked, answerTo, nameAnswer, cut, heard, ToldWithin}
+
+delivered-within : (o : Reading) (phones numbers : List ℕ) → ToldWithin (delivered o phones numbers .told) (length phones) (length numbers)
+delivered-within (stopped n p) phones numbers = tt
+delivered-within (finished rs) phones numbers =
+    byBool (leb (length (phonesOf rs)) (length phones))
+    (λ e. rw e (byBool (leb (length (numbersOf rs)) (length numbers)) (λ f. rw f (leb-true _ _ e, leb-true _ _ f)) (λ f. rw f tt)))
+    (λ e. rw e tt)
+
+module _ (image words sets : List ℕ) where
+  pub walk-within : (letters phones numbers : List ℕ) → ToldWithin (walkSaid image words sets letters phones numbers .said .told) (length phones) (length numbers)
+  unfolding walkSaid
+  walk-within letters phones numbers =
+      byBool (valid image)
+      (λ e. rw e (delivered-within (judgedName letters (walkWords words sets (entriesOf image) letters)) phones numbers))
+      (λ e. rw e tt)
+
+  -- the answer to a name over 64 letters
+  overlong : (letters phones numbers : List ℕ) → valid image ≡ true → leb (length letters) maxName ≡ false
+      → walkSaid image words sets letters phones numbers ≡ walkedAs (saying (refused 2 0) phones numbers) 0
+  unfolding walkSaid
+  overlong letters phones numbers v e =
+      let s : Said = saying (refused 2 0) phones numbers in
+      let j : judgedName letters (walkWords words sets (entriesOf image) letters) ≡ stopped 2 0 = rw e in
+      ap (λ (b : Bool). walkedAs (pick b (delivered (judgedName letters (walkWords words sets (entriesOf image) letters)) phones numbers) (saying (refused 0 0) phones numbers)) (walkSteps (leftOf words sets) (rightOf words sets) letters)) v
+      ∙ ap (λ (o : Reading). walkedAs (delivered o phones numbers) (walkSteps (leftOf words sets) (rightOf words sets) letters)) j
+
+  cut-spelt : (letters : List ℕ) → valid image ≡ true → spelt image words sets (take 65 letters) ≡ spelt image words sets letters
+  unfolding spelt
+  cut-spelt letters v =
+      byBool (leb (length letters) maxName)
+      (λ e. let l = leb-true (length letters) maxName e in ap (λ (w : List ℕ). walkedLine (walkSaid image words sets w lentPhones lentNumbers)) (take-all 65 letters (omega arith)))
+      (λ e.
+      let l = leb-false (length letters) maxName e in
+      let k = length-take-le 65 letters (omega arith) in
+      ap walkedLine (overlong (take 65 letters) lentPhones lentNumbers v (lt-leb (length (take 65 letters)) maxName (omega arith)) ∙ sym (overlong letters lentPhones lentNumbers v e)))
+
+  pub cut-answer : (a : Asked) → valid image ≡ true → answerTo image words sets (cut a) ≡ answerTo image words sets a
+  cut-answer unsound v = refl
+  cut-answer (name letters) v = cut-spelt letters v
+
+-- ---- an answer by cases
+
+module _ (s : Speech) (p n : ℕ) (e : s ≡ Spoken p n) where
+  pub spoken-within : (a b : ℕ) → ToldWithin (toldOf s) a b → (p ≤ a) × (n ≤ b)
+  spoken-within a b h = subst (λ (t : Speech). ToldWithin (toldOf t) a b) e h
+
+  pub spoken-told : (steps : ℕ) (phones numbers : List ℕ) → printed (spokenBody steps (take p phones) (take n numbers)) ≡ printed (toldBody (toldOf s) steps phones numbers)
+  spoken-told steps phones numbers = ap (λ (t : Speech). printed (toldBody (toldOf t) steps phones numbers)) (sym e)
+
+pub refused-told : (s : Speech) (x : Refusal) → s ≡ Refused x → (steps : ℕ) (phones numbers : List ℕ) → refusalLine x ≡ printed (toldBody (toldOf s) steps phones numbers)
+refused-told s x e steps phones numbers = ap (λ (t : Speech). printed (toldBody (toldOf t) steps phones numbers)) (sym e)
+
+pub length-refusal : (x : Refusal) → length (refusalLine x) ≡ 15
+length-refusal x = length-printed (refusedBody (refusalNumber x) (refusalPlace x))
+
+-- a walk whose answer is given with its lent memory
+module _ (image words sets letters : List ℕ) (told : Told) (steps : ℕ) (phones numbers : List ℕ)
+    (e : record { said = saying told phones numbers; steps = steps } ≡ walkSaid image words sets letters lentPhones lentNumbers) where
+  pub spelt-is : printed (toldBody told steps phones numbers) ≡ spelt image words sets letters
+  unfolding spelt
+  spelt-is = ap walkedLine e
+
+  pub told-within : (a b : ℕ) → a ≡ 256 → b ≡ 64 → ToldWithin told a b
+  unfolding lentPhones lentNumbers
+  told-within a b p q = rw (p, q) (subst (λ (w : Walked). ToldWithin (w .said .told) 256 64) (sym e) (walk-within image words sets letters lentPhones lentNumbers))
+
+-- ---- what was heard, answered
+
+module _ (image words sets s kept : List ℕ) (end : ℕ) (v : valid image ≡ true) (h : heard end kept ≡ cut (asked (soundLine s))) where
+  by-heard : answerTo image words sets (heard end kept) ≡ nameAnswer image words sets s
+  unfolding nameAnswer
+  by-heard = ap (answerTo image words sets) h ∙ cut-answer image words sets (asked (soundLine s)) v
+
+  pub answered-none : end ≡ 0 → printed (refusedBody 13 0) ≡ nameAnswer image words sets s
+  answered-none e = ap (λ (n : ℕ). answerTo image words sets (heard n kept)) (sym e) ∙ by-heard
+
+  pub answered-name : 0 < end → spelt image words sets (take (end - 1) (drop 1 kept)) ≡ nameAnswer image words sets s
+  answered-name e =
+      ap (λ (b : Bool). answerTo image words sets (pick b unsound (name (take (end - 1) (drop 1 kept))))) (sym (ne-eqb end 0 (omega arith))) ∙ by-heard

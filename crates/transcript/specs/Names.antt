@@ -1,0 +1,61 @@
+-- What `say` prints for the line of a name (document 01, "The six rules").
+-- Assumes nothing.
+use Prim.Native.Nat.{ℕ, _-_, _≤_}
+use mathlib.Core.List.{List}
+use lib.Dec.{eqb}
+use lib.ListN.{length, getD, take, drop, replicate}
+use Rattle.rules.specs.Shape.{pick}
+use Rattle.frames.specs.Lines.{Parsed, soundLine}
+use Rattle.frames.specs.Lines.Parsed.{Bad, Good}
+use Rattle.reading.specs.Speech.{Told, spoken, refused}
+use Rattle.tables.specs.Walk.{walkSaid}
+use Rattle.transcript.specs.Answers.{refusedBody, printed, walkedLine}
+
+-- what a line asks for: the speech of a name, or nothing that can be spoken
+pub data Asked : Type 0 where
+  unsound : Asked
+  name : List ℕ → Asked
+
+-- the bytes between the first one and the checksum
+abbrev pub lettersIn : List ℕ → List ℕ
+lettersIn f = take (length f - 2) (drop 1 f)
+
+-- a sound line that starts with 03
+abbrev pub asked : Parsed → Asked
+asked Bad = unsound
+asked (Good f rest) = pick (eqb (getD f 0 0) 3) (name (lettersIn f)) unsound
+
+-- each name is lent 256 phones and 64 numbers
+unfoldable pub lentPhones : List ℕ
+lentPhones = replicate 256 0
+
+unfoldable pub lentNumbers : List ℕ
+lentNumbers = replicate 64 0
+
+-- the line of a name's walk
+unfoldable pub spelt : List ℕ → List ℕ → List ℕ → List ℕ → List ℕ
+spelt image words sets letters = walkedLine (walkSaid image words sets letters lentPhones lentNumbers)
+
+abbrev pub answerTo : List ℕ → List ℕ → List ℕ → Asked → List ℕ
+answerTo image words sets unsound = printed (refusedBody 13 0)
+answerTo image words sets (name letters) = spelt image words sets letters
+
+-- what is printed for the line that s starts with
+unfoldable pub nameAnswer : List ℕ → List ℕ → List ℕ → List ℕ → List ℕ
+nameAnswer image words sets s = answerTo image words sets (asked (soundLine s))
+
+-- ---- what the functions give on the way
+
+-- a name over 64 letters is refused by its length, so that 65 of them tell as much as all
+abbrev pub cut : Asked → Asked
+cut unsound = unsound
+cut (name letters) = name (take 65 letters)
+
+-- what stands in a frame that was read, its letters ending before `end`; 0 for no name
+abbrev pub heard : ℕ → List ℕ → Asked
+heard end frame = pick (eqb end 0) unsound (name (take (end - 1) (drop 1 frame)))
+
+-- as many phones and numbers as are told are there
+abbrev pub ToldWithin : Told → ℕ → ℕ → Type 0
+ToldWithin (spoken p n) phones numbers = (p ≤ phones) × (n ≤ numbers)
+ToldWithin (refused number place) phones numbers = Unit {0}
