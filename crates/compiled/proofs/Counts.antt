@@ -9,6 +9,7 @@ use native.Mathlib.Omega.{arith}
 use lib.Dec.{leb, ltb}
 use lib.ListN.{length, getD}
 use borrow.Author.Tests.{lt-leb, le-leb, lt-ltb, le-ltb}
+use Rattle.rules.proofs.Cases.{byBool}
 use Rattle.rules.specs.Shape.{pick}
 use Rattle.image.specs.Image.{valid, entriesOf}
 use Rattle.reading.specs.Fitting.{Str}
@@ -16,7 +17,6 @@ use Rattle.reading.specs.Reading.{Reading, stopped}
 use Rattle.reading.specs.Speech.{letter, saying, refused, delivered, judgedLetters, judgedName}
 use Rattle.tables.specs.Words.{leftOf, rightOf, neededWords, neededSets}
 use Rattle.tables.specs.Walk.{Walked, walk, walkSteps, walkedAs, walkWords, walkSaid, lengthsFit}
-use Rattle.tables.proofs.Truth.{byBool}
 use Rattle.walk.specs.Walked.{lengthsFor, leftFor, rightFor, walkFor}
 use Rattle.walk.proofs.Walked.{said-valid}
 use Rattle.compiled.specs.Compiling.{countIn}

@@ -10,15 +10,17 @@ use lib.ListN.{length, getD, take, drop, set, length-append, length-drop, drop-o
 use lib.Seq.{drop-cons, drop-drop, take-at, drop-at, take-append-add, drop-append-add, length-take-le, take-all, sets-eq}
 use borrow.Rule.Slice.PartMut.{midOf, putMid}
 use borrow.Author.Tests.{leb-true, leb-false, le-leb, lt-leb, ltb-true, ltb-false, lt-ltb, le-ltb}
+use Rattle.rules.specs.Memory.{over}
+use Rattle.rules.proofs.Cases.{byBool}
 use Rattle.rules.specs.Shape.{pick}
 use Rattle.image.specs.Image.{valid, entriesOf}
 use Rattle.reading.specs.Fitting.{Str}
 use Rattle.reading.specs.Reading.{Reading, finished, stopped}
-use Rattle.reading.specs.Speech.{phonesOf, numbersOf, Told, Said, toldOf, saying, over, delivered, judgedName, refused}
+use Rattle.reading.specs.Speech.{phonesOf, numbersOf, Told, Said, toldOf, saying, delivered, judgedName, refused}
 use Rattle.tables.specs.Walk.{Walked, walkWords, walkSaid}
 use Rattle.walk.specs.Walked.{walkedOf}
 use Rattle.walk.specs.declared.WalkAnswer.{WalkAnswer}
-use Rattle.tables.proofs.Truth.{byBool, clash}
+use Rattle.tables.proofs.Truth.{clash}
 use Rattle.host.specs.Codes.{phonesGiven, numbersGiven}
 use Rattle.host.specs.Many.{namesIn, replied, Lot, then, each, spokenAll, Many, manyFrom, manySaid, rest, whole, Within, hasNext, nextName, Next}
 use Rattle.host.specs.declared.Progress.{Progress}

@@ -6,11 +6,12 @@ use mathlib.Core.List.{List, [], _∷_, _++_}
 use mathlib.Core.Bool.{Bool, true, false}
 use lib.Dec.{leb, ltb}
 use lib.ListN.{length, getD, take, drop}
+use Rattle.rules.specs.Memory.{over}
 use Rattle.rules.specs.Shape.{pick}
 use Rattle.rules.specs.Refusals.{Reply}
 use Rattle.image.specs.Image.{valid}
 use Rattle.reading.specs.Fitting.{Str}
-use Rattle.reading.specs.Speech.{Told, over}
+use Rattle.reading.specs.Speech.{Told}
 use Rattle.tables.specs.Walk.{Walked, walkSaid}
 use Rattle.host.specs.Codes.{codeOf, checked, spokenCode, phonesOrPlace, phonesGiven, numbersGiven}
 use Rattle.host.specs.declared.Progress.{Progress}

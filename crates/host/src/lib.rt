@@ -9,11 +9,12 @@ ghost use mathlib.Core.Bool.{true};
 ghost use mathlib.Core.List.{_∷_, _++_};
 ghost use Prim.Native.Nat.{ℕ, _+_, _*_, _/_, _<_, _≤_};
 ghost use lib.ListN.{length, getD, take, drop};
+ghost use Rattle.rules.specs.Memory.{over};
 ghost use Rattle.rules.specs.Refusals.{replyOf};
 ghost use Rattle.image.specs.Image.{valid, cleared};
 ghost use Rattle.edits.specs.Ledger.{Edit};
 ghost use Rattle.edits.specs.Edits.{edited};
-ghost use Rattle.reading.specs.Speech.{toldOf, plainSaid, over};
+ghost use Rattle.reading.specs.Speech.{toldOf, plainSaid};
 ghost use Rattle.tables.specs.Walk.{walkSaid};
 ghost use Rattle.walk.specs.Walked.{walkedOf};
 ghost use Rattle.host.specs.Codes.{codeOf, placeIn, checked, countIn, lastIn, spokenCode, phonesOrPlace, phonesGiven, numbersGiven, blankRule, ruleIn, ruleOf};
@@ -43,7 +44,10 @@ fn spoken_code(speech: Speech) -> u8
     ensures { λ r. ⌜ r ≡ spokenCode (toldOf speech) ⌝ }
 {
     match speech {
-        Speech::Spoken { phones: _, numbers: _ } => 255,
+        Speech::Spoken {
+            phones: _,
+            numbers: _,
+        } => 255,
         Speech::Refused(x) => rules::refusal_number(x),
     }
 }

@@ -7,8 +7,8 @@ use mathlib.Core.List.{List, [], _∷_}
 use native.Mathlib.Omega.{arith}
 use lib.Dec.{eqb}
 use lib.ListN.{length, take, drop, length-drop}
+use Rattle.rules.proofs.Cases.{byBool}
 use Rattle.frames.specs.Lines.{pastLine, lineAfter, soundLine}
-use Rattle.frames.proofs.Lines.{byBool}
 use Rattle.reading.specs.Speech.{Told, spoken, refused}
 use Rattle.tables.specs.Walk.{walkSaid}
 use Rattle.transcript.specs.Answers.{spokenBody, refusedBody, printed, toldBody}

@@ -10,8 +10,8 @@ use native.Mathlib.Omega.{arith}
 use native.Mathlib.Numerals.{add-one}
 use lib.ListN.{length, take, drop, getD, length-append, take-append-drop}
 use lib.Seq.{paste, take-length, drop-drop, take-suc, take-all, length-take-le}
-use Rattle.frames.specs.Lines.{over, overAt}
-use Rattle.frames.proofs.Over.{over-part, over-at, over-at-length}
+use Rattle.rules.specs.Memory.{over, overAt}
+use Rattle.rules.proofs.Memory.{over-at, over-at-length, over-part}
 use Rattle.transcript.specs.Answers.{two, twos, spokenFront, spokenBody}
 
 pub paste-all : (d s : List ℕ) (at : ℕ) → paste d at s (length s) ≡ overAt at s d

@@ -9,10 +9,12 @@ use borrow.Author.Tests.{ne-eqb, ltb-true, ltb-false}
 use lib.Dec.{eqb, ltb}
 use lib.ListN.{length, getD, take, drop, length-drop}
 use lib.Seq.{take-all, take-take, take-append-le, drop-append-le, length-take-le}
+use Rattle.rules.specs.Memory.{over}
+use Rattle.rules.proofs.Cases.{byBool}
 use Rattle.rules.specs.Shape.{pick}
 use Rattle.frames.specs.declared.Line.{Line}
-use Rattle.frames.specs.Lines.{Parsed, soundLine, decoded, report, over}
-use Rattle.frames.proofs.Lines.{byBool, sound-was}
+use Rattle.frames.specs.Lines.{Parsed, soundLine, decoded, report}
+use Rattle.frames.proofs.Lines.{sound-was}
 use Rattle.frames.proofs.Report.{Found, found, not-found, decoded-sound}
 use Rattle.transcript.specs.Names.{unsound, name, lettersIn, asked, cut, heard}
 

@@ -6,13 +6,13 @@ use mathlib.Core.List.{List}
 use mathlib.Core.Bool.{Bool, true}
 use borrow.Author.Tests.{le-leb, lt-leb}
 use lib.ListN.{length}
+use Rattle.rules.proofs.Cases.{byBool}
 use Rattle.rules.specs.Shape.{pick}
 use Rattle.rules.specs.Refusals.{refusalNumber, refusalPlace, Reply, accepted, declined, replyOf}
 use Rattle.rules.specs.declared.Refusal.{Refusal}
 use Rattle.rules.specs.declared.Answer.{Answer}
 use Rattle.rules.specs.declared.Answer.the-variants.{Accepted, Refused}
 use Rattle.image.specs.Image.{valid, entriesOf, Edited, outcome}
-use Rattle.frames.proofs.Lines.{byBool}
 use Rattle.file.specs.Loading.{loaded}
 use Rattle.tables.specs.Words.{Built, building, builtFrom, built}
 use Rattle.transcript.specs.Prepared.{maxInput, ready, withTables, onward, prepared}

@@ -6,7 +6,8 @@ use mathlib.Core.List.{List, [], _∷_}
 use native.Mathlib.Omega.{arith}
 use lib.ListN.{length, take, drop, length-append}
 use lib.Seq.{take-at}
-use Rattle.frames.specs.Lines.{lineOf, framed, sumByte, over, overAt}
+use Rattle.rules.specs.Memory.{over, overAt}
+use Rattle.frames.specs.Lines.{lineOf, framed, sumByte}
 use Rattle.frames.proofs.Lines.{length-line}
 use Rattle.transcript.specs.Answers.{refusedBody, printed}
 

@@ -9,13 +9,13 @@ use borrow.Author.Tests.{leb-true, leb-false, lt-leb, ne-eqb}
 use lib.Dec.{leb}
 use lib.ListN.{length, take, drop}
 use lib.Seq.{take-all, length-take-le}
+use Rattle.rules.proofs.Cases.{byBool}
 use Rattle.rules.specs.Limits.{maxName}
 use Rattle.rules.specs.Shape.{pick}
 use Rattle.rules.specs.Refusals.{refusalNumber, refusalPlace}
 use Rattle.rules.specs.declared.Refusal.{Refusal}
 use Rattle.image.specs.Image.{valid, entriesOf}
 use Rattle.frames.specs.Lines.{soundLine}
-use Rattle.frames.proofs.Lines.{byBool}
 use Rattle.reading.specs.Reading.{Reading, finished, stopped}
 use Rattle.reading.specs.Speech.{Told, refused, toldOf, Said, saying, phonesOf, numbersOf, delivered, judgedName}
 use Rattle.reading.specs.declared.Speech.{Speech}

@@ -1,6 +1,6 @@
 -- `transcript::answer_line` meets its contract, by the cases of the answer. Assumes nothing.
+use Rattle.rules.specs.Memory.{over}
 use Rattle.transcript.proofs.Spoken.{spoken-within, spoken-told, refused-told, length-refusal}
-use Rattle.frames.specs.Lines.{over}
 use lib.Seq.{length-take-le}
 use lib.ListN.{length}
 use Prim.Native.Nat.{ℕ}

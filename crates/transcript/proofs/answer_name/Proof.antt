@@ -1,7 +1,7 @@
 -- `transcript::answer_name` meets its contract: 65 letters are answered as a longer name is. Assumes nothing.
+use Rattle.rules.specs.Memory.{over}
 use Rattle.transcript.proofs.Spoken.{answered-none, answered-name, length-refusal}
 use Rattle.rules.specs.declared.Refusal.the-variants.{BadLine}
-use Rattle.frames.specs.Lines.{over}
 use lib.ListN.{length, drop}
 use Prim.Native.Nat.{ℕ}
 use mathlib.Core.List.{List}

@@ -1,9 +1,9 @@
 -- `transcript::put_two` meets its contract. Assumes nothing.
-use Rattle.frames.specs.Lines.{overAt}
 use Prim.Native.Nat.{ℕ}
 use mathlib.Core.List.{[], _∷_}
 use mathlib.Core.Path.{_∙_, ap₂}
 use borrow.Author.Needs.{needs}
+use Rattle.rules.specs.Memory.{overAt}
 use Rattle.transcript.proofs.put_two.Statement.{statement}
 use Rattle.transcript.proofs.put_two.Tie as tie
 

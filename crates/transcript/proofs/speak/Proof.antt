@@ -1,8 +1,8 @@
 -- `transcript::speak` meets its contract: what the walk tells fits its lent memory. Assumes nothing.
+use Rattle.rules.specs.Memory.{over}
 use Rattle.transcript.proofs.Spoken.{spelt-is, told-within}
 use Rattle.transcript.specs.Names.{lentPhones, lentNumbers}
 use Rattle.reading.specs.Speech.{toldOf}
-use Rattle.frames.specs.Lines.{over}
 use lib.ListN.{length}
 use Prim.Native.Nat.{ℕ}
 use mathlib.Core.List.{List}
