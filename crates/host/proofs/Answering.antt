@@ -10,8 +10,8 @@ use lib.ListN.{length, getD, take, drop, set, length-append, length-drop, drop-o
 use lib.Seq.{drop-cons, drop-drop, take-at, drop-at, take-append-add, drop-append-add, length-take-le, take-all, sets-eq}
 use borrow.Rule.Slice.PartMut.{midOf, putMid}
 use borrow.Author.Tests.{leb-true, leb-false, le-leb, lt-leb, ltb-true, ltb-false, lt-ltb, le-ltb}
-use Rattle.rules.specs.Memory.{over}
 use Rattle.rules.proofs.Cases.{byBool}
+use Rattle.rules.specs.Memory.{over}
 use Rattle.rules.specs.Shape.{pick}
 use Rattle.image.specs.Image.{valid, entriesOf}
 use Rattle.reading.specs.Fitting.{Str}

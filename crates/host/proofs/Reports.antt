@@ -16,6 +16,9 @@ use Rattle.image.specs.Image.{imageSize, valid, two, Edited, outcome}
 use Rattle.image.proofs.Bytes.{four-front, six-front}
 use Rattle.reading.specs.Speech.{Told, Said, saying}
 use Rattle.tables.specs.Walk.{Walked}
+use Rattle.tables.specs.Words.{Built, building}
+use Rattle.file.specs.Loading.{Report, Filed, filing}
+use Rattle.host.specs.Files.{writtenCode, bytesOrPlace}
 use Rattle.host.specs.Codes.{codeOf, placeIn, checked, countIn, lastIn, spokenCode, phonesOrPlace, numbersGiven, blankRule, ruleOf, ruleIn}
 
 -- the numbers of an edit or a reading, and the memory after it
@@ -99,3 +102,28 @@ module _ (t : Told) (phones numbers : List ℕ) (s : Said) (h : saying t phones 
 
   pub said-numbers : numbers ≡ s .numbers
   said-numbers = ap (λ (x : Said). x .numbers) h
+
+-- the numbers of a build, and the lent words after it
+module _ (a : Reply) (words sets : List ℕ) (b : Built) (h : building a words sets ≡ b) where
+  pub built-code : (r : ℕ) → r ≡ codeOf a → r ≡ codeOf (b .reply)
+  built-code r c = c ∙ ap (λ (x : Built). codeOf (x .reply)) h
+
+  pub built-place : (r : ℕ) → r ≡ placeIn a → r ≡ placeIn (b .reply)
+  built-place r c = c ∙ ap (λ (x : Built). placeIn (x .reply)) h
+
+  pub built-words : words ≡ b .words
+  built-words = ap (λ (x : Built). x .words) h
+
+  pub built-sets : sets ≡ b .sets
+  built-sets = ap (λ (x : Built). x .sets) h
+
+-- the numbers of a file's writing, and the lent bytes after it
+module _ (w : Report) (out : List ℕ) (f : Filed) (h : filing w out ≡ f) where
+  pub filed-code : (r : ℕ) → r ≡ writtenCode w → r ≡ writtenCode (f .report)
+  filed-code r c = c ∙ ap (λ (x : Filed). writtenCode (x .report)) h
+
+  pub filed-bytes : (r : ℕ) → r ≡ bytesOrPlace w → r ≡ bytesOrPlace (f .report)
+  filed-bytes r c = c ∙ ap (λ (x : Filed). bytesOrPlace (x .report)) h
+
+  pub filed-out : out ≡ f .bytes
+  filed-out = ap (λ (x : Filed). x .bytes) h

@@ -1,5 +1,6 @@
 // What a firmware links: the library's calls on numbers and lent memory. host/pirrozketa.h says the same to C.
 // A call answers with a code: 255 where it is accepted, else document 01's refusal number.
+use file::Written;
 use reading::Speech;
 use rules::Answer;
 use rules::Rule;
@@ -9,15 +10,17 @@ ghost use mathlib.Core.Bool.{true};
 ghost use mathlib.Core.List.{_∷_, _++_};
 ghost use Prim.Native.Nat.{ℕ, _+_, _*_, _/_, _<_, _≤_};
 ghost use lib.ListN.{length, getD, take, drop};
-ghost use Rattle.rules.specs.Memory.{over};
 ghost use Rattle.rules.specs.Refusals.{replyOf};
 ghost use Rattle.image.specs.Image.{valid, cleared};
 ghost use Rattle.edits.specs.Ledger.{Edit};
 ghost use Rattle.edits.specs.Edits.{edited};
-ghost use Rattle.reading.specs.Speech.{toldOf, plainSaid};
+ghost use Rattle.reading.specs.Speech.{toldOf, plainSaid, over};
+ghost use Rattle.tables.specs.Words.{built};
 ghost use Rattle.tables.specs.Walk.{walkSaid};
 ghost use Rattle.walk.specs.Walked.{walkedOf};
 ghost use Rattle.host.specs.Codes.{codeOf, placeIn, checked, countIn, lastIn, spokenCode, phonesOrPlace, phonesGiven, numbersGiven, blankRule, ruleIn, ruleOf};
+ghost use Rattle.file.specs.Loading.{reportOf, loaded, filed};
+ghost use Rattle.host.specs.Files.{writtenCode, bytesOrPlace};
 ghost use Rattle.host.specs.Many.{replied, spokenAll, manySaid, hasNext, Next};
 
 // ---- codes
@@ -44,10 +47,7 @@ fn spoken_code(speech: Speech) -> u8
     ensures { λ r. ⌜ r ≡ spokenCode (toldOf speech) ⌝ }
 {
     match speech {
-        Speech::Spoken {
-            phones: _,
-            numbers: _,
-        } => 255,
+        Speech::Spoken { phones: _, numbers: _ } => 255,
         Speech::Refused(x) => rules::refusal_number(x),
     }
 }
@@ -76,6 +76,24 @@ fn numbers_given(speech: Speech) -> usize
     match speech {
         Speech::Spoken { phones: _, numbers } => numbers,
         Speech::Refused(_) => 0,
+    }
+}
+
+fn written_code(written: Written) -> u8
+    ensures { λ r. ⌜ r ≡ writtenCode (reportOf written) ⌝ }
+{
+    match written {
+        Written::Bytes(_) => 255,
+        Written::Refused(x) => rules::refusal_number(x),
+    }
+}
+
+fn bytes_or_place(written: Written) -> usize
+    ensures { λ r. ⌜ r ≡ bytesOrPlace (reportOf written) ⌝ }
+{
+    match written {
+        Written::Bytes(n) => n,
+        Written::Refused(x) => rules::refusal_place(x),
     }
 }
 
@@ -196,6 +214,47 @@ pub extern "C" fn pirrozketa_move(image: &mut [u8], number: u16, p: usize, place
     code_of(answer)
 }
 
+// ---- the rule file
+
+// A rule file is read into the memory, whatever it holds.
+#[no_mangle]
+pub extern "C" fn pirrozketa_read_file(file: &[u8], image: &mut [u8], place: &mut usize) -> u8
+    ensures code { λ r. ⌜ r ≡ codeOf (loaded (now (file .entry)) (now (image .entry)) .reply) ⌝ }
+    ensures place { λ _. ⌜ now (place .exit) ≡ placeIn (loaded (now (file .entry)) (now (image .entry)) .reply) ⌝ }
+    ensures image { λ _. ⌜ now (image .exit) ≡ loaded (now (file .entry)) (now (image .entry)) .image ⌝ }
+{
+    let answer = file::read_file(file, image);
+    *place = place_in(answer);
+    code_of(answer)
+}
+
+// The rule file is written. `bytes` is the bytes written or the refusal's place.
+#[no_mangle]
+pub extern "C" fn pirrozketa_write_file(image: &[u8], out: &mut [u8], bytes: &mut usize) -> u8
+    ensures code { λ r. ⌜ r ≡ writtenCode (filed (now (image .entry)) (now (out .entry)) .report) ⌝ }
+    ensures bytes { λ _. ⌜ now (bytes .exit) ≡ bytesOrPlace (filed (now (image .entry)) (now (out .entry)) .report) ⌝ }
+    ensures out { λ _. ⌜ now (out .exit) ≡ filed (now (image .entry)) (now (out .entry)) .bytes ⌝ }
+{
+    let written = file::write_file(image, out);
+    *bytes = bytes_or_place(written);
+    written_code(written)
+}
+
+// ---- the tables
+
+// Both tables are built.
+#[no_mangle]
+pub extern "C" fn pirrozketa_build(image: &[u8], words: &mut [u16], sets: &mut [u64], place: &mut usize) -> u8
+    ensures code { λ r. ⌜ r ≡ codeOf (built (now (image .entry)) (now (words .entry)) (now (sets .entry)) .reply) ⌝ }
+    ensures place { λ _. ⌜ now (place .exit) ≡ placeIn (built (now (image .entry)) (now (words .entry)) (now (sets .entry)) .reply) ⌝ }
+    ensures words { λ _. ⌜ now (words .exit) ≡ built (now (image .entry)) (now (words .entry)) (now (sets .entry)) .words ⌝ }
+    ensures sets { λ _. ⌜ now (sets .exit) ≡ built (now (image .entry)) (now (words .entry)) (now (sets .entry)) .sets ⌝ }
+{
+    let answer = build::build(image, words, sets);
+    *place = place_in(answer);
+    code_of(answer)
+}
+
 // ---- one name
 
 // The plain reading of a name. `given` is the phones given or the refusal's place, `applied` the numbers given.
@@ -220,7 +279,7 @@ pub extern "C" fn pirrozketa_read_name(
     spoken_code(speech)
 }
 
-// The walk of a name through lent tables, built or not. `steps` is the entries looked up.
+// The walk of a name through the compiled ruleset of lent tables, built or not. `steps` is the entries looked up.
 #[no_mangle]
 pub extern "C" fn pirrozketa_speak<'a>(
     image: &[u8],
@@ -240,7 +299,7 @@ pub extern "C" fn pirrozketa_speak<'a>(
     ensures phones { λ _. ⌜ now (phones .exit) ≡ walkSaid (now (image .entry)) (now (words .entry)) (now (sets .entry)) (now (name .entry)) (now (phones .entry)) (now (numbers .entry)) .said .phones ⌝ }
     ensures numbers { λ _. ⌜ now (numbers .exit) ≡ walkSaid (now (image .entry)) (now (words .entry)) (now (sets .entry)) (now (name .entry)) (now (phones .entry)) (now (numbers .entry)) .said .numbers ⌝ }
 {
-    let answer = walk::walk(image, words, sets, name, phones, numbers);
+    let answer = compiled::speak_compiled(image, words, sets, name, phones, numbers);
     let speech = answer.speech;
     *given = phones_or_place(speech);
     *applied = numbers_given(speech);

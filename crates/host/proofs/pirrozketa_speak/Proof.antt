@@ -7,8 +7,8 @@ use borrow.Author.Needs.{needs}
 use Rattle.host.proofs.pirrozketa_speak.Statement.{statement}
 use Rattle.host.proofs.pirrozketa_speak.Tie as tie
 
-walk-requires : tie.Need-walk-requires
-walk-requires c κs = search needs
+speak-compiled-requires : tie.Need-speak-compiled-requires
+speak-compiled-requires c κs = search needs
 
 phones-or-place-requires : tie.Need-phones-or-place-requires
 phones-or-place-requires c κs = search needs
@@ -27,22 +27,17 @@ same-length-2 c = search needs
 
 returns : tie.Need-returns
 returns c =
-    let h = ap (λ (x : Walked). x .said) (c .before .before .before .before .before .before .before .walk .ensures) in (
-      said-code _ _ _ _ h _ (c .spoken-code .ensures),
-      (
-        said-given _ _ _ _ h _ (c .before .before .phones-or-place .ensures),
-        (
-          said-applied _ _ _ _ h _ (c .before .numbers-given .ensures),
-          (ap (λ (x : Walked). x .steps) (c .before .before .before .before .before .before .before .walk .ensures), (said-phones _ _ _ _ h, said-numbers _ _ _ _ h)),
-        ),
-      ),
-    )
+    let h = ap (λ (x : Walked). x .said) (c .before .before .before .before .before .before .before .speak-compiled .ensures) in
+    (said-code _ _ _ _ h _ (c .spoken-code .ensures),
+    (said-given _ _ _ _ h _ (c .before .before .phones-or-place .ensures),
+    (said-applied _ _ _ _ h _ (c .before .numbers-given .ensures),
+    (ap (λ (x : Walked). x .steps) (c .before .before .before .before .before .before .before .speak-compiled .ensures), (said-phones _ _ _ _ h, said-numbers _ _ _ _ h)))))
 
 pub pirrozketa-speak-spec : {M : Type 1} → statement M
 pirrozketa-speak-spec =
     tie.close
     (tie.spec
-    walk-requires
+    speak-compiled-requires
     phones-or-place-requires
     numbers-given-requires
     spoken-code-requires

@@ -1,0 +1,191 @@
+/*
+ * The library beside the hand-written baseline, in one run: the same rulesets, the same names, and the
+ * answers compared. Times are the best of several rounds. Built and run by bench/run.
+ */
+#include "../host/pirrozketa.h"
+#include "baseline.h"
+
+#include <stdio.h>
+#include <stdlib.h>
+#include <string.h>
+#include <time.h>
+
+enum { NAMES = 2000, ROUNDS = 15 };
+
+static uint8_t image[PIRROZKETA_IMAGE], back[PIRROZKETA_IMAGE], file[PIRROZKETA_FILE], other[PIRROZKETA_FILE];
+static uint16_t words[PIRROZKETA_WORDS], base_words[BASE_WORDS];
+static uint64_t sets[PIRROZKETA_SETS], base_sets[BASE_SETS];
+static struct base_ruleset rs, again;
+static struct base_spoken spoken[NAMES];
+static uint8_t names[NAMES * 13], phones[NAMES * 48];
+static uint16_t numbers[NAMES * 12];
+static size_t replies[NAMES * PIRROZKETA_REPLY], starts[NAMES], bytes, place, count;
+
+static double now(void)
+{
+    struct timespec t;
+    clock_gettime(CLOCK_MONOTONIC, &t);
+    return t.tv_sec * 1e9 + t.tv_nsec;
+}
+
+static void must(int holds, const char *what)
+{
+    if (!holds) {
+        fprintf(stderr, "bench: %s\n", what);
+        exit(1);
+    }
+}
+
+/* The best time of a statement in nanoseconds, over `per` pieces of work. */
+#define BEST(per, work) ({ double best = 1e18; for (int round = 0; round < ROUNDS; round++) { double t = now(); work; \
+    t = now() - t; if (t < best) best = t; } best / (per); })
+
+static unsigned draw(unsigned n) { return rand() % n; }
+
+/* Common letters more often, so that contexts are met. */
+static uint8_t letter(void) { return draw(3) ? "\1\5\11\17\25\16\24\22\23\14"[draw(10)] : 1 + draw(26); }
+
+/* n rules: the last 26 fit a letter each, so that every name is spoken; or all of the greatest length. */
+static void rules(int n, int longest)
+{
+    pirrozketa_clear(image, sizeof image);
+    int plain = longest ? 0 : n < 26 ? n : 26;
+    for (int k = 0; k < n; k++) {
+        uint8_t r[PIRROZKETA_RULE] = { 0 };
+        if (k < n - plain) {
+            r[0] = longest ? 6 : draw(4);
+            r[1] = longest ? 4 : 1 + (draw(3) == 0) + (draw(9) == 0);
+            r[2] = longest ? 6 : draw(4);
+            r[3] = longest ? 4 : draw(3);
+        } else {
+            r[1] = r[3] = 1;
+        }
+        for (int i = 4; i < PIRROZKETA_RULE; i++)
+            r[i] = letter();
+        if (k >= n - plain)
+            r[10] = 1 + k - (n - plain);
+        must(pirrozketa_add(image, sizeof image, r, sizeof r, k, &place) == PIRROZKETA_ACCEPTED, "a rule is refused");
+    }
+    must(pirrozketa_write_file(image, sizeof image, file, sizeof file, &bytes) == PIRROZKETA_ACCEPTED, "no file");
+    must(base_read(file, bytes, &rs) == 0, "the baseline reads no file");
+}
+
+/* Names of 4 to 12 letters, of those that some rule fits alone. */
+static size_t draw_names(int n)
+{
+    size_t at = 0;
+    int plain = n < 26 ? n : 26;
+    for (int k = 0; k < NAMES; k++) {
+        starts[k] = at;
+        names[at] = 4 + draw(9);
+        for (int i = 1; i <= names[at]; i++) {
+            uint8_t c = letter();
+            names[at + i] = c <= plain ? c : 1 + draw(plain);
+        }
+        at += 1 + names[at];
+    }
+    return at;
+}
+
+static void build(void)
+{
+    must(pirrozketa_build(image, sizeof image, words, PIRROZKETA_WORDS, sets, PIRROZKETA_SETS, &place)
+         == PIRROZKETA_ACCEPTED, "no tables");
+}
+
+static void many(size_t length)
+{
+    must(pirrozketa_speak_many(image, sizeof image, words, PIRROZKETA_WORDS, sets, PIRROZKETA_SETS, names, length, phones,
+         sizeof phones, numbers, sizeof numbers / 2, replies, sizeof replies / sizeof *replies, &count)
+         == PIRROZKETA_ACCEPTED && count == NAMES, "names are not all answered");
+}
+
+static void base_many(void)
+{
+    for (int k = 0; k < NAMES; k++)
+        base_walk(&rs, base_words, base_sets, names + starts[k] + 1, names[starts[k]], &spoken[k]);
+}
+
+/* The last many() and base_many() gave the same. */
+static void compare(void)
+{
+    size_t at = 0, from = 0;
+    for (int k = 0; k < NAMES; k++) {
+        const size_t *r = replies + PIRROZKETA_REPLY * k;
+        must(r[0] == PIRROZKETA_ACCEPTED && r[1] == spoken[k].phone_count && r[2] == spoken[k].rule_count
+             && r[3] == spoken[k].steps && !memcmp(phones + at, spoken[k].phones, r[1])
+             && !memcmp(numbers + from, spoken[k].numbers, 2 * r[2]), "the answers differ");
+        at += r[1];
+        from += r[2];
+    }
+}
+
+static void row(const char *what, double mine, double base)
+{
+    printf("| %s | %.0f ns | %.0f ns | %.2f |\n", what, mine, base, mine / base);
+}
+
+int main(void)
+{
+    uint8_t said[PIRROZKETA_PHONES];
+    uint16_t by[PIRROZKETA_NUMBERS];
+    size_t given, applied, steps;
+    double check;
+
+    printf("| work | library | baseline | ratio |\n|---|---|---|---|\n");
+    srand(7);
+    rules(320, 0);
+    size_t length = draw_names(320);
+    build();
+    base_build(&rs, base_words, base_sets);
+    must(!memcmp(words, base_words, 2 * (2 + 64 * (size_t)(words[0] + words[1]))), "the tables differ");
+    must(!memcmp(sets, base_sets, 8 * 8 * (size_t)(words[0] + words[1])), "the sets differ");
+    many(length);
+    base_many();
+    compare();
+    row("(a) a name, many at once, 320 rules", BEST(NAMES, many(length)), BEST(NAMES, base_many()));
+
+    double mine = BEST(NAMES, for (int k = 0; k < NAMES; k++)
+        pirrozketa_read_name(image, sizeof image, names + starts[k] + 1, names[starts[k]], said, sizeof said, by,
+                             PIRROZKETA_NUMBERS, &given, &applied));
+    check = BEST(NAMES, for (int k = 0; k < NAMES; k++) pirrozketa_check(image, sizeof image));
+    double base = BEST(NAMES, for (int k = 0; k < NAMES; k++)
+        base_plain(&rs, names + starts[k] + 1, names[starts[k]], &spoken[k]));
+    row("(c) build, 320 rules", BEST(1, build()), BEST(1, base_build(&rs, base_words, base_sets)));
+    row("(d) plain reading, 320 rules, the check of the ruleset taken off", mine - check, base);
+    row("(d) the same with the check of the ruleset", mine, base);
+
+    rules(512, 0);
+    length = draw_names(512);
+    build();
+    base_build(&rs, base_words, base_sets);
+    mine = BEST(NAMES, for (int k = 0; k < NAMES; k++)
+        pirrozketa_speak(image, sizeof image, words, PIRROZKETA_WORDS, sets, PIRROZKETA_SETS, names + starts[k] + 1,
+                         names[starts[k]], said, sizeof said, by, PIRROZKETA_NUMBERS, &given, &applied, &steps));
+    check = BEST(NAMES, for (int k = 0; k < NAMES; k++) pirrozketa_check(image, sizeof image));
+    row("(b) one name, checked, 512 rules", mine, BEST(NAMES, base_many()));
+    printf("| (b) of which the check of the ruleset | %.0f ns | | |\n", check);
+
+    rules(512, 1);
+    must(pirrozketa_read_file(file, bytes, back, sizeof back, &place) == PIRROZKETA_ACCEPTED, "the file is refused");
+    char what[80];
+    snprintf(what, sizeof what, "(f) read a file of %zu bytes", bytes);
+    row(what, BEST(1, pirrozketa_read_file(file, bytes, back, sizeof back, &place)), BEST(1, base_read(file, bytes, &again)));
+    row("(f) write it", BEST(1, pirrozketa_write_file(image, sizeof image, other, sizeof other, &place)),
+        BEST(1, base_write(&rs, other)));
+
+    printf("\n| rules | a name, many at once | baseline | ratio |\n|---|---|---|---|\n");
+    static const int sizes[] = { 16, 64, 256, 512 };
+    for (int k = 0; k < 4; k++) {
+        rules(sizes[k], 0);
+        length = draw_names(sizes[k]);
+        build();
+        base_build(&rs, base_words, base_sets);
+        many(length);
+        base_many();
+        compare();
+        snprintf(what, sizeof what, "%d", sizes[k]);
+        row(what, BEST(NAMES, many(length)), BEST(NAMES, base_many()));
+    }
+    return 0;
+}

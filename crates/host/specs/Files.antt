@@ -1,0 +1,13 @@
+-- What a host gets in numbers when a rule file is written.
+-- Assumes nothing.
+use Prim.Native.Nat.{ℕ}
+use Rattle.file.specs.Loading.{Report, wrote, refused}
+
+abbrev pub writtenCode : Report → ℕ
+writtenCode (wrote n) = 255
+writtenCode (refused n p) = n
+
+-- the bytes written, or the refusal's place
+abbrev pub bytesOrPlace : Report → ℕ
+bytesOrPlace (wrote n) = n
+bytesOrPlace (refused n p) = p
