@@ -10,11 +10,12 @@ ghost use mathlib.Core.Bool.{true};
 ghost use mathlib.Core.List.{_∷_, _++_};
 ghost use Prim.Native.Nat.{ℕ, _+_, _*_, _/_, _<_, _≤_};
 ghost use lib.ListN.{length, getD, take, drop};
+ghost use Rattle.rules.specs.Memory.{over};
 ghost use Rattle.rules.specs.Refusals.{replyOf};
 ghost use Rattle.image.specs.Image.{valid, cleared};
 ghost use Rattle.edits.specs.Ledger.{Edit};
 ghost use Rattle.edits.specs.Edits.{edited};
-ghost use Rattle.reading.specs.Speech.{toldOf, plainSaid, over};
+ghost use Rattle.reading.specs.Speech.{toldOf, plainSaid};
 ghost use Rattle.tables.specs.Words.{built};
 ghost use Rattle.tables.specs.Walk.{walkSaid};
 ghost use Rattle.walk.specs.Walked.{walkedOf};
@@ -47,7 +48,10 @@ fn spoken_code(speech: Speech) -> u8
     ensures { λ r. ⌜ r ≡ spokenCode (toldOf speech) ⌝ }
 {
     match speech {
-        Speech::Spoken { phones: _, numbers: _ } => 255,
+        Speech::Spoken {
+            phones: _,
+            numbers: _,
+        } => 255,
         Speech::Refused(x) => rules::refusal_number(x),
     }
 }
@@ -244,7 +248,12 @@ pub extern "C" fn pirrozketa_write_file(image: &[u8], out: &mut [u8], bytes: &mu
 
 // Both tables are built.
 #[no_mangle]
-pub extern "C" fn pirrozketa_build(image: &[u8], words: &mut [u16], sets: &mut [u64], place: &mut usize) -> u8
+pub extern "C" fn pirrozketa_build(
+    image: &[u8],
+    words: &mut [u16],
+    sets: &mut [u64],
+    place: &mut usize,
+) -> u8
     ensures code { λ r. ⌜ r ≡ codeOf (built (now (image .entry)) (now (words .entry)) (now (sets .entry)) .reply) ⌝ }
     ensures place { λ _. ⌜ now (place .exit) ≡ placeIn (built (now (image .entry)) (now (words .entry)) (now (sets .entry)) .reply) ⌝ }
     ensures words { λ _. ⌜ now (words .exit) ≡ built (now (image .entry)) (now (words .entry)) (now (sets .entry)) .words ⌝ }
