@@ -1,0 +1,133 @@
+-- Calls over a part that was lent and came back: their outcome with what lies past it, and that what is told has room.
+-- Assumes nothing.
+use Prim.Native.Nat.{ℕ, _≤_, _<_, min}
+use mathlib.Core.Path.{_≡_, refl, sym, ap, _∙_, subst}
+use mathlib.Core.List.{List, [], _∷_, _++_}
+use mathlib.Core.Bool.{Bool, true, false}
+use native.Mathlib.Omega.{arith}
+use lib.ListN.{length, take, drop, length-take}
+use borrow.Author.Tests.{le-leb, lt-leb, leb-true}
+use lib.Dec.{leb}
+use Rattle.rules.proofs.Cases.{byBool}
+use Rattle.rules.specs.Shape.{pick}
+use Rattle.rules.specs.Refusals.{Reply, declined, replyOf}
+use Rattle.image.specs.Image.{two, Edited, outcome, valid, entriesOf}
+use Rattle.commands.specs.Fields.{four}
+use Rattle.reading.specs.Reading.{plain}
+use Rattle.reading.specs.Speech.{Told, spoken, refused, Said, saying, judgedName, plainSaid}
+use Rattle.tables.specs.Words.{Built, building, built}
+use Rattle.tables.specs.Walk.{Walked, walkSaid}
+use Rattle.file.specs.Loading.{Report, reportOf, Filed, filing, filed, loaded, wrote, listingOf}
+use Rattle.file.specs.declared.Written.{Written}
+use Rattle.file.specs.declared.Written.the-variants.{Bytes}
+use Rattle.transcript.specs.Answers.{printed, toldBody, spokenBody, refusedBody}
+use Rattle.transcript.proofs.Printed.{length-printed}
+use Rattle.transcript.proofs.Fields.{length-spoken}
+use Rattle.file.specs.File.{encode}
+use Rattle.transcript.specs.Names.{ToldWithin}
+use Rattle.transcript.proofs.Spoken.{delivered-within, walk-within}
+use Rattle.commands.specs.Lent.{lentOf, builtBack, builtIn, saidBack, plainIn, walkedBack, walkIn}
+use Rattle.commands.specs.Filing.{loadedFrom, filedBack, filedIn}
+
+pub built-back : (r : Reply) (n m : ℕ) (image ws ss x y : List ℕ) → building r x y ≡ built image (take n ws) (take m ss)
+    → building r (x ++ drop n ws) (y ++ drop m ss) ≡ builtIn n m image ws ss
+unfolding builtIn
+built-back r n m image ws ss x y e = ap (builtBack n m ws ss) e
+
+pub said-back : (t : Told) (n m : ℕ) (image name phones numbers x y : List ℕ) → saying t x y ≡ plainSaid image name (take n phones) (take m numbers)
+    → saying t (x ++ drop n phones) (y ++ drop m numbers) ≡ plainIn n m image name phones numbers
+unfolding plainIn
+said-back t n m image name phones numbers x y e = ap (saidBack n m phones numbers) e
+
+pub walked-back : (t : Told) (steps n m : ℕ) (image ws ss name phones numbers x y : List ℕ)
+    → record { said = saying t x y; steps = steps } ≡ walkSaid image ws ss name (take n phones) (take m numbers)
+    → record { said = saying t (x ++ drop n phones) (y ++ drop m numbers); steps = steps } ≡ walkIn n m image ws ss name phones numbers
+unfolding walkIn
+walked-back t steps n m image ws ss name phones numbers x y e = ap (walkedBack n m phones numbers) e
+
+pub filed-back : (r : Report) (n : ℕ) (image out x : List ℕ) → filing r x ≡ filed image (take n out) → filing r (x ++ drop n out) ≡ filedIn n image out
+unfolding filedIn
+filed-back r n image out x e = ap (filedBack n out) e
+
+-- ---- what is told has room
+
+more-room : (t : Told) (a b c d : ℕ) → a ≤ c → b ≤ d → ToldWithin t a b → ToldWithin t c d
+more-room (spoken p n) a b c d h k w = (omega (arith, w .0, h), omega (arith, w .1, k))
+more-room (refused n p) a b c d h k w = tt
+
+shorter : (n : ℕ) (xs : List ℕ) → length (take n xs) ≤ length xs
+shorter n xs = omega (arith, length-take n xs)
+
+plain-within : (image name phones numbers : List ℕ) → ToldWithin (plainSaid image name phones numbers .told) (length phones) (length numbers)
+unfolding plainSaid
+plain-within image name phones numbers =
+    byBool (valid image)
+    (λ e. rw e (delivered-within (judgedName name (plain (entriesOf image) name)) phones numbers))
+    (λ e. rw e tt)
+
+pub plain-told : (t : Told) (n m : ℕ) (image name phones numbers x y : List ℕ) → saying t x y ≡ plainIn n m image name phones numbers
+    → ToldWithin t (length phones) (length numbers)
+unfolding plainIn
+plain-told t n m image name phones numbers x y e =
+    subst (λ (s : Said). ToldWithin (s .told) (length phones) (length numbers)) (sym e)
+    (more-room (plainSaid image name (take n phones) (take m numbers) .told) (length (take n phones)) (length (take m numbers)) (length phones) (length numbers)
+    (shorter n phones) (shorter m numbers) (plain-within image name (take n phones) (take m numbers)))
+
+pub walk-told : (t : Told) (steps n m : ℕ) (image ws ss name phones numbers x y : List ℕ)
+    → record { said = saying t x y; steps = steps } ≡ walkIn n m image ws ss name phones numbers → ToldWithin t (length phones) (length numbers)
+unfolding walkIn
+walk-told t steps n m image ws ss name phones numbers x y e =
+    subst (λ (s : Walked). ToldWithin (s .said .told) (length phones) (length numbers)) (sym e)
+    (more-room (walkSaid image ws ss name (take n phones) (take m numbers) .said .told) (length (take n phones)) (length (take m numbers)) (length phones) (length numbers)
+    (shorter n phones) (shorter m numbers) (walk-within image ws ss name (take n phones) (take m numbers)))
+
+-- ---- the rule file
+
+pub loaded-long : (file image : List ℕ) → 32768 < length file → outcome (declined 13 32768) image ≡ loadedFrom file image
+unfolding loadedFrom
+loaded-long file image h = rw (lt-leb (length file) 32768 h)
+
+pub loaded-file : (file image : List ℕ) (e : Edited) → length file ≤ 32768 → e ≡ loaded file image → e ≡ loadedFrom file image
+unfolding loadedFrom
+loaded-file file image e h p = rw (le-leb (length file) 32768 h) p
+
+-- as many bytes as are said to be written had room
+abbrev Wrote : Report → ℕ → Type 0
+Wrote (wrote k) n = k ≤ n
+Wrote (Report.refused a b) n = Unit {0}
+
+filed-within : (image out : List ℕ) → Wrote (filed image out .report) (length out)
+unfolding filed
+filed-within image out =
+    byBool (valid image)
+    (λ e. rw e (byBool (leb (length (encode (listingOf image))) (length out)) (λ h. rw h (leb-true _ _ h)) (λ h. rw h tt)))
+    (λ e. rw e tt)
+
+pub wrote-within : (k n : ℕ) (image out x : List ℕ) → filing (wrote k) x ≡ filedIn n image out → k ≤ n
+unfolding filedIn
+wrote-within k n image out x e =
+    let w = subst (λ (b : Filed). Wrote (b .report) (length (take n out))) (sym (ap (λ (b : Filed). filing (b .report) (take n out)) e)) (filed-within image (take n out)) in
+    omega (arith, w, length-take n out)
+
+pub wrote-by : (r : Written) (k n : ℕ) (image out x : List ℕ) → r ≡ Bytes k → filing (reportOf r) x ≡ filedIn n image out → k ≤ n
+wrote-by r k n image out x p e = wrote-within k n image out x (ap (λ (w : Written). filing (reportOf w) x) (sym p) ∙ e)
+
+-- ---- answers
+
+-- memory that is as long as before has room for as much
+pub same-room : (t : Told) (a b c d : ℕ) → c ≡ a → d ≡ b → ToldWithin t a b → ToldWithin t c d
+same-room t a b c d p q w = more-room t a b c d (omega arith) (omega arith) w
+
+pub told-short : (len : ℕ) (t : Told) (steps : ℕ) (phones numbers : List ℕ) → len ≡ length (printed (toldBody t steps phones numbers))
+    → length phones ≤ 256 → length numbers ≤ 64 → len ≤ 783
+told-short len (spoken p n) steps phones numbers e h k =
+    omega (arith, length-printed (spokenBody steps (take p phones) (take n numbers)), length-spoken steps (take p phones) (take n numbers), length-take p phones, length-take n numbers)
+told-short len (refused a b) steps phones numbers e h k = omega (arith, length-printed (refusedBody a b))
+
+-- the lent parts of a walk, by the fields of its command
+pub walk-by : (w : Walked) (f image words sets phones numbers name : List ℕ) (a b n m i j k l : ℕ)
+    → a ≡ lentOf i (length words) → i ≡ four 1 f → b ≡ lentOf j (length sets) → j ≡ four 5 f
+    → n ≡ lentOf k (length phones) → k ≡ two 9 f → m ≡ lentOf l (length numbers) → l ≡ two 11 f → name ≡ drop 13 f
+    → w ≡ walkIn n m image (take a words) (take b sets) name phones numbers
+    → w ≡ walkIn (lentOf (two 9 f) (length phones)) (lentOf (two 11 f) (length numbers)) image (take (lentOf (four 1 f) (length words)) words) (take (lentOf (four 5 f) (length sets)) sets) (drop 13 f) phones numbers
+walk-by w f image words sets phones numbers name a b n m i j k l ea ei eb ej en ek em el ed e = e ∙ rw (ea, eb, en, em, ed, ei, ej, ek, el)

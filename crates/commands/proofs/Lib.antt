@@ -1,0 +1,5 @@
+pub mod Bytes
+pub mod Replies
+pub mod Shown
+pub mod Eights
+pub mod Lent

@@ -1,0 +1,17 @@
+use borrow.Author.Needs.{needs}
+use Rattle.reading.specs.Speech.{toldOf}
+use Rattle.commands.proofs.Lent.{told-short}
+use Rattle.commands.proofs.speaking.plain_line.Statement.{statement}
+use Rattle.commands.proofs.speaking.plain_line.Tie as tie
+
+answer-line-requires : tie.Need-answer-line-requires
+answer-line-requires c κs = search needs
+
+same-length : tie.Need-same-length
+same-length c = search needs
+
+returns : tie.Need-returns
+returns c = let a = c .before .before .before .before .before .before .before .args in told-short _ (toldOf (a .speech)) 0 (a .phones .now) (a .numbers .now) (c .before .before .answer-line .ensures .0) (c .before .before .before .before .before .before .before .pre .0) (c .before .before .before .before .before .before .before .pre .1 .0)
+
+pub plain-line-spec : {M : Type 1} → statement M
+plain-line-spec = tie.close (tie.spec answer-line-requires same-length returns)

@@ -1,0 +1,5 @@
+pub mod Fields
+pub mod Answers
+pub mod Memory
+pub mod Lent
+pub mod Filing

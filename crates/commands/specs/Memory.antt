@@ -1,0 +1,58 @@
+-- What the commands that reach into the monitor's memory leave there.
+use Prim.Native.Nat.{ℕ, _+_, _/_, _%_, _≤_}
+use mathlib.Core.List.{List, [], _∷_, _++_}
+use mathlib.Core.Bool.{Bool, true, false}
+use lib.ListN.{length, getD, take, drop, set}
+use lib.Dec.{leb, ltb, eqb}
+use Rattle.rules.specs.Shape.{pick}
+use Rattle.image.specs.Image.{two, slotStart}
+use Rattle.transcript.specs.Answers.{twos, printed}
+use Rattle.commands.specs.Fields.{four}
+use Rattle.commands.specs.Answers.{malformedLine}
+
+-- the number at a place of an image, overwritten; a place above 511 is none
+abbrev pub renumbered : ℕ → ℕ → ℕ → List ℕ → List ℕ
+renumbered place high low image =
+    pick (ltb place 512) (set (set image (slotStart place) high) (slotStart place + 1) low) image
+
+-- 1E, place (2), number (2), count (2), last (2)
+abbrev pub forced : List ℕ → List ℕ → List ℕ
+forced f image =
+    set (set (set (set (renumbered (two 1 f) (getD f 3 0) (getD f 4 0) image) 0 (getD f 5 0)) 1 (getD f 6 0)) 2 (getD f 7 0)) 3 (getD f 8 0)
+
+-- a set word as eight bytes, high first
+abbrev pub bytes8 : ℕ → List ℕ
+bytes8 w =
+    w / 72057594037927936
+    ∷ w / 281474976710656 % 256
+    ∷ w / 1099511627776 % 256
+    ∷ w / 4294967296 % 256
+    ∷ w / 16777216 % 256
+    ∷ w / 65536 % 256
+    ∷ w / 256 % 256
+    ∷ w % 256
+    ∷ []
+
+abbrev pub eights : List ℕ → List ℕ
+eights [] = []
+eights (w ∷ l) = bytes8 w ++ eights l
+
+-- 1A or 1B, index (4), count (1): so many of the elements from there on, where all of them are inside
+abbrev pub shown : (List ℕ → List ℕ) → List ℕ → List ℕ → List ℕ
+shown bytes f xs =
+    pick (eqb (length f) 6)
+    (pick (leb (four 1 f + getD f 5 0) (length xs)) (printed (10 ∷ bytes (take (getD f 5 0) (drop (four 1 f) xs)))) malformedLine)
+    malformedLine
+
+unfoldable pub shownWords : List ℕ → List ℕ → List ℕ
+shownWords = shown twos
+
+unfoldable pub shownSets : List ℕ → List ℕ → List ℕ
+shownSets = shown eights
+
+-- what the monitor holds is large enough: a ruleset's image, phones and numbers that an answer has room for, and the longest answer's bytes
+pub record Held (image phones numbers out : ℕ) : Type 0 where
+  pub ruled : 13316 ≤ image
+  pub spoken : phones ≤ 256
+  pub numbered : numbers ≤ 64
+  pub room : 29199 ≤ out

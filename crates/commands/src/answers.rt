@@ -1,0 +1,88 @@
+// The lines that a command answers.
+use crate::fields;
+use rules::Answer;
+use rules::Refusal;
+ghost use mathlib.Core.Path.{_≡_};
+ghost use Prim.Native.Nat.{ℕ, _+_, _*_, _<_, _≤_};
+ghost use lib.ListN.{length};
+ghost use Rattle.rules.specs.Memory.{over};
+ghost use Rattle.rules.specs.Refusals.{refusalNumber, refusalPlace, replyOf};
+ghost use Rattle.image.specs.Image.{two};
+ghost use Rattle.commands.specs.Answers.{doneLine, lastLine, statesLine, walkRefusal, malformedLine, replyLine};
+
+// 06 alone.
+pub fn done_line(out: &mut [u8]) -> usize
+    requires { ⌜ 15 ≤ length (now out) ⌝ }
+    ensures len { λ r. ⌜ r ≡ 5 ⌝ }
+    ensures bytes { λ _. ⌜ now (out .exit) ≡ over doneLine (now (out .entry)) ⌝ }
+{
+    let body = [6];
+    frames::write_line(out, 0, &body)
+}
+
+// 06, `last` (2).
+pub fn last_line(last: usize, out: &mut [u8]) -> usize
+    requires { ⌜ 15 ≤ length (now out) ⌝ }
+    ensures len { λ r. ⌜ r ≡ 9 ⌝ }
+    ensures bytes { λ _. ⌜ now (out .exit) ≡ over (lastLine last) (now (out .entry)) ⌝ }
+{
+    let body = [6, transcript::low(last / 256), transcript::low(last)];
+    frames::write_line(out, 0, &body)
+}
+
+// 06, L (2), R (2).
+pub fn states_line(l: usize, r: usize, out: &mut [u8]) -> usize
+    requires { ⌜ 15 ≤ length (now out) ⌝ }
+    ensures len { λ n. ⌜ n ≡ 13 ⌝ }
+    ensures bytes { λ _. ⌜ now (out .exit) ≡ over (statesLine l r) (now (out .entry)) ⌝ }
+{
+    let body = [
+        6,
+        transcript::low(l / 256),
+        transcript::low(l),
+        transcript::low(r / 256),
+        transcript::low(r),
+    ];
+    frames::write_line(out, 0, &body)
+}
+
+// 08, steps (2), number, place (4).
+pub fn walk_refusal(steps: usize, x: Refusal, out: &mut [u8]) -> usize
+    requires { ⌜ 19 ≤ length (now out) ⌝ }
+    ensures len { λ r. ⌜ r ≡ 19 ⌝ }
+    ensures bytes { λ _. ⌜ now (out .exit) ≡ over (walkRefusal steps (refusalNumber x) (refusalPlace x)) (now (out .entry)) ⌝ }
+{
+    let place = rules::refusal_place(x);
+    let body = [
+        8,
+        transcript::low(steps / 256),
+        transcript::low(steps),
+        rules::refusal_number(x),
+        transcript::low(place / 16777216),
+        transcript::low(place / 65536),
+        transcript::low(place / 256),
+        transcript::low(place),
+    ];
+    frames::write_line(out, 0, &body)
+}
+
+// A line that is no command: 05 with 13, place 0.
+pub fn malformed(out: &mut [u8]) -> usize
+    requires { ⌜ 15 ≤ length (now out) ⌝ }
+    ensures len { λ r. ⌜ r ≡ 15 ⌝ }
+    ensures bytes { λ _. ⌜ now (out .exit) ≡ over malformedLine (now (out .entry)) ⌝ }
+{
+    transcript::refusal_line(Refusal::BadLine(0), out)
+}
+
+// The answer of a call that changes the ruleset.
+pub fn reply_line(answer: Answer, image: &[u8], out: &mut [u8]) -> usize
+    requires { ⌜ (13316 ≤ length (now image)) × (15 ≤ length (now out)) ⌝ }
+    ensures len { λ r. ⌜ r ≡ length (replyLine (replyOf answer) (two 2 (now (image .entry)))) ⌝ }
+    ensures bytes { λ _. ⌜ now (out .exit) ≡ over (replyLine (replyOf answer) (two 2 (now (image .entry)))) (now (out .entry)) ⌝ }
+{
+    match answer {
+        Answer::Accepted => last_line(fields::two_at(image, 2), out),
+        Answer::Refused(x) => transcript::refusal_line(x, out),
+    }
+}

@@ -1,0 +1,127 @@
+// The commands that change the ruleset.
+use crate::answers;
+use crate::fields;
+use rules::Answer;
+ghost use mathlib.Core.Path.{_≡_};
+ghost use Prim.Native.Nat.{ℕ, _+_, _*_, _<_, _≤_};
+ghost use lib.ListN.{length, getD};
+ghost use Rattle.rules.specs.Refusals.{replyOf};
+ghost use Rattle.image.specs.Image.{two, outcome, cleared};
+ghost use Rattle.edits.specs.Ledger.{Edit};
+ghost use Rattle.edits.specs.Edits.{edited};
+ghost use lib.Dec.{eqb};
+ghost use Rattle.rules.specs.Shape.{pick};
+ghost use Rattle.commands.specs.Answers.{Answered, added, dropped, moved};
+ghost use Rattle.commands.specs.Fields.{AddSized, ruleOf};
+ghost use Rattle.commands.specs.Memory.{renumbered, forced};
+
+// 10, p (2), four lengths, their bytes.
+pub fn add(f: &[u8], image: &mut [u8]) -> Answer
+    requires { ⌜ AddSized (now f) ⌝ }
+    ensures { λ r. ⌜ outcome (replyOf r) (now (image .exit)) ≡ edited (now (image .entry)) (Edit.Add (ruleOf (now (f .entry))) (two 1 (now (f .entry)))) ⌝ }
+{
+    let rule = fields::rule_of(f);
+    edits::add_rule(image, rule, fields::two_at(f, 1))
+}
+
+// 11, number (2).
+pub fn drop(f: &[u8], image: &mut [u8]) -> Answer
+    requires { ⌜ length (now f) ≡ 3 ⌝ }
+    ensures { λ r. ⌜ outcome (replyOf r) (now (image .exit)) ≡ edited (now (image .entry)) (Edit.Drop (two 1 (now (f .entry)))) ⌝ }
+{
+    edits::drop_rule(image, image::two_at(f, 1))
+}
+
+// 12, number (2), p (2).
+pub fn relocate(f: &[u8], image: &mut [u8]) -> Answer
+    requires { ⌜ length (now f) ≡ 5 ⌝ }
+    ensures { λ r. ⌜ outcome (replyOf r) (now (image .exit)) ≡ edited (now (image .entry)) (Edit.Move (two 1 (now (f .entry))) (two 3 (now (f .entry)))) ⌝ }
+{
+    edits::move_rule(image, image::two_at(f, 1), fields::two_at(f, 3))
+}
+
+// The number at a place is overwritten; a place above 511 is none.
+fn renumber(image: &mut [u8], place: usize, high: u8, low: u8)
+    requires { ⌜ 13316 ≤ length (now image) ⌝ }
+    ensures { λ _. ⌜ now (image .exit) ≡ renumbered place high low (now (image .entry)) ⌝ }
+{
+    if place < 512 {
+        let at = 4 + 26 * place;
+        image[at] = high;
+        image[at + 1] = low;
+    }
+}
+
+// 1E, place (2), number (2), count (2), last (2), with no check.
+pub fn force(f: &[u8], image: &mut [u8])
+    requires { ⌜ (length (now f) ≡ 9) × (13316 ≤ length (now image)) ⌝ }
+    ensures { λ _. ⌜ now (image .exit) ≡ forced (now (f .entry)) (now (image .entry)) ⌝ }
+{
+    renumber(&mut *image, fields::two_at(f, 1), f[3], f[4]);
+    image[0] = f[5];
+    image[1] = f[6];
+    image[2] = f[7];
+    image[3] = f[8];
+}
+
+// 10: add.
+pub fn add_command(f: &[u8], image: &mut [u8], out: &mut [u8]) -> usize
+    requires { ⌜ (13316 ≤ length (now image)) × (15 ≤ length (now out)) ⌝ }
+    ensures { λ r. ⌜ Answered (added (now (f .entry)) (now (image .entry))) (now (image .exit)) r (now (out .entry)) (now (out .exit)) ⌝ }
+{
+    if !fields::add_sized(f) {
+        return answers::malformed(out);
+    }
+    let answer = add(f, &mut *image);
+    answers::reply_line(answer, image, out)
+}
+
+// 11: drop.
+pub fn drop_command(f: &[u8], image: &mut [u8], out: &mut [u8]) -> usize
+    requires { ⌜ (13316 ≤ length (now image)) × (15 ≤ length (now out)) ⌝ }
+    ensures { λ r. ⌜ Answered (dropped (now (f .entry)) (now (image .entry))) (now (image .exit)) r (now (out .entry)) (now (out .exit)) ⌝ }
+{
+    if f.len() != 3 {
+        return answers::malformed(out);
+    }
+    let answer = drop(f, &mut *image);
+    answers::reply_line(answer, image, out)
+}
+
+// 12: move.
+pub fn move_command(f: &[u8], image: &mut [u8], out: &mut [u8]) -> usize
+    requires { ⌜ (13316 ≤ length (now image)) × (15 ≤ length (now out)) ⌝ }
+    ensures { λ r. ⌜ Answered (moved (now (f .entry)) (now (image .entry))) (now (image .exit)) r (now (out .entry)) (now (out .exit)) ⌝ }
+{
+    if f.len() != 5 {
+        return answers::malformed(out);
+    }
+    let answer = relocate(f, &mut *image);
+    answers::reply_line(answer, image, out)
+}
+
+// 1E: an impossible ruleset.
+pub fn force_command(f: &[u8], image: &mut [u8], out: &mut [u8]) -> usize
+    requires { ⌜ (13316 ≤ length (now image)) × (15 ≤ length (now out)) ⌝ }
+    ensures len { λ r. ⌜ r ≤ 15 ⌝ }
+    ensures image { λ _. ⌜ now (image .exit) ≡ pick (eqb (length (now (f .entry))) 9) (forced (now (f .entry)) (now (image .entry))) (now (image .entry)) ⌝ }
+{
+    if f.len() != 9 {
+        return answers::malformed(out);
+    }
+    force(f, &mut *image);
+    answers::done_line(out)
+}
+
+// 1F: the empty ruleset again.
+pub fn clear_command(f: &[u8], image: &mut [u8], out: &mut [u8]) -> usize
+    requires { ⌜ (13316 ≤ length (now image)) × (15 ≤ length (now out)) ⌝ }
+    ensures len { λ r. ⌜ r ≤ 15 ⌝ }
+    ensures image { λ _. ⌜ now (image .exit) ≡ pick (eqb (length (now (f .entry))) 1) (cleared (now (image .entry)) .image) (now (image .entry)) ⌝ }
+{
+    if f.len() != 1 {
+        return answers::malformed(out);
+    }
+    image::clear(&mut *image);
+    answers::done_line(out)
+}

@@ -1,0 +1,61 @@
+// The commands that read and write the rule file.
+use crate::answers;
+use crate::fields;
+use crate::speaking;
+use file::Written;
+use rules::Answer;
+use rules::Refusal;
+ghost use mathlib.Core.Path.{_≡_};
+ghost use Prim.Native.Nat.{ℕ, _≤_};
+ghost use lib.ListN.{length};
+ghost use Rattle.rules.specs.Refusals.{replyOf};
+ghost use Rattle.image.specs.Image.{outcome};
+ghost use Rattle.file.specs.Loading.{reportOf, filing};
+ghost use Rattle.commands.specs.Answers.{Answered};
+ghost use Rattle.commands.specs.Filing.{loadedFrom, loadedBy, filedIn};
+
+// The bytes of rules.hex become the ruleset; over 32,768 of them are refused.
+pub fn load(file: &[u8], image: &mut [u8]) -> Answer
+    ensures { λ r. ⌜ outcome (replyOf r) (now (image .exit)) ≡ loadedFrom (now (file .entry)) (now (image .entry)) ⌝ }
+{
+    if 32768 < file.len() {
+        return Answer::Refused(Refusal::BadLine(32768));
+    }
+    file::read_file(file, image)
+}
+
+// 13: read.
+pub fn read_command(f: &[u8], file: &[u8], image: &mut [u8], out: &mut [u8]) -> usize
+    requires { ⌜ (13316 ≤ length (now image)) × (15 ≤ length (now out)) ⌝ }
+    ensures { λ r. ⌜ Answered (loadedBy (now (f .entry)) (now (file .entry)) (now (image .entry))) (now (image .exit)) r (now (out .entry)) (now (out .exit)) ⌝ }
+{
+    if f.len() != 1 {
+        return answers::malformed(out);
+    }
+    let answer = load(file, &mut *image);
+    answers::reply_line(answer, image, out)
+}
+
+// The file into the first so many bytes.
+fn write_in(image: &[u8], out: &mut [u8], n: usize) -> Written
+    requires { ⌜ n ≤ length (now out) ⌝ }
+    ensures { λ r. ⌜ filing (reportOf r) (now (out .exit)) ≡ filedIn n (now (image .entry)) (now (out .entry)) ⌝ }
+{
+    file::write_file(image, &mut out[..n])
+}
+
+// 14, lent bytes (4, of which more than 29,199 count as that): write.
+pub fn write_command(f: &[u8], image: &[u8], out: &mut [u8]) -> usize
+    requires { ⌜ 29199 ≤ length (now out) ⌝ }
+    ensures { λ r. ⌜ r ≤ 29199 ⌝ }
+{
+    if f.len() != 5 {
+        return answers::malformed(out);
+    }
+    let n = speaking::lent(fields::four_at(f, 1), 29199);
+    let written = write_in(image, &mut *out, n);
+    match written {
+        Written::Bytes(k) => k,
+        Written::Refused(x) => transcript::refusal_line(x, out),
+    }
+}

@@ -1,0 +1,77 @@
+// The commands of the monitor, one function each: a command's bytes without their checksum in, the answer's lines out.
+mod answers;
+mod editing;
+mod fields;
+mod filing;
+mod memory;
+mod speaking;
+
+ghost use Prim.Native.Nat.{ℕ, _≤_};
+ghost use lib.ListN.{length};
+ghost use Rattle.commands.specs.Memory.{Held};
+
+// The bytes of a line without their checksum, at the front of `frame`: how many there are, 0 for a line that is unsound or whose bytes have no
+// room. 2,048 bytes have room for each line of at most 4,096 digits.
+pub fn hear(text: &[u8], frame: &mut [u8]) -> usize
+    ensures { λ r. ⌜ r ≤ length (now (frame .exit)) ⌝ }
+{
+    let line = frames::read_line(text, 0, &mut *frame);
+    let n = line.len;
+    if !line.sound {
+        return 0;
+    }
+    if frame.len() < n {
+        return 0;
+    }
+    if n == 0 {
+        return 0;
+    }
+    n - 1
+}
+
+// Whether a command reads rules.hex.
+pub fn asks_for_file(f: &[u8]) -> bool {
+    if f.len() != 1 {
+        return false;
+    }
+    f[0] == 0x13
+}
+
+// The answer to a command, at the front of `out`, and its length; `file` holds the bytes of rules.hex where the command reads it.
+pub fn answer(
+    f: &[u8],
+    file: &[u8],
+    image: &mut [u8],
+    words: &mut [u16],
+    sets: &mut [u64],
+    phones: &mut [u8],
+    numbers: &mut [u16],
+    out: &mut [u8],
+) -> usize
+    requires { ⌜ Held (length (now image)) (length (now phones)) (length (now numbers)) (length (now out)) ⌝ }
+    ensures { λ r. ⌜ r ≤ length (now (out .exit)) ⌝ }
+{
+    if f.len() == 0 {
+        return answers::malformed(out);
+    }
+    let kind = f[0];
+    match kind {
+        0x10 => editing::add_command(f, image, out),
+        0x11 => editing::drop_command(f, image, out),
+        0x12 => editing::move_command(f, image, out),
+        0x13 => filing::read_command(f, file, image, out),
+        0x14 => filing::write_command(f, image, out),
+        0x15 => speaking::build_command(f, image, words, sets, out),
+        0x16 => speaking::walk_command(f, image, words, sets, phones, numbers, out),
+        0x17 => speaking::plain_command(f, image, phones, numbers, out),
+        0x18 => memory::store_word(f, words, out),
+        0x19 => memory::store_set(f, sets, out),
+        0x1A => memory::show_words(f, words, out),
+        0x1B => memory::show_sets(f, sets, out),
+        0x1C => memory::show_phones(f, phones, out),
+        0x1D => memory::show_numbers(f, numbers, out),
+        0x1E => editing::force_command(f, image, out),
+        0x1F => editing::clear_command(f, image, out),
+        _ => answers::malformed(out),
+    }
+}
