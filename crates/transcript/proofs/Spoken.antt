@@ -26,7 +26,7 @@ use Rattle.transcript.specs.Answers.{spokenBody, refusedBody, printed, r
 use Rattle.transcript.proofs.Printed.{length-printed}
 use Rattle.transcript.specs.Names.{Asked, unsound, name, lentPhones, lentNumbers, spelt, asked, answerTo, nameAnswer, cut, heard, ToldWithin}
 
-delivered-within : (o : Reading) (phones numbers : List ℕ) → ToldWithin (delivered o phones numbers .told) (length phones) (length numbers)
+pub delivered-within : (o : Reading) (phones numbers : List ℕ) → ToldWithin (delivered o phones numbers .told) (length phones) (length numbers)
 delivered-within (stopped n p) phones numbers = tt
 delivered-within (finished rs) phones numbers =
     byBool (leb (length (phonesOf rs)) (length phones))

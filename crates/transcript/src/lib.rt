@@ -19,7 +19,7 @@ ghost use Rattle.transcript.specs.Prepared.{ready, prepared};
 // ---- answers
 
 // The lowest byte of a number.
-fn low(n: usize) -> u8
+pub fn low(n: usize) -> u8
     ensures { λ r. ⌜ r ≡ n % 256 ⌝ }
 {
     (n % 256) as u8
@@ -50,7 +50,7 @@ pub fn refusal_line(x: Refusal, out: &mut [u8]) -> usize
 }
 
 // The bytes of a field, from `at` on; where they end.
-fn put_field(body: &mut [u8], at: usize, field: &[u8]) -> usize
+pub fn put_field(body: &mut [u8], at: usize, field: &[u8]) -> usize
     requires { ⌜ at + length (now field) ≤ length (now body) ⌝ }
     ensures next { λ r. ⌜ r ≡ at + length (now (field .entry)) ⌝ }
     ensures bytes { λ _. ⌜ now (body .exit) ≡ overAt at (now (field .entry)) (now (body .entry)) ⌝ }
@@ -70,7 +70,7 @@ fn put_two(body: &mut [u8], at: usize, n: usize) -> usize
 }
 
 // Rule numbers, two bytes each.
-fn put_numbers(body: &mut [u8], from: usize, numbers: &[u16]) -> usize
+pub fn put_numbers(body: &mut [u8], from: usize, numbers: &[u16]) -> usize
     requires { ⌜ from + 2 * length (now numbers) ≤ length (now body) ⌝ }
     ensures next { λ r. ⌜ r ≡ from + 2 * length (now (numbers .entry)) ⌝ }
     ensures bytes { λ _. ⌜ now (body .exit) ≡ overAt from (twos (now (numbers .entry))) (now (body .entry)) ⌝ }
@@ -125,7 +125,7 @@ pub fn spoken_line(steps: usize, phones: &[u8], numbers: &[u16], out: &mut [u8])
 }
 
 // The line of a walk's answer, and its length.
-fn answer_line(answer: WalkAnswer, phones: &[u8], numbers: &[u16], out: &mut [u8]) -> usize
+pub fn answer_line(answer: WalkAnswer, phones: &[u8], numbers: &[u16], out: &mut [u8]) -> usize
     requires { ⌜ (length (now phones) ≤ 256) × ((length (now numbers) ≤ 64) × ((783 ≤ length (now out)) × ToldWithin (toldOf (answer .speech)) (length (now phones)) (length (now numbers)))) ⌝ }
     ensures len { λ r. ⌜ r ≡ length (printed (toldBody (toldOf (answer .speech)) (answer .steps) (now (phones .entry)) (now (numbers .entry)))) ⌝ }
     ensures bytes { λ _. ⌜ now (out .exit) ≡ over (printed (toldBody (toldOf (answer .speech)) (answer .steps) (now (phones .entry)) (now (numbers .entry)))) (now (out .entry)) ⌝ }
