@@ -1,9 +1,9 @@
 // A compiled ruleset: the lent tables with their state counts as read from the words. It is what each name is sent through
 // (document 01, "The walk").
+use reading::Speech;
 use rules::Answer;
 use rules::Refusal;
 use walk::WalkAnswer;
-use reading::Speech;
 ghost use mathlib.Core.Path.{_≡_};
 ghost use mathlib.Core.Bool.{true};
 ghost use Prim.Native.Nat.{_<_};

@@ -47,7 +47,10 @@ fn spoken_code(speech: Speech) -> u8
     ensures { λ r. ⌜ r ≡ spokenCode (toldOf speech) ⌝ }
 {
     match speech {
-        Speech::Spoken { phones: _, numbers: _ } => 255,
+        Speech::Spoken {
+            phones: _,
+            numbers: _,
+        } => 255,
         Speech::Refused(x) => rules::refusal_number(x),
     }
 }
@@ -244,7 +247,12 @@ pub extern "C" fn pirrozketa_write_file(image: &[u8], out: &mut [u8], bytes: &mu
 
 // Both tables are built.
 #[no_mangle]
-pub extern "C" fn pirrozketa_build(image: &[u8], words: &mut [u16], sets: &mut [u64], place: &mut usize) -> u8
+pub extern "C" fn pirrozketa_build(
+    image: &[u8],
+    words: &mut [u16],
+    sets: &mut [u64],
+    place: &mut usize,
+) -> u8
     ensures code { λ r. ⌜ r ≡ codeOf (built (now (image .entry)) (now (words .entry)) (now (sets .entry)) .reply) ⌝ }
     ensures place { λ _. ⌜ now (place .exit) ≡ placeIn (built (now (image .entry)) (now (words .entry)) (now (sets .entry)) .reply) ⌝ }
     ensures words { λ _. ⌜ now (words .exit) ≡ built (now (image .entry)) (now (words .entry)) (now (sets .entry)) .words ⌝ }

@@ -25,10 +25,13 @@ same-length-2 c = search needs
 
 returns : tie.Need-returns
 returns c =
-    let h = c .before .before .before .before .before .before .before .read-name .ensures in
-    (said-code _ _ _ _ h _ (c .spoken-code .ensures),
-    (said-given _ _ _ _ h _ (c .before .before .phones-or-place .ensures),
-    (said-applied _ _ _ _ h _ (c .before .numbers-given .ensures), (said-phones _ _ _ _ h, said-numbers _ _ _ _ h))))
+    let h = c .before .before .before .before .before .before .before .read-name .ensures in (
+      said-code _ _ _ _ h _ (c .spoken-code .ensures),
+      (
+        said-given _ _ _ _ h _ (c .before .before .phones-or-place .ensures),
+        (said-applied _ _ _ _ h _ (c .before .numbers-given .ensures), (said-phones _ _ _ _ h, said-numbers _ _ _ _ h)),
+      ),
+    )
 
 pub pirrozketa-read-name-spec : {M : Type 1} → statement M
 pirrozketa-read-name-spec =

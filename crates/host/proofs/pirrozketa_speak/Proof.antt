@@ -27,11 +27,16 @@ same-length-2 c = search needs
 
 returns : tie.Need-returns
 returns c =
-    let h = ap (λ (x : Walked). x .said) (c .before .before .before .before .before .before .before .speak-compiled .ensures) in
-    (said-code _ _ _ _ h _ (c .spoken-code .ensures),
-    (said-given _ _ _ _ h _ (c .before .before .phones-or-place .ensures),
-    (said-applied _ _ _ _ h _ (c .before .numbers-given .ensures),
-    (ap (λ (x : Walked). x .steps) (c .before .before .before .before .before .before .before .speak-compiled .ensures), (said-phones _ _ _ _ h, said-numbers _ _ _ _ h)))))
+    let h = ap (λ (x : Walked). x .said) (c .before .before .before .before .before .before .before .speak-compiled .ensures) in (
+      said-code _ _ _ _ h _ (c .spoken-code .ensures),
+      (
+        said-given _ _ _ _ h _ (c .before .before .phones-or-place .ensures),
+        (
+          said-applied _ _ _ _ h _ (c .before .numbers-given .ensures),
+          (ap (λ (x : Walked). x .steps) (c .before .before .before .before .before .before .before .speak-compiled .ensures), (said-phones _ _ _ _ h, said-numbers _ _ _ _ h)),
+        ),
+      ),
+    )
 
 pub pirrozketa-speak-spec : {M : Type 1} → statement M
 pirrozketa-speak-spec =

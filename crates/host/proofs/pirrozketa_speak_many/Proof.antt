@@ -14,9 +14,10 @@ is-ruleset-requires c κs = search needs
 returns : tie.Need-returns
 returns c =
     let a = c .before .before .before .before .before .before .before .before .before .args in
-    let e = sym (many-invalid (a .image .now) (a .words .now) (a .sets .now) (a .names .now) (a .phones .now) (a .numbers .now) (a .replies .now) (sym (c .before .is-ruleset .ensures) ∙ not-true _ (c .if1 .taken))) in
-    (ap (λ (m : Many). m .code) e,
-    (ap (λ (m : Many). m .count) e, (ap (λ (m : Many). m .replies) e, (ap (λ (m : Many). m .phones) e, ap (λ (m : Many). m .numbers) e))))
+    let e = sym (many-invalid (a .image .now) (a .words .now) (a .sets .now) (a .names .now) (a .phones .now) (a .numbers .now) (a .replies .now) (sym (c .before .is-ruleset .ensures) ∙ not-true _ (c .if1 .taken))) in (
+      ap (λ (m : Many). m .code) e,
+      (ap (λ (m : Many). m .count) e, (ap (λ (m : Many). m .replies) e, (ap (λ (m : Many). m .phones) e, ap (λ (m : Many). m .numbers) e))),
+    )
 
 speak-all-requires : tie.Need-speak-all-requires
 speak-all-requires c κs = sym (c .before .before .before .before .is-ruleset .ensures) ∙ not-false _ (c .before .before .before .if1 .left)
@@ -34,11 +35,16 @@ returns-2 : tie.Need-returns-2
 returns-2 c =
     let a = c .before .before .before .before .before .before .before .before .before .before .before .before .before .before .before .before .before .before .before .args in
     let f = c .before .before .before .before .before .before .speak-all .ensures in
-    let e = sym (many-valid (a .image .now) (a .words .now) (a .sets .now) (a .names .now) (a .phones .now) (a .numbers .now) (a .replies .now) (sym (c .before .before .before .before .before .before .before .before .before .before .before .is-ruleset .ensures) ∙ not-false _ (c .before .before .before .before .before .before .before .before .before .before .if1 .left))) in
-    (ap (λ (m : Many). m .code) e,
-    (f .0 ∙ ap (λ (m : Many). m .count) e,
-    (f .1 .0 ∙ ap (λ (m : Many). m .replies) e,
-    (f .1 .1 .0 ∙ ap (λ (m : Many). m .phones) e, f .1 .1 .1 ∙ ap (λ (m : Many). m .numbers) e))))
+    let e = sym (many-valid (a .image .now) (a .words .now) (a .sets .now) (a .names .now) (a .phones .now) (a .numbers .now) (a .replies .now) (sym (c .before .before .before .before .before .before .before .before .before .before .before .is-ruleset .ensures) ∙ not-false _ (c .before .before .before .before .before .before .before .before .before .before .if1 .left))) in (
+      ap (λ (m : Many). m .code) e,
+      (
+        f .0 ∙ ap (λ (m : Many). m .count) e,
+        (
+          f .1 .0 ∙ ap (λ (m : Many). m .replies) e,
+          (f .1 .1 .0 ∙ ap (λ (m : Many). m .phones) e, f .1 .1 .1 ∙ ap (λ (m : Many). m .numbers) e),
+        ),
+      ),
+    )
 
 pub pirrozketa-speak-many-spec : {M : Type 1} → statement M
 pirrozketa-speak-many-spec =

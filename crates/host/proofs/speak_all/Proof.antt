@@ -64,10 +64,13 @@ returns c =
     let a = st .args in
     let l = c .before .before .loop in
     let h = sym (c .before .has-next .ensures) ∙ c .if1 .left in
-    let e = sym (all-is (a .image .now) (a .words .now) (a .sets .now) (a .names .now) (a .phones .now) (a .numbers .now) (a .replies .now)) in
-    (end-count (walkSaid (a .image .now) (a .words .now) (a .sets .now)) (a .names .now) (length (a .replies .now) / 4) (a .phones .now) (a .numbers .now) (a .replies .now) (l .phones) (l .numbers) (l .replies) (l .p) (l .inv) h ∙ ap (λ (m : Lot). m .count) e,
-    (end-replies (walkSaid (a .image .now) (a .words .now) (a .sets .now)) (a .names .now) (length (a .replies .now) / 4) (a .phones .now) (a .numbers .now) (a .replies .now) (l .phones) (l .numbers) (l .replies) (l .p) (l .inv) h ∙ ap (λ (m : Lot). over (m .replies) (a .replies .now)) e,
-    (end-phones (walkSaid (a .image .now) (a .words .now) (a .sets .now)) (a .names .now) (length (a .replies .now) / 4) (a .phones .now) (a .numbers .now) (a .replies .now) (l .phones) (l .numbers) (l .replies) (l .p) (l .inv) h ∙ ap (λ (m : Lot). m .phones) e, end-numbers (walkSaid (a .image .now) (a .words .now) (a .sets .now)) (a .names .now) (length (a .replies .now) / 4) (a .phones .now) (a .numbers .now) (a .replies .now) (l .phones) (l .numbers) (l .replies) (l .p) (l .inv) h ∙ ap (λ (m : Lot). m .numbers) e)))
+    let e = sym (all-is (a .image .now) (a .words .now) (a .sets .now) (a .names .now) (a .phones .now) (a .numbers .now) (a .replies .now)) in (
+      end-count (walkSaid (a .image .now) (a .words .now) (a .sets .now)) (a .names .now) (length (a .replies .now) / 4) (a .phones .now) (a .numbers .now) (a .replies .now) (l .phones) (l .numbers) (l .replies) (l .p) (l .inv) h ∙ ap (λ (m : Lot). m .count) e,
+      (
+        end-replies (walkSaid (a .image .now) (a .words .now) (a .sets .now)) (a .names .now) (length (a .replies .now) / 4) (a .phones .now) (a .numbers .now) (a .replies .now) (l .phones) (l .numbers) (l .replies) (l .p) (l .inv) h ∙ ap (λ (m : Lot). over (m .replies) (a .replies .now)) e,
+        (end-phones (walkSaid (a .image .now) (a .words .now) (a .sets .now)) (a .names .now) (length (a .replies .now) / 4) (a .phones .now) (a .numbers .now) (a .replies .now) (l .phones) (l .numbers) (l .replies) (l .p) (l .inv) h ∙ ap (λ (m : Lot). m .phones) e, end-numbers (walkSaid (a .image .now) (a .words .now) (a .sets .now)) (a .names .now) (length (a .replies .now) / 4) (a .phones .now) (a .numbers .now) (a .replies .now) (l .phones) (l .numbers) (l .replies) (l .p) (l .inv) h ∙ ap (λ (m : Lot). m .numbers) e),
+      ),
+    )
 
 pub speak-all-spec : {M : Type 1} → statement M
 speak-all-spec =
