@@ -294,7 +294,7 @@ class Source:
         for _ in range(self.pick([0, 1, 1, 2, 5])):
             if self.chance(0.5):
                 at, value = self.word_damage(words[0], words[1])
-                words[at] = value
+                words[min(at, len(words) - 1)] = value    # a count may have been changed before
             else:
                 at = self.upto(len(sets) - 1)
                 sets[at] = self.set_damage(sets[at], len(rs.rules))

@@ -34,13 +34,14 @@ class Library:
 
     def call(self, name, *parts):
         """The code, and the numbers that come back, of which there is one for each None at the end."""
-        given, back = [], []
+        given, back, alive = [], [], []
         for part in parts:
             if part is None:
                 back.append(c.c_size_t(CANARY))
                 given.append(c.byref(back[-1]))
             elif isinstance(part, bytes):
                 part = Lent(1, part)
+                alive.append(part)
                 given += [part.pointer, c.c_size_t(part.length)]
             elif isinstance(part, Lent):
                 given += [part.pointer, c.c_size_t(part.length)]
