@@ -21,7 +21,8 @@ ghost use Rattle.tables.specs.Walk.{walkSaid};
 ghost use Rattle.walk.specs.Walked.{walkedOf};
 ghost use Rattle.host.specs.Codes.{codeOf, placeIn, checked, countIn, lastIn, spokenCode, phonesOrPlace, phonesGiven, numbersGiven, blankRule, ruleIn, ruleOf};
 ghost use Rattle.file.specs.Loading.{reportOf, loaded, filed};
-ghost use Rattle.host.specs.Files.{writtenCode, bytesOrPlace};
+ghost use Rattle.host.specs.Files.{writtenCode, bytesOrPlace, LoadedAs};
+ghost use Rattle.transcript.specs.Prepared.{ready, onward};
 ghost use Rattle.host.specs.Many.{replied, spokenAll, manySaid, hasNext, Next};
 
 // ---- codes
@@ -260,6 +261,33 @@ pub extern "C" fn pirrozketa_build(
     ensures sets { λ _. ⌜ now (sets .exit) ≡ built (now (image .entry)) (now (words .entry)) (now (sets .entry)) .sets ⌝ }
 {
     let answer = build::build(image, words, sets);
+    *place = place_in(answer);
+    code_of(answer)
+}
+
+// A rule file is read and its tables are built. What was read is a ruleset, and is not checked again.
+fn load(file: &[u8], image: &mut [u8], words: &mut [u16], sets: &mut [u64]) -> Answer
+    ensures { λ r. ⌜ ready (replyOf r) (now (image .exit)) (now (words .exit)) (now (sets .exit)) ≡ onward (loaded (now (file .entry)) (now (image .entry)) .reply) (loaded (now (file .entry)) (now (image .entry)) .image) (now (words .entry)) (now (sets .entry)) ⌝ }
+{
+    let answer = file::read_file(file, &mut *image);
+    if let Answer::Refused(why) = answer {
+        return Answer::Refused(why);
+    }
+    build::build_valid(&*image, words, sets)
+}
+
+// A rule file is read and both tables of its ruleset are built: what a host does first.
+#[no_mangle]
+pub extern "C" fn pirrozketa_load(
+    file: &[u8],
+    image: &mut [u8],
+    words: &mut [u16],
+    sets: &mut [u64],
+    place: &mut usize,
+) -> u8
+    ensures { λ r. ⌜ LoadedAs (onward (loaded (now (file .entry)) (now (image .entry)) .reply) (loaded (now (file .entry)) (now (image .entry)) .image) (now (words .entry)) (now (sets .entry))) r (now (place .exit)) (now (image .exit)) (now (words .exit)) (now (sets .exit)) ⌝ }
+{
+    let answer = load(file, image, words, sets);
     *place = place_in(answer);
     code_of(answer)
 }
