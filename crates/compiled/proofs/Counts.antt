@@ -85,13 +85,13 @@ module _ (image ws ss : List ℕ) (name : Str) (phones numbers : List ℕ) (v : 
   unfolding lengthsFor
   none-for = byBool (leb 2 (length ws)) (λ e. rw e refl) (λ e. rw e refl)
 
-  none-walk : walkFor 0 0 image ws ss name phones numbers ≡ walkedAs (delivered (judgedName name (stopped 16 0)) phones numbers) 0
+  pub none-walk : walkFor 0 0 image ws ss name phones numbers ≡ walkedAs (delivered (judgedName name (stopped 16 0)) phones numbers) 0
   unfolding walkFor
   none-walk =
       ap (λ (b : Bool). walkedAs (delivered (judgedName name (cond b (walk (leftFor ws ss 0) (rightFor ws ss 0 0) name (entriesOf image)) (stopped 16 0))) phones numbers) (walkSteps (leftFor ws ss 0) (rightFor ws ss 0 0) name)) none-for
       ∙ no-steps name phones numbers (walkSteps (leftFor ws ss 0) (rightFor ws ss 0 0) name) 0
 
-  none-said : lengthsFit ws ss ≡ false → walkSaid image ws ss name phones numbers ≡ walkedAs (delivered (judgedName name (stopped 16 0)) phones numbers) 0
+  pub none-said : lengthsFit ws ss ≡ false → walkSaid image ws ss name phones numbers ≡ walkedAs (delivered (judgedName name (stopped 16 0)) phones numbers) 0
   unfolding walkSaid walkWords
   none-said h =
       ap₂ (λ (a b : Bool). walkedAs (pick a (delivered (judgedName name (cond b (walk (leftOf ws ss) (rightOf ws ss) name (entriesOf image)) (stopped 16 0))) phones numbers) (saying (refused 0 0) phones numbers)) (walkSteps (leftOf ws ss) (rightOf ws ss) name)) v h
