@@ -1,7 +1,7 @@
 -- The state counts of a compiled ruleset: with those read from the words, or with none where a length test fails, the walk is the one of the
 -- lent words.
 -- Assumes nothing.
-use Prim.Native.Nat.{ℕ, suc, _+_, _*_, _≤_, _<_}
+use Prim.Native.Nat.{ℕ, suc, _≤_, _<_}
 use mathlib.Core.Path.{_≡_, refl, sym, ap, ap₂, _∙_}
 use mathlib.Core.Bool.{Bool, true, false, cond, _&&_}
 use mathlib.Core.List.{List, [], _∷_}
@@ -12,10 +12,10 @@ use borrow.Author.Tests.{lt-leb, le-leb, lt-ltb, le-ltb}
 use Rattle.rules.specs.Shape.{pick}
 use Rattle.image.specs.Image.{valid, entriesOf}
 use Rattle.reading.specs.Fitting.{Str}
-use Rattle.reading.specs.Reading.{Reading, stopped}
+use Rattle.reading.specs.Reading.{stopped}
 use Rattle.reading.specs.Speech.{letter, saying, refused, delivered, judgedLetters, judgedName}
 use Rattle.tables.specs.Words.{leftOf, rightOf, neededWords, neededSets}
-use Rattle.tables.specs.Walk.{Walked, walk, walkSteps, walkedAs, walkWords, walkSaid, lengthsFit}
+use Rattle.tables.specs.Walk.{walk, walkSteps, walkedAs, walkWords, walkSaid, lengthsFit}
 use Rattle.tables.proofs.Truth.{byBool}
 use Rattle.walk.specs.Walked.{lengthsFor, leftFor, rightFor, walkFor}
 use Rattle.walk.proofs.Walked.{said-valid}
