@@ -1,7 +1,7 @@
 -- The state counts of a compiled ruleset: with those read from the words, or with none where a length test fails, the walk is the one of the
 -- lent words.
 -- Assumes nothing.
-use Prim.Native.Nat.{ℕ, suc, _+_, _*_, _≤_, _<_}
+use Prim.Native.Nat.{ℕ, suc, _≤_, _<_}
 use mathlib.Core.Path.{_≡_, refl, sym, ap, ap₂, _∙_}
 use mathlib.Core.Bool.{Bool, true, false, cond, _&&_}
 use mathlib.Core.List.{List, [], _∷_}
@@ -13,10 +13,10 @@ use Rattle.rules.proofs.Cases.{byBool}
 use Rattle.rules.specs.Shape.{pick}
 use Rattle.image.specs.Image.{valid, entriesOf}
 use Rattle.reading.specs.Fitting.{Str}
-use Rattle.reading.specs.Reading.{Reading, stopped}
+use Rattle.reading.specs.Reading.{stopped}
 use Rattle.reading.specs.Speech.{letter, saying, refused, delivered, judgedLetters, judgedName}
 use Rattle.tables.specs.Words.{leftOf, rightOf, neededWords, neededSets}
-use Rattle.tables.specs.Walk.{Walked, walk, walkSteps, walkedAs, walkWords, walkSaid, lengthsFit}
+use Rattle.tables.specs.Walk.{walk, walkSteps, walkedAs, walkWords, walkSaid, lengthsFit}
 use Rattle.walk.specs.Walked.{lengthsFor, leftFor, rightFor, walkFor}
 use Rattle.walk.proofs.Walked.{said-valid}
 use Rattle.compiled.specs.Compiling.{countIn}
@@ -85,13 +85,13 @@ module _ (image ws ss : List ℕ) (name : Str) (phones numbers : List ℕ) (v : 
   unfolding lengthsFor
   none-for = byBool (leb 2 (length ws)) (λ e. rw e refl) (λ e. rw e refl)
 
-  none-walk : walkFor 0 0 image ws ss name phones numbers ≡ walkedAs (delivered (judgedName name (stopped 16 0)) phones numbers) 0
+  pub none-walk : walkFor 0 0 image ws ss name phones numbers ≡ walkedAs (delivered (judgedName name (stopped 16 0)) phones numbers) 0
   unfolding walkFor
   none-walk =
       ap (λ (b : Bool). walkedAs (delivered (judgedName name (cond b (walk (leftFor ws ss 0) (rightFor ws ss 0 0) name (entriesOf image)) (stopped 16 0))) phones numbers) (walkSteps (leftFor ws ss 0) (rightFor ws ss 0 0) name)) none-for
       ∙ no-steps name phones numbers (walkSteps (leftFor ws ss 0) (rightFor ws ss 0 0) name) 0
 
-  none-said : lengthsFit ws ss ≡ false → walkSaid image ws ss name phones numbers ≡ walkedAs (delivered (judgedName name (stopped 16 0)) phones numbers) 0
+  pub none-said : lengthsFit ws ss ≡ false → walkSaid image ws ss name phones numbers ≡ walkedAs (delivered (judgedName name (stopped 16 0)) phones numbers) 0
   unfolding walkSaid walkWords
   none-said h =
       ap₂ (λ (a b : Bool). walkedAs (pick a (delivered (judgedName name (cond b (walk (leftOf ws ss) (rightOf ws ss) name (entriesOf image)) (stopped 16 0))) phones numbers) (saying (refused 0 0) phones numbers)) (walkSteps (leftOf ws ss) (rightOf ws ss) name)) v h

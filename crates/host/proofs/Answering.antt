@@ -1,22 +1,23 @@
 -- Many names in one call: while names are answered in turn, what stands and what is to come make the same lot.
 -- Assumes nothing.
 use Prim.Native.Nat.{ℕ, zero, suc, _+_, _-_, _*_, _/_, _≤_, _<_}
-use mathlib.Core.Path.{_≡_, refl, sym, ap, ap₂, _∙_, subst}
+use mathlib.Core.Path.{_≡_, refl, sym, ap, ap₂, _∙_}
 use mathlib.Core.Bool.{Bool, true, false}
-use mathlib.Core.List.{List, [], _∷_, _++_, append-assoc, append-nil}
+use mathlib.Core.List.{List, [], _∷_, _++_, append-assoc}
 use native.Mathlib.Omega.{arith}
 use lib.Dec.{leb, ltb}
 use lib.ListN.{length, getD, take, drop, set, length-append, length-drop, drop-of-length-le, take-append-drop}
-use lib.Seq.{drop-cons, drop-drop, take-at, drop-at, take-append-add, drop-append-add, length-take-le, take-all, sets-eq}
+use lib.Seq.{drop-cons, drop-drop, take-at, drop-at, take-append-add, drop-append-add, length-take-le, sets-eq}
 use borrow.Rule.Slice.PartMut.{midOf, putMid}
 use borrow.Author.Tests.{leb-true, leb-false, le-leb, lt-leb, ltb-true, ltb-false, lt-ltb, le-ltb}
-use Rattle.rules.proofs.Cases.{byBool}
 use Rattle.rules.specs.Memory.{over}
+use Rattle.rules.proofs.Memory.{over-length, put-tail, tail-is}
+use Rattle.rules.proofs.Cases.{byBool}
 use Rattle.rules.specs.Shape.{pick}
 use Rattle.image.specs.Image.{valid, entriesOf}
 use Rattle.reading.specs.Fitting.{Str}
 use Rattle.reading.specs.Reading.{Reading, finished, stopped}
-use Rattle.reading.specs.Speech.{phonesOf, numbersOf, Told, Said, toldOf, saying, delivered, judgedName, refused}
+use Rattle.reading.specs.Speech.{phonesOf, numbersOf, Said, toldOf, saying, delivered, judgedName, refused}
 use Rattle.tables.specs.Walk.{Walked, walkWords, walkSaid}
 use Rattle.walk.specs.Walked.{walkedOf}
 use Rattle.walk.specs.declared.WalkAnswer.{WalkAnswer}
@@ -278,9 +279,6 @@ module _ (f : Str → List ℕ → List ℕ → Walked) (names : List ℕ) (k : 
 
 -- ---- the walk gives no more than the lent memory has
 
-over-length : (ys xs : List ℕ) → length ys ≤ length xs → length (over ys xs) ≡ length xs
-over-length ys xs h = omega (arith, length-append ys (drop (length ys) xs), length-drop (length ys) xs, h)
-
 kept : (n p : ℕ) (phones numbers : List ℕ) → Fitting (saying (refused n p) phones numbers) phones numbers
 kept n p phones numbers = record { phones-fit = omega arith; numbers-fit = omega arith; phones-keep = refl; numbers-keep = refl }
 
@@ -302,15 +300,6 @@ walk-fits image ws ss n phones numbers =
     byBool (valid image) (λ v. rw v (delivered-fit (judgedName n (walkWords ws ss (entriesOf image) n)) phones numbers)) (λ v. rw v (kept 0 0 phones numbers))
 
 -- ---- one name, as the code answers it
-
--- a part that runs to the end, `&mut xs[a..]`, as the borrow checker has it
-tail-is : (a : ℕ) (xs : List ℕ) → midOf a (length xs - a) xs ≡ drop a xs
-tail-is a xs = take-all (length xs - a) (drop a xs) (simp length-drop (omega arith))
-
-put-tail : (a : ℕ) (xs zs : List ℕ) → putMid a (length xs - a) xs zs ≡ take a xs ++ zs
-put-tail a xs zs =
-    let e : drop (length xs - a) (drop a xs) ≡ [] = drop-of-length-le (drop a xs) {i = length xs - a} (simp length-drop (omega arith)) in
-    ap (λ (t : List ℕ). take a xs ++ (zs ++ t)) e ∙ ap (λ (t : List ℕ). take a xs ++ t) (append-nil zs)
 
 module _ (image ws ss names ph nu re : List ℕ) (p : Progress) (n : ℕ) (r : WalkAnswer) (zs ys : List ℕ) (here : n ≡ getD names (p .at) 0)
     (e : walkedOf r zs ys ≡ walkSaid image ws ss (take (p .at + 1 + n - (p .at + 1)) (drop (p .at + 1) names)) (midOf (p .phones) (length ph - p .phones) ph) (midOf (p .numbers) (length nu - p .numbers) nu)) where

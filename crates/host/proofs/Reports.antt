@@ -1,21 +1,21 @@
 -- What a call's report in numbers says, from the library's equation.
 -- Assumes nothing.
 use Prim.Native.Nat.{ℕ, _+_, _≤_, _<_}
-use mathlib.Core.Path.{_≡_, refl, sym, ap, _∙_}
+use mathlib.Core.Path.{_≡_, sym, ap, _∙_}
 use mathlib.Core.Bool.{Bool, true, false}
 use mathlib.Core.List.{List, [], _∷_}
 use native.Mathlib.Omega.{arith}
-use lib.Dec.{eqb, leb}
 use lib.ListN.{length, getD, take, drop, length-drop}
 use lib.Seq.{getD-drop}
 use borrow.Author.Tests.{eq-eqb, ne-eqb, lt-leb, le-leb}
-use Rattle.rules.specs.Shape.{pick}
+use Rattle.rules.specs.Shape.{pick, shape}
 use Rattle.rules.specs.declared.Rule.{Rule}
 use Rattle.rules.specs.Refusals.{Reply, accepted, declined}
-use Rattle.image.specs.Image.{imageSize, valid, two, Edited, outcome}
+use Rattle.image.specs.Image.{imageSize, valid, two, ledgerOf, Edited, outcome}
 use Rattle.image.proofs.Bytes.{four-front, six-front}
+use Rattle.edits.specs.Ledger.{Edit, judged}
+use Rattle.edits.specs.Edits.{edited, outcomeBy}
 use Rattle.reading.specs.Speech.{Told, Said, saying}
-use Rattle.tables.specs.Walk.{Walked}
 use Rattle.tables.specs.Words.{Built, building}
 use Rattle.file.specs.Loading.{Report, Filed, filing}
 use Rattle.host.specs.Files.{writtenCode, bytesOrPlace}
@@ -85,6 +85,13 @@ rule-yes s r e h = e ∙ ap (λ (t : Bool). pick t (ruleOf s) blankRule) (sym (e
 pub rule-no : (s : List ℕ) → (length s ≡ 24 → ⊥) → blankRule ≡ ruleIn s
 unfolding ruleIn
 rule-no s h = ap (λ (t : Bool). pick t (ruleOf s) blankRule) (sym (ne-eqb (length s) 24 h))
+
+-- so bytes of another length are refused with 6, and change nothing
+pub odd-rule : (image s : List ℕ) (p : ℕ) → (length s ≡ 24 → ⊥) → valid image ≡ true → edited image (Edit.Add (ruleIn s) p) ≡ outcome (declined 6 0) image
+unfolding edited judged shape
+odd-rule image s p h v =
+    ap (λ (r : Rule). edited image (Edit.Add r p)) (sym (rule-no s h))
+    ∙ ap (λ (t : Bool). pick t (outcomeBy (judged (ledgerOf image) (Edit.Add blankRule p)) image (Edit.Add blankRule p)) (outcome (declined 0 0) image)) v
 
 -- the numbers of a call that speaks, and the lent memory after it
 module _ (t : Told) (phones numbers : List ℕ) (s : Said) (h : saying t phones numbers ≡ s) where

@@ -1,19 +1,17 @@
 -- Many names in one call: the names lent one after another, the answers put one after another.
 -- Assumes nothing.
-use Prim.Native.Nat.{ℕ, zero, suc, _+_, _-_, _*_, _/_, _<_, _≤_}
+use Prim.Native.Nat.{ℕ, zero, suc, _+_, _-_, _*_, _/_, _≤_}
 use mathlib.Core.Path.{_≡_}
 use mathlib.Core.List.{List, [], _∷_, _++_}
-use mathlib.Core.Bool.{Bool, true, false}
+use mathlib.Core.Bool.{Bool, false}
 use lib.Dec.{leb, ltb}
 use lib.ListN.{length, getD, take, drop}
 use Rattle.rules.specs.Memory.{over}
 use Rattle.rules.specs.Shape.{pick}
-use Rattle.rules.specs.Refusals.{Reply}
 use Rattle.image.specs.Image.{valid}
 use Rattle.reading.specs.Fitting.{Str}
-use Rattle.reading.specs.Speech.{Told}
 use Rattle.tables.specs.Walk.{Walked, walkSaid}
-use Rattle.host.specs.Codes.{codeOf, checked, spokenCode, phonesOrPlace, phonesGiven, numbersGiven}
+use Rattle.host.specs.Codes.{spokenCode, phonesOrPlace, phonesGiven, numbersGiven}
 use Rattle.host.specs.declared.Progress.{Progress}
 
 -- the names in the bytes, each after a byte that says its length: at most k of them, and only whole ones

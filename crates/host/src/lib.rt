@@ -8,7 +8,7 @@ use walk::WalkAnswer;
 ghost use mathlib.Core.Path.{_≡_};
 ghost use mathlib.Core.Bool.{true};
 ghost use mathlib.Core.List.{_∷_, _++_};
-ghost use Prim.Native.Nat.{ℕ, _+_, _*_, _/_, _<_, _≤_};
+ghost use Prim.Native.Nat.{_+_, _*_, _/_, _<_, _≤_};
 ghost use lib.ListN.{length, getD, take, drop};
 ghost use Rattle.rules.specs.Memory.{over};
 ghost use Rattle.rules.specs.Refusals.{replyOf};
@@ -18,12 +18,11 @@ ghost use Rattle.edits.specs.Edits.{edited};
 ghost use Rattle.reading.specs.Speech.{toldOf, plainSaid};
 ghost use Rattle.tables.specs.Words.{built};
 ghost use Rattle.tables.specs.Walk.{walkSaid};
-ghost use Rattle.walk.specs.Walked.{walkedOf};
-ghost use Rattle.host.specs.Codes.{codeOf, placeIn, checked, countIn, lastIn, spokenCode, phonesOrPlace, phonesGiven, numbersGiven, blankRule, ruleIn, ruleOf};
+ghost use Rattle.host.specs.Codes.{codeOf, placeIn, checked, countIn, lastIn, spokenCode, phonesOrPlace, phonesGiven, numbersGiven, ruleIn, ruleOf};
 ghost use Rattle.file.specs.Loading.{reportOf, loaded, filed};
 ghost use Rattle.host.specs.Files.{writtenCode, bytesOrPlace, LoadedAs};
 ghost use Rattle.transcript.specs.Prepared.{ready, onward};
-ghost use Rattle.host.specs.Many.{replied, spokenAll, manySaid, hasNext, Next};
+ghost use Rattle.host.specs.Many.{spokenAll, manySaid, hasNext, Next};
 
 // ---- codes
 
