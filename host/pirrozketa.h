@@ -62,7 +62,8 @@ enum {
 /*
  * Stack that each call uses, in bytes, as host/stack.c measures it on x86-64 with 512 rules and a name of
  * 64 letters: clear, count, last none to speak of; check 8,296; drop 8,328; move 8,440; add 8,456;
- * write_file 8,520; speak 8,520; speak_many 8,536; read_file 8,552; read_name 8,712; build 39,656.
+ * write_file 8,520; speak 8,520; speak_many 8,536; read_file 8,616; read_name 8,712; build 31,576; load
+ * as much as build.
  */
 
 /* ---- the ruleset: `image` is PIRROZKETA_IMAGE bytes or more */
@@ -104,6 +105,12 @@ uint8_t pirrozketa_write_file(const uint8_t *image, size_t image_len, uint8_t *o
    as it is now: build again after an edit. *place: the refusal's place, or 0. Refusals 0, 11, 12. */
 uint8_t pirrozketa_build(const uint8_t *image, size_t image_len, uint16_t *words, size_t words_len, uint64_t *sets,
                          size_t sets_len, size_t *place);
+
+/* Two calls in one, what a host does first: pirrozketa_read_file, and where it is accepted pirrozketa_build,
+   which need not check the ruleset again. Refusals of the reading keep everything; those of the build (11, 12)
+   keep the words and set words, and the ruleset is then the one that was read. */
+uint8_t pirrozketa_load(const uint8_t *file, size_t file_len, uint8_t *image, size_t image_len, uint16_t *words,
+                        size_t words_len, uint64_t *sets, size_t sets_len, size_t *place);
 
 /* ---- names: letters from 1, a, to 63; phones from 1 to 255 */
 
