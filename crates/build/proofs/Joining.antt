@@ -5,83 +5,85 @@ use mathlib.Core.Path.{_≡_, refl, sym, ap, _∙_}
 use mathlib.Core.Bool.{true, false}
 use mathlib.Core.List.{List, [], _∷_, _++_}
 use native.Mathlib.Omega.{arith}
-use lib.ListN.{length, set, length-set, length-append}
+use lib.ListN.{length, getD, set, length-set, length-append}
+use lib.Seq.{drop-cons}
 use borrow.Rule.Slice.PartMut.{midOf, putMid, mid-len}
 use Rattle.rules.specs.Memory.{over}
-use Rattle.rules.proofs.Memory.{over-length, over-rest, over-snoc}
+use Rattle.rules.proofs.Memory.{over-length, over-rest}
 use Rattle.image.specs.Image.{entriesOf}
-use Rattle.tables.specs.Words.{rowsOf, setsOf, builtWords, builtSets}
+use Rattle.tables.specs.Words.{rowsOf, setsOf, builtWords, builtSets, wordsFor, setsFor}
 use Rattle.build.specs.Sides.{sideTable}
 use Rattle.build.proofs.Whole.{rows-length, sets-length, words-are, sets-built}
 
-module _ (d : List ℕ) (l r : ℕ) (el : l ≡ sideTable d false .count) (er : r ≡ sideTable d true .count) where
+module _ (d : List ℕ) where
   abbrev us : List ℕ
   us = rowsOf (sideTable d false)
 
   abbrev vs : List ℕ
   vs = rowsOf (sideTable d true)
 
-  us-length : length us ≡ 64 * l
-  us-length = rows-length (sideTable d false) ∙ ap (λ (k : ℕ). 64 * k) (sym el)
+  -- the words xs, of which the first two are stored last
+  module _ (xs : List ℕ) (h : wordsFor (entriesOf d) ≤ length xs) where
+    abbrev x : ℕ
+    x = getD xs 0 0
 
-  vs-length : length vs ≡ 64 * r
-  vs-length = rows-length (sideTable d true) ∙ ap (λ (k : ℕ). 64 * k) (sym er)
+    abbrev y : ℕ
+    y = getD xs 1 0
 
-  module _ (xs : List ℕ) (h : 2 + 64 * (l + r) ≤ length xs) where
-    -- the two counts are stored
-    abbrev pub w₁ : List ℕ
-    w₁ = set (set xs 0 l) 1 r
+    is₀ : xs ≡ over (x ∷ y ∷ []) xs
+    is₀ = drop-cons xs 0 0 (omega arith) ∙ ap (λ (t : List ℕ). x ∷ t) (drop-cons xs 1 0 (omega arith))
 
-    pub length₁ : length w₁ ≡ length xs
-    length₁ = simp length-set
+    pub asks₁ : 64 * sideTable d false .count ≤ length (midOf 2 (length xs - 2) xs)
+    asks₁ = omega (arith, mid-len 2 (length xs) xs (omega arith))
 
-    is₁ : w₁ ≡ over (l ∷ r ∷ []) xs
-    is₁ = ap (λ (v : List ℕ). set v 1 r) (over-snoc [] xs 0 l refl (omega arith)) ∙ over-snoc (l ∷ []) xs 1 r refl (omega arith)
-
-    pub asks₁ : 64 * sideTable d false .count ≤ length (midOf 2 (length w₁ - 2) w₁)
-    asks₁ = omega (arith, el, mid-len 2 (length w₁) w₁ (omega (arith, length₁)), length₁)
-
-    module _ (z : List ℕ) (e : z ≡ over us (midOf 2 (length w₁ - 2) w₁)) where
+    module _ (z : List ℕ) (e : z ≡ over us (midOf 2 (length xs - 2) xs)) (l : ℕ) (el : l ≡ sideTable d false .count) where
       -- the left table is filled
-      abbrev pub w₂ : List ℕ
-      w₂ = putMid 2 (length w₁ - 2) w₁ z
+      abbrev pub w₁ : List ℕ
+      w₁ = putMid 2 (length xs - 2) xs z
 
-      is₂ : w₂ ≡ over (l ∷ r ∷ us) xs
-      is₂ = over-rest (l ∷ r ∷ []) xs us w₁ z 2 is₁ refl e
+      is₁ : w₁ ≡ over (x ∷ y ∷ us) xs
+      is₁ = over-rest (x ∷ y ∷ []) xs us xs z 2 is₀ refl e
 
-      left-length : length (l ∷ r ∷ us) ≡ 2 + 64 * l
-      left-length = omega (arith, us-length)
+      left-length : length (x ∷ y ∷ us) ≡ 2 + 64 * l
+      left-length = omega (arith, rows-length (sideTable d false), el)
 
-      pub length₂ : length w₂ ≡ length xs
-      length₂ = ap length is₂ ∙ over-length (l ∷ r ∷ us) xs (omega (arith, left-length))
+      pub length₁ : length w₁ ≡ length xs
+      length₁ = ap length is₁ ∙ over-length (x ∷ y ∷ us) xs (omega (arith, left-length, el))
 
-      pub asks₂ : 64 * sideTable d true .count ≤ length (midOf (2 + 64 * l) (length w₂ - (2 + 64 * l)) w₂)
-      asks₂ = omega (arith, er, mid-len (2 + 64 * l) (length w₂) w₂ (omega (arith, length₂)), length₂)
+      pub asks₂ : 64 * sideTable d true .count ≤ length (midOf (2 + 64 * l) (length w₁ - (2 + 64 * l)) w₁)
+      asks₂ = omega (arith, el, mid-len (2 + 64 * l) (length w₁) w₁ (omega (arith, length₁, el)), length₁)
 
-      module _ (z′ : List ℕ) (e′ : z′ ≡ over vs (midOf (2 + 64 * l) (length w₂ - (2 + 64 * l)) w₂)) where
+      module _ (z′ : List ℕ) (e′ : z′ ≡ over vs (midOf (2 + 64 * l) (length w₁ - (2 + 64 * l)) w₁)) (r : ℕ) (er : r ≡ sideTable d true .count) where
         -- the right table is filled
-        abbrev pub w₃ : List ℕ
-        w₃ = putMid (2 + 64 * l) (length w₂ - (2 + 64 * l)) w₂ z′
+        abbrev pub w₂ : List ℕ
+        w₂ = putMid (2 + 64 * l) (length w₁ - (2 + 64 * l)) w₁ z′
 
-        is₃ : w₃ ≡ over (l ∷ r ∷ (us ++ vs)) xs
-        is₃ = over-rest (l ∷ r ∷ us) xs vs w₂ z′ (2 + 64 * l) is₂ left-length e′
+        is₂ : w₂ ≡ over (x ∷ y ∷ (us ++ vs)) xs
+        is₂ = over-rest (x ∷ y ∷ us) xs vs w₁ z′ (2 + 64 * l) is₁ left-length e′
 
-        pub words : w₃ ≡ over (builtWords (entriesOf d)) xs
-        words = is₃ ∙ ap (λ (x : List ℕ). over x xs) (words-are d l r el er)
+        pub length₂ : length w₂ ≡ length xs
+        length₂ = ap length is₂ ∙ over-length (x ∷ y ∷ (us ++ vs)) xs (omega (arith, length-append us vs, rows-length (sideTable d false), rows-length (sideTable d true)))
 
-        pub length₃ : length w₃ ≡ length xs
-        length₃ = ap length is₃ ∙ over-length (l ∷ r ∷ (us ++ vs)) xs (omega (arith, length-append us vs, us-length, vs-length))
+        -- the counts are stored
+        pub words : set (set w₂ 0 l) 1 r ≡ over (builtWords (entriesOf d)) xs
+        words = ap (λ (w : List ℕ). set (set w 0 l) 1 r) is₂ ∙ ap (λ (w : List ℕ). over w xs) (words-are d l r el er)
+
+        pub length₃ : length (set w₂ 0 l) ≡ length xs
+        length₃ = simp length-set length₂
+
+        pub length₄ : length (set (set w₂ 0 l) 1 r) ≡ length xs
+        length₄ = simp length-set length₂
 
   -- the set words, after the left sets s and the right sets
-  module _ (xs : List ℕ) (h : 8 * (l + r) ≤ length xs) (s : List ℕ) (e : s ≡ over (setsOf (sideTable d false)) xs) where
+  module _ (xs : List ℕ) (h : setsFor (entriesOf d) ≤ length xs) (s : List ℕ) (e : s ≡ over (setsOf (sideTable d false)) xs) (l : ℕ) (el : l ≡ sideTable d false .count) where
     left-sets : length (setsOf (sideTable d false)) ≡ 8 * l
     left-sets = sets-length (sideTable d false) ∙ ap (λ (k : ℕ). 8 * k) (sym el)
 
     pub set-length : length s ≡ length xs
-    set-length = ap length e ∙ over-length (setsOf (sideTable d false)) xs (omega (arith, left-sets))
+    set-length = ap length e ∙ over-length (setsOf (sideTable d false)) xs (omega (arith, left-sets, el))
 
     pub set-asks : 8 * sideTable d true .count ≤ length (midOf (8 * l) (length s - 8 * l) s)
-    set-asks = omega (arith, er, mid-len (8 * l) (length s) s (omega (arith, set-length)), set-length)
+    set-asks = omega (arith, el, mid-len (8 * l) (length s) s (omega (arith, set-length, el)), set-length)
 
     module _ (z : List ℕ) (f : z ≡ over (setsOf (sideTable d true)) (midOf (8 * l) (length s - 8 * l) s)) where
       both-sets : putMid (8 * l) (length s - 8 * l) s z ≡ over (setsOf (sideTable d false) ++ setsOf (sideTable d true)) xs
@@ -94,4 +96,4 @@ module _ (d : List ℕ) (l r : ℕ) (el : l ≡ sideTable d false .count) (er : 
       sets-kept =
           ap length both-sets
           ∙ over-length (setsOf (sideTable d false) ++ setsOf (sideTable d true)) xs
-          (omega (arith, length-append (setsOf (sideTable d false)) (setsOf (sideTable d true)), left-sets, sets-length (sideTable d true), er))
+          (omega (arith, length-append (setsOf (sideTable d false)) (setsOf (sideTable d true)), sets-length (sideTable d false), sets-length (sideTable d true)))

@@ -8,7 +8,7 @@ ghost use lib.ListN.{length, getD};
 ghost use Rattle.rules.specs.Memory.{over};
 ghost use Rattle.rules.specs.Refusals.{replyOf};
 ghost use Rattle.image.specs.Image.{two, valid, entriesOf};
-ghost use Rattle.tables.specs.Words.{rowsOf, setsOf, builtWords, builtSets, building, builtFrom, built};
+ghost use Rattle.tables.specs.Words.{rowsOf, setsOf, builtWords, builtSets, wordsFor, setsFor, building, builtFrom, built};
 ghost use Rattle.side.specs.Wrote.{Wrote};
 ghost use Rattle.build.specs.Sides.{patternIn, sideTable, Scratch, Laid, Counted};
 
@@ -87,7 +87,7 @@ fn count_side(image: &[u8], n: usize, right: bool, pats: &mut [u8], lens: &mut [
     count::count_states(pats, lens, n)
 }
 
-// The rows and the sets of a side, from where the lent parts start.
+// The rows and the sets of a side, from where the lent parts start, and how many states it has.
 fn fill_part(
     image: &[u8],
     n: usize,
@@ -96,39 +96,37 @@ fn fill_part(
     lens: &mut [u8],
     rows: &mut [u16],
     sets: &mut [u64],
-)
+) -> usize
     requires { ⌜ (valid (now image) ≡ true) × (n ≡ two 0 (now image)) × (64 * sideTable (now image) right .count ≤ length (now rows)) × (8 * sideTable (now image) right .count ≤ length (now sets)) × Scratch (now pats) (now lens) ⌝ }
     ensures rows { λ _. ⌜ now (rows .exit) ≡ over (rowsOf (sideTable (now (image .entry)) right)) (now (rows .entry)) ⌝ }
     ensures sets { λ _. ⌜ now (sets .exit) ≡ over (setsOf (sideTable (now (image .entry)) right)) (now (sets .entry)) ⌝ }
-    ensures scratch { λ _. ⌜ Scratch (now (pats .exit)) (now (lens .exit)) ⌝ }
+    ensures count { λ r. ⌜ Counted (now (image .entry)) right r (now (pats .exit)) (now (lens .exit)) ⌝ }
 {
     patterns(image, n, right, pats, lens);
-    side::fill_side(rows, sets, pats, lens, n);
+    side::fill_side(rows, sets, pats, lens, n)
 }
 
 // ---- both sides
 
-// The counts, the left table, and directly after it the right table; the left sets, then the right sets.
+// The left table from word 2 on, directly after it the right table, and the counts that the fillings gave; the left sets, then the right sets.
 fn fill(
     image: &[u8],
     n: usize,
-    l: usize,
-    r: usize,
     pats: &mut [u8],
     lens: &mut [u8],
     words: &mut [u16],
     sets: &mut [u64],
 )
-    requires { ⌜ (valid (now image) ≡ true) × (n ≡ two 0 (now image)) × (l ≡ sideTable (now image) false .count) × (r ≡ sideTable (now image) true .count) × (l ≤ 5121) × (r ≤ 5121) × (2 + 64 * (l + r) ≤ length (now words)) × (8 * (l + r) ≤ length (now sets)) × Scratch (now pats) (now lens) ⌝ }
+    requires { ⌜ (valid (now image) ≡ true) × (n ≡ two 0 (now image)) × (wordsFor (entriesOf (now image)) ≤ length (now words)) × (setsFor (entriesOf (now image)) ≤ length (now sets)) × Scratch (now pats) (now lens) ⌝ }
     ensures words { λ _. ⌜ now (words .exit) ≡ over (builtWords (entriesOf (now (image .entry)))) (now (words .entry)) ⌝ }
     ensures sets { λ _. ⌜ now (sets .exit) ≡ over (builtSets (entriesOf (now (image .entry)))) (now (sets .entry)) ⌝ }
 {
-    words[0] = l as u16;
-    words[1] = r as u16;
-    fill_part(image, n, false, pats, lens, &mut words[2..], sets);
+    let l = fill_part(image, n, false, pats, lens, &mut words[2..], sets);
     let a = 2 + 64 * l;
     let b = 8 * l;
-    fill_part(image, n, true, pats, lens, &mut words[a..], &mut sets[b..]);
+    let r = fill_part(image, n, true, pats, lens, &mut words[a..], &mut sets[b..]);
+    words[0] = l as u16;
+    words[1] = r as u16;
 }
 
 // Builds the tables with scratch memory for the patterns of one side at a time, or says what is needed and touches no lent word.
@@ -153,7 +151,7 @@ fn build_with(
     if sets.len() < places {
         return Answer::Refused(Refusal::SetsRoom(places));
     }
-    fill(image, n, l, r, pats, lens, words, sets);
+    fill(image, n, pats, lens, words, sets);
     Answer::Accepted
 }
 

@@ -227,11 +227,12 @@ fn complete_level(
     }
 }
 
-// The rows and the sets of one side. What lies past them keeps its contents.
-pub fn fill_side(rows: &mut [u16], sets: &mut [u64], pats: &[u8], lens: &[u8], n: usize)
+// The rows and the sets of one side, and how many states it has. What lies past them keeps its contents.
+pub fn fill_side(rows: &mut [u16], sets: &mut [u64], pats: &[u8], lens: &[u8], n: usize) -> usize
     requires { ⌜ Patterns (now pats) (now lens) n × (64 * stateCount (now pats) (now lens) n ≤ length (now rows)) × (8 * stateCount (now pats) (now lens) n ≤ length (now sets)) ⌝ }
     ensures rows { λ _. ⌜ now (rows .exit) ≡ over (sideRows (patternsOf (now (pats .entry)) (now (lens .entry)) n)) (now (rows .entry)) ⌝ }
     ensures sets { λ _. ⌜ now (sets .exit) ≡ over (sideSets (patternsOf (now (pats .entry)) (now (lens .entry)) n)) (now (sets .entry)) ⌝ }
+    ensures count { λ r. ⌜ r ≡ stateCount (now (pats .entry)) (now (lens .entry)) n ⌝ }
 {
     let count = number_all(rows, pats, lens, n);
     clear_sets(sets, count);
@@ -241,4 +242,5 @@ pub fn fill_side(rows: &mut [u16], sets: &mut [u64], pats: &[u8], lens: &[u8], n
         complete_level(rows, sets, count, pats, lens, n, d);
         d += 1;
     }
+    count
 }

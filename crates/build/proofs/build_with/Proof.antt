@@ -56,7 +56,7 @@ fill-requires : tie.Need-fill-requires
 fill-requires c κs =
     let a = c .before .before .before .before .before .before .before .before .before .before .before .before .before .before .before .before .before .count-side .ensures in
     let b = c .before .before .before .before .before .before .before .before .before .before .count-side2 .ensures in
-    (c .before .before .before .before .before .before .before .before .before .before .before .before .before .before .before .before .before .before .before .before .before .before .before .before .before .before .pre .0, c .before .before .before .before .before .before .before .before .before .before .before .before .before .before .before .before .before .before .before .before .two-at .ensures, a .is, b .is, a .few, b .few, omega (arith, c .before .before .before .before .before .if1 .left), omega (arith, c .before .before .before .before .if2 .left), b .scratch)
+    (c .before .before .before .before .before .before .before .before .before .before .before .before .before .before .before .before .before .before .before .before .before .before .before .before .before .before .pre .0, c .before .before .before .before .before .before .before .before .before .before .before .before .before .before .before .before .before .before .before .before .two-at .ensures, omega (arith, a .is, b .is, c .before .before .before .before .before .if1 .left), omega (arith, a .is, b .is, c .before .before .before .before .if2 .left), b .scratch)
 
 same-length-5 : tie.Need-same-length-5
 same-length-5 c = search needs

@@ -8,7 +8,7 @@ use borrow.Author.Needs.{needs}
 use lib.ListN.{length}
 use Rattle.rules.specs.Memory.{over}
 use Rattle.side.specs.Patterns.{stateCount}
-use Rattle.build.proofs.Whole.{side-ok, side-count, side-rows, side-sets}
+use Rattle.build.proofs.Whole.{side-ok, side-count, side-counted, side-rows, side-sets}
 use Rattle.build.proofs.fill_part.Statement.{statement}
 use Rattle.build.proofs.fill_part.Tie as tie
 
@@ -42,7 +42,7 @@ returns c =
     let p = c .before .before .before .before .before .before .before .before .before .before .before .before .before .patterns .ensures in
     let f = c .before .before .before .before .fill-side .ensures in (
       f .0 ∙ ap (λ (x : List ℕ). over x (st .args .rows .now)) (side-rows _ _ _ _ _ (st .pre .1) p),
-      (f .1 ∙ ap (λ (x : List ℕ). over x (st .args .sets .now)) (side-sets _ _ _ _ _ (st .pre .1) p), p .scratch),
+      (f .1 .0 ∙ ap (λ (x : List ℕ). over x (st .args .sets .now)) (side-sets _ _ _ _ _ (st .pre .1) p), side-counted _ _ _ _ _ (st .pre .1) p _ (f .1 .1)),
     )
 
 pub fill-part-spec : {M : Type 1} → statement M
