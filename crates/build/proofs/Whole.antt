@@ -84,20 +84,18 @@ module _ (d : List ℕ) (l r : ℕ) (el : l ≡ sideTable d false .count) (er : 
         let t : leb (wordsFor (entriesOf d)) (length ws) ≡ false = lt-leb (wordsFor (entriesOf d)) (length ws) (omega (arith, words-needed)) in
         rw t (ap (λ (n : ℕ). building (declined 11 n) ws ss) words-needed)
 
-    module _ (h : 2 + 64 * (l + r) ≤ length ws) where
-      t : leb (wordsFor (entriesOf d)) (length ws) ≡ true
-      t = le-leb (wordsFor (entriesOf d)) (length ws) (omega (arith, words-needed))
+    pub few-sets : 2 + 64 * (l + r) ≤ length ws → length ss < 8 * (l + r) → building (declined 12 (8 * (l + r))) ws ss ≡ builtFrom (entriesOf d) ws ss
+    few-sets h g =
+        let t : leb (wordsFor (entriesOf d)) (length ws) ≡ true = le-leb (wordsFor (entriesOf d)) (length ws) (omega (arith, words-needed)) in
+        let u : leb (setsFor (entriesOf d)) (length ss) ≡ false = lt-leb (setsFor (entriesOf d)) (length ss) (omega (arith, sets-needed)) in
+        rw (t, u) (ap (λ (n : ℕ). building (declined 12 n) ws ss) sets-needed)
 
-      pub few-sets : length ss < 8 * (l + r) → building (declined 12 (8 * (l + r))) ws ss ≡ builtFrom (entriesOf d) ws ss
-      few-sets g =
-          let u : leb (setsFor (entriesOf d)) (length ss) ≡ false = lt-leb (setsFor (entriesOf d)) (length ss) (omega (arith, sets-needed)) in
-          rw (t, u) (ap (λ (n : ℕ). building (declined 12 n) ws ss) sets-needed)
-
-      pub enough : 8 * (l + r) ≤ length ss → (ws′ ss′ : List ℕ) → ws′ ≡ over (builtWords (entriesOf d)) ws → ss′ ≡ over (builtSets (entriesOf d)) ss
-          → building accepted ws′ ss′ ≡ builtFrom (entriesOf d) ws ss
-      enough g ws′ ss′ e f =
-          let u : leb (setsFor (entriesOf d)) (length ss) ≡ true = le-leb (setsFor (entriesOf d)) (length ss) (omega (arith, sets-needed)) in
-          rw (t, u) (ap₂ (λ (x y : List ℕ). building accepted x y) e f)
+pub enough : (d ws ss : List ℕ) → wordsFor (entriesOf d) ≤ length ws → setsFor (entriesOf d) ≤ length ss → (ws′ ss′ : List ℕ)
+    → ws′ ≡ over (builtWords (entriesOf d)) ws → ss′ ≡ over (builtSets (entriesOf d)) ss → building accepted ws′ ss′ ≡ builtFrom (entriesOf d) ws ss
+enough d ws ss h g ws′ ss′ e f =
+    let t : leb (wordsFor (entriesOf d)) (length ws) ≡ true = le-leb (wordsFor (entriesOf d)) (length ws) h in
+    let u : leb (setsFor (entriesOf d)) (length ss) ≡ true = le-leb (setsFor (entriesOf d)) (length ss) g in
+    rw (t, u) (ap₂ (λ (x y : List ℕ). building accepted x y) e f)
 
 pub sets-built : (d : List ℕ) → setsOf (sideTable d false) ++ setsOf (sideTable d true) ≡ builtSets (entriesOf d)
 unfolding builtSets

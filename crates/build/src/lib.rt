@@ -129,18 +129,34 @@ fn fill(
     words[1] = r as u16;
 }
 
-// Builds the tables with scratch memory for the patterns of one side at a time, or says what is needed and touches no lent word.
-fn build_with(
+// No fewer than the states of both sides: each has one for the empty string, and each symbol of a pattern gives one at most.
+fn most_states(image: &[u8], n: usize) -> usize
+    requires { ⌜ (valid (now image) ≡ true) × (n ≡ two 0 (now image)) ⌝ }
+    ensures { λ r. ⌜ (sideTable (now (image .entry)) false .count + sideTable (now (image .entry)) true .count ≤ r) × (r ≤ 10242) ⌝ }
+{
+    let mut most: usize = 2;
+    let mut i: usize = 0;
+    while i < n {
+        let left = wide(pattern_len(image, i, false));
+        let right = wide(pattern_len(image, i, true));
+        most += left + right;
+        i += 1;
+    }
+    most
+}
+
+// Counts the states, then builds the tables or says what is needed and touches no lent word.
+fn build_counted(
     image: &[u8],
+    n: usize,
     pats: &mut [u8],
     lens: &mut [u8],
     words: &mut [u16],
     sets: &mut [u64],
 ) -> Answer
-    requires { ⌜ (valid (now image) ≡ true) × Scratch (now pats) (now lens) ⌝ }
+    requires { ⌜ (valid (now image) ≡ true) × (n ≡ two 0 (now image)) × Scratch (now pats) (now lens) ⌝ }
     ensures { λ r. ⌜ building (replyOf r) (now (words .exit)) (now (sets .exit)) ≡ builtFrom (entriesOf (now (image .entry))) (now (words .entry)) (now (sets .entry)) ⌝ }
 {
-    let n = image::two_at(image, 0) as usize;
     let l = count_side(image, n, false, pats, lens);
     let r = count_side(image, n, true, pats, lens);
     let needed = 2 + 64 * (l + r);
@@ -153,6 +169,27 @@ fn build_with(
     }
     fill(image, n, pats, lens, words, sets);
     Answer::Accepted
+}
+
+// Builds the tables with scratch memory for the patterns of one side at a time. Memory that has room for any ruleset of so many symbols
+// is filled at once; only where it has less are the states counted first.
+fn build_with(
+    image: &[u8],
+    pats: &mut [u8],
+    lens: &mut [u8],
+    words: &mut [u16],
+    sets: &mut [u64],
+) -> Answer
+    requires { ⌜ (valid (now image) ≡ true) × Scratch (now pats) (now lens) ⌝ }
+    ensures { λ r. ⌜ building (replyOf r) (now (words .exit)) (now (sets .exit)) ≡ builtFrom (entriesOf (now (image .entry))) (now (words .entry)) (now (sets .entry)) ⌝ }
+{
+    let n = image::two_at(image, 0) as usize;
+    let most = most_states(image, n);
+    if 2 + 64 * most <= words.len() && 8 * most <= sets.len() {
+        fill(image, n, pats, lens, words, sets);
+        return Answer::Accepted;
+    }
+    build_counted(image, n, pats, lens, words, sets)
 }
 
 // Builds the tables of an image that is known to be a ruleset. The scratch arrays are made once: with the tree of a count

@@ -1,9 +1,12 @@
--- What is needed is known before a lent word is written; then both sides are filled.
+-- `build::build_with` meets its contract: memory with room for as many states as there can be is filled at once, and else they are counted first.
 -- Assumes nothing.
+use Prim.Native.Nat.{_*_}
 use native.Mathlib.Omega.{arith}
+use lib.ListN.{length}
 use borrow.Author.Needs.{needs}
+use borrow.Author.Tests.{leb-true}
 use Rattle.image.proofs.Tests.{valid-long}
-use Rattle.build.proofs.Whole.{few-words, few-sets, enough}
+use Rattle.build.proofs.Whole.{enough}
 use Rattle.build.proofs.build_with.Statement.{statement}
 use Rattle.build.proofs.build_with.Tie as tie
 
@@ -13,20 +16,23 @@ two-at-requires c κs = omega (arith, valid-long _ (c .before .before .before .b
 cast-n : tie.Need-cast-n
 cast-n c = search needs
 
-count-side-requires : tie.Need-count-side-requires
-count-side-requires c κs = (c .before .before .before .before .before .before .before .before .pre .0, c .before .before .two-at .ensures, c .before .before .before .before .before .before .before .before .pre .1)
+most-states-requires : tie.Need-most-states-requires
+most-states-requires c κs = search needs
 
-count-side-requires-2 : tie.Need-count-side-requires-2
-count-side-requires-2 c κs = (c .before .before .before .before .before .before .before .before .before .before .before .before .before .before .before .pre .0, c .before .before .before .before .before .before .before .before .before .two-at .ensures, c .before .before .before .before .before .before .count-side .ensures .scratch)
+mul-if1 : tie.Need-mul-if1
+mul-if1 c = search needs
 
-add-needed : tie.Need-add-needed
-add-needed c = omega (arith, c .before .before .before .before .count-side2 .ensures .few, c .before .before .before .before .before .before .before .before .before .before .before .count-side .ensures .few)
+add-if1 : tie.Need-add-if1
+add-if1 c = search needs
 
-mul-needed : tie.Need-mul-needed
-mul-needed c = omega (arith, c .before .before .before .before .count-side2 .ensures .few, c .before .before .before .before .before .before .before .before .before .before .before .count-side .ensures .few)
+mul-if2 : tie.Need-mul-if2
+mul-if2 c = search needs
 
-add-needed-2 : tie.Need-add-needed-2
-add-needed-2 c = omega (arith, c .before .before .before .before .count-side2 .ensures .few, c .before .before .before .before .before .before .before .before .before .before .before .count-side .ensures .few)
+fill-requires : tie.Need-fill-requires
+fill-requires c κs =
+    let st = c .before .before .before .before .before .before .before .before .before .before .before .before .before in
+    let m = c .before .before .before .before .before .before .most-states .ensures .0 in
+    (st .pre .0, c .before .before .before .before .before .before .before .two-at .ensures, omega (arith, m, c .before .before .before .before .before .if1 .taken), omega (arith, m, leb-true (8 * c .before .before .before .before .before .before .most-states .result) (length (st .args .sets .now)) (c .before .before .before .before .if2 .taken)), st .pre .1)
 
 same-length : tie.Need-same-length
 same-length c = search needs
@@ -34,29 +40,21 @@ same-length c = search needs
 same-length-2 : tie.Need-same-length-2
 same-length-2 c = search needs
 
-returns : tie.Need-returns
-returns c = few-words _ _ _ (c .before .before .before .before .before .before .before .before .before .before .before .before .count-side .ensures .is) (c .before .before .before .before .before .count-side2 .ensures .is) _ _ (c .if1 .taken)
-
-add-places : tie.Need-add-places
-add-places c = omega (arith, c .before .before .before .before .before .count-side2 .ensures .few, c .before .before .before .before .before .before .before .before .before .before .before .before .count-side .ensures .few)
-
-mul-places : tie.Need-mul-places
-mul-places c = omega (arith, c .before .before .before .before .before .count-side2 .ensures .few, c .before .before .before .before .before .before .before .before .before .before .before .before .count-side .ensures .few)
-
 same-length-3 : tie.Need-same-length-3
 same-length-3 c = search needs
 
 same-length-4 : tie.Need-same-length-4
 same-length-4 c = search needs
 
-returns-2 : tie.Need-returns-2
-returns-2 c = few-sets _ _ _ (c .before .before .before .before .before .before .before .before .before .before .before .before .before .count-side .ensures .is) (c .before .before .before .before .before .before .count-side2 .ensures .is) _ _ (omega (arith, c .before .if1 .left)) (c .if2 .taken)
+returns : tie.Need-returns
+returns c =
+    let st = c .before .before .before .before .before .before .before .before .before .before .before .before .before .before .before .before .before .before .before .before .before .before in
+    let m = c .before .before .before .before .before .before .before .before .before .before .before .before .before .before .before .most-states .ensures .0 in
+    let f = c .before .before .before .before .before .before .before .before .fill .ensures in
+    enough _ (st .args .words .now) (st .args .sets .now) (omega (arith, m, c .before .before .before .before .before .before .before .before .before .before .before .before .before .before .if1 .taken)) (omega (arith, m, leb-true (8 * c .before .before .before .before .before .before .before .before .before .before .before .before .before .before .before .most-states .result) (length (st .args .sets .now)) (c .before .before .before .before .before .before .before .before .before .before .before .before .before .if2 .taken))) _ _ (f .0) (f .1)
 
-fill-requires : tie.Need-fill-requires
-fill-requires c κs =
-    let a = c .before .before .before .before .before .before .before .before .before .before .before .before .before .before .before .before .before .count-side .ensures in
-    let b = c .before .before .before .before .before .before .before .before .before .before .count-side2 .ensures in
-    (c .before .before .before .before .before .before .before .before .before .before .before .before .before .before .before .before .before .before .before .before .before .before .before .before .before .before .pre .0, c .before .before .before .before .before .before .before .before .before .before .before .before .before .before .before .before .before .before .before .before .two-at .ensures, omega (arith, a .is, b .is, c .before .before .before .before .before .if1 .left), omega (arith, a .is, b .is, c .before .before .before .before .if2 .left), b .scratch)
+build-counted-requires : tie.Need-build-counted-requires
+build-counted-requires c κs = search needs
 
 same-length-5 : tie.Need-same-length-5
 same-length-5 c = search needs
@@ -70,8 +68,8 @@ same-length-7 c = search needs
 same-length-8 : tie.Need-same-length-8
 same-length-8 c = search needs
 
-returns-3 : tie.Need-returns-3
-returns-3 c = enough _ _ _ (c .before .before .before .before .before .before .before .before .before .before .before .before .before .before .before .before .before .before .before .before .before .before .before .before .before .before .count-side .ensures .is) (c .before .before .before .before .before .before .before .before .before .before .before .before .before .before .before .before .before .before .before .count-side2 .ensures .is) _ _ (omega (arith, c .before .before .before .before .before .before .before .before .before .before .before .before .before .before .if1 .left)) (omega (arith, c .before .before .before .before .before .before .before .before .before .before .before .before .before .if2 .left)) _ _ (c .before .before .before .before .before .before .before .before .fill .ensures .0) (c .before .before .before .before .before .before .before .before .fill .ensures .1)
+returns-2 : tie.Need-returns-2
+returns-2 c = search needs
 
 pub build-with-spec : {M : Type 1} → statement M
 build-with-spec =
@@ -79,22 +77,19 @@ build-with-spec =
     (tie.spec
     two-at-requires
     cast-n
-    count-side-requires
-    count-side-requires-2
-    add-needed
-    mul-needed
-    add-needed-2
+    most-states-requires
+    mul-if1
+    add-if1
+    mul-if2
+    fill-requires
     same-length
     same-length-2
-    returns
-    add-places
-    mul-places
     same-length-3
     same-length-4
-    returns-2
-    fill-requires
+    returns
+    build-counted-requires
     same-length-5
     same-length-6
     same-length-7
     same-length-8
-    returns-3)
+    returns-2)

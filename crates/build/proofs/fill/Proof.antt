@@ -1,4 +1,4 @@
--- The left table and the right one, each into its part of the words; then the counts that the fillings gave.
+-- `build::fill` meets its contract: the left table and the right one go into their parts of the words; then the counts that the fillings gave are stored.
 -- Assumes nothing.
 use Prim.Native.Nat.{_*_, _≤_}
 use mathlib.Core.Bool.{false}

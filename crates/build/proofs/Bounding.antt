@@ -1,0 +1,64 @@
+-- The symbols of both sides' patterns, summed rule by rule, bound the states.
+-- Assumes nothing.
+use mathlib.Core.Path.{_≡_, refl, sym, ap, _∙_}
+use Prim.Native.Nat.{ℕ, _+_, _*_, _≤_, _<_}
+use native.Mathlib.Omega.{arith}
+use native.Mathlib.Numerals.{add-one}
+use mathlib.Core.Bool.{Bool, true, false}
+use mathlib.Core.List.{List, [], _∷_, _++_, map, map-append}
+use lib.ListN.{length, getD, take}
+use lib.Seq.{take-suc, take-all}
+use Rattle.rules.specs.Shape.{Entry}
+use Rattle.image.specs.Image.{two, entriesOf, valid}
+use Rattle.image.proofs.Tests.{valid-count}
+use Rattle.image.proofs.Entries.{entries-length}
+use Rattle.reading.specs.Fitting.{Str}
+use Rattle.reading.specs.Meaning.{noEntry}
+use Rattle.tables.proofs.Count.{total, states-total}
+use Rattle.build.specs.Sides.{sideOf, patternIn, sideTable}
+use Rattle.build.proofs.Symbols.{short}
+
+total-snoc : (l : List Str) (p : Str) → total (l ++ (p ∷ [])) ≡ total l + length p
+total-snoc [] p = omega arith
+total-snoc (x ∷ l) p = let e = total-snoc l p in omega arith
+
+module _ (d : List ℕ) where
+  -- the symbols of the patterns of the first i rules
+  abbrev symbols : Bool → ℕ → ℕ
+  symbols right i = total (map (sideOf right) (take i (entriesOf d)))
+
+  -- m is 2, and the symbols of the first i rules
+  pub record Bounding (m i : ℕ) : Type 0 where
+    pub reached : i ≤ two 0 d
+    pub is : m ≡ 2 + (symbols false i + symbols true i)
+    pub few : m ≤ 2 + 20 * i
+
+  pub begin : Bounding 2 0
+  begin = record { reached = omega arith; is = refl; few = omega arith }
+
+  symbols-next : (right : Bool) (i : ℕ) → i < two 0 d → symbols right (i + 1) ≡ symbols right i + length (patternIn d right i)
+  symbols-next right i h =
+      let es = entriesOf d in
+      ap (λ (k : ℕ). symbols right k) (add-one i)
+      ∙ ap (λ (l : List Entry). total (map (sideOf right) l)) (take-suc es i noEntry (omega (arith, entries-length d)))
+      ∙ ap total (map-append (sideOf right) (take i es) (getD es i noEntry ∷ []))
+      ∙ total-snoc (map (sideOf right) (take i es)) (patternIn d right i)
+
+  module _ (ok : valid d ≡ true) (m i : ℕ) (b : Bounding m i) where
+    -- one rule more, of a symbols left and c symbols right
+    pub next : i < two 0 d → (a c : ℕ) → a ≡ length (patternIn d false i) → c ≡ length (patternIn d true i) → Bounding (m + (a + c)) (i + 1)
+    next h a c e f =
+        record {
+          reached = omega arith;
+          is = omega (arith, b .is, symbols-next false i h, symbols-next true i h);
+          few = omega (arith, b .few, short d ok i h false, short d ok i h true);
+        }
+
+    pub finished : two 0 d ≤ i → (sideTable d false .count + sideTable d true .count ≤ m) × (m ≤ 10242)
+    finished h = (omega (arith, all false, all true, b .is), omega (arith, b .few, b .reached, valid-count d ok))
+      where
+        all : (right : Bool) → sideTable d right .count ≤ 1 + symbols right i
+        all right =
+            let e : symbols right i ≡ total (map (sideOf right) (entriesOf d)) =
+            ap (λ (l : List Entry). total (map (sideOf right) l)) (take-all i (entriesOf d) (omega (arith, entries-length d))) in
+            omega (arith, states-total (map (sideOf right) (entriesOf d)))
