@@ -19,10 +19,11 @@ use Rattle.tables.proofs.Words.{length-tab, getD-tab}
 use Rattle.side.specs.Patterns.{patternsOf, Patterns, stateCount}
 use Rattle.side.specs.Wrote.{Wrote, Past}
 use Rattle.side.specs.Steps.{cell, run, part, Inside, Symbols, Numbered}
-use Rattle.side.specs.Filled.{Level, Final, Owned, Finished, sideRows, sideSets}
+use Rattle.side.specs.Filled.{Level, Final, Owned, Finished, Raised, sideRows, sideSets}
 use Rattle.side.proofs.Inserting.{patterns-length, pattern-length}
 use Rattle.side.proofs.Parts.{patterns-at, part-is, part-tail, small-part, symbols-of, symbols-rest}
-use Rattle.side.proofs.Levels.{Cells, level-cells, numbered-cells, inside, run-own, run-fail}
+use Rattle.side.proofs.Prefixes.{prefix-member, prefix-early, count-early}
+use Rattle.side.proofs.Levels.{Cells, some-state, level-cells, numbered-cells, inside, run-own, run-fail}
 use Rattle.side.proofs.Rising as R
 use Rattle.side.proofs.Owning as O
 
@@ -43,7 +44,7 @@ module _ (ps ls : List ℕ) (n : ℕ) (ok : Patterns ps ls n) where
   st = states pats
 
   module _ (i : ℕ) (h : i < n) where
-    in-list : i < length pats
+    pub in-list : i < length pats
     in-list = omega (arith, patterns-length ps ls n)
 
     -- the first d symbols, and their run
@@ -57,11 +58,11 @@ module _ (ps ls : List ℕ) (n : ℕ) (ok : Patterns ps ls n) where
       pub run-is : (rows : List ℕ) → Cells pats rows → run (cell rows) 0 (part ps (10 * i) (10 * i + d)) ≡ index (take d (getD pats i [])) st
       run-is rows cs =
           run-own pats rows cs (part ps (10 * i) (10 * i + d)) (small-part ps (10 * i) (10 * i + d) symbols)
-          (ap (λ (w : Str). member w st) prefix-is ∙ R.prefix-member pats i d in-list)
+          (ap (λ (w : Str). member w st) prefix-is ∙ prefix-member pats i d in-list)
           ∙ ap (λ (w : Str). index w st) prefix-is
 
       pub prefix-lt : (rows : List ℕ) → Cells pats rows → run (cell rows) 0 (part ps (10 * i) (10 * i + d)) < length st
-      prefix-lt rows cs = rw (run-is rows cs) (index-lt (take d (getD pats i [])) st (R.prefix-member pats i d in-list))
+      prefix-lt rows cs = rw (run-is rows cs) (index-lt (take d (getD pats i [])) st (prefix-member pats i d in-list))
 
     -- ---- the own sets
 
@@ -74,7 +75,7 @@ module _ (ps ls : List ℕ) (n : ℕ) (ok : Patterns ps ls n) where
         → Wrote sets (8 * q + i / 64) 1 (λ _. bitOr (getD sets (8 * q + i / 64) 0) (2 ^ (i % 64))) sets′ → Owned pats (i + 1) sets′
     own-next rows sets sets′ q e count nb own f g w =
         O.put pats i in-list q sets sets′ own
-        (subst (λ (x : Str). member x st ≡ true) pattern-is (R.prefix-member pats i (getD ls i 0) in-list))
+        (subst (λ (x : Str). member x st ≡ true) pattern-is (prefix-member pats i (getD ls i 0) in-list))
         (g ∙ ap (λ (k : ℕ). run (cell rows) 0 (part ps (10 * i) k)) f ∙ run-is (getD ls i 0) (omega arith) rows (numbered-cells pats rows nb) ∙ ap (λ (x : Str). index x st) pattern-is)
         w (omega (arith, ok .few))
 
@@ -107,6 +108,9 @@ module _ (ps ls : List ℕ) (n : ℕ) (ok : Patterns ps ls n) where
         pub differ : run (cell rows) 0 (part ps (10 * i) (10 * i + d)) ≡ run (cell rows) 0 (part ps (10 * i + 1) (10 * i + d)) → ⊥
         differ e = R.differ pats rows sets d i lv in-list pos (long-is d l) (sym q-is ∙ e ∙ f-is)
 
+        pub level-again : run (cell rows) 0 (part ps (10 * i) (10 * i + d)) < length (states (take i pats)) → Level pats rows sets d (i + 1)
+        level-again low = R.again pats rows sets d i lv in-list pos (long-is d l) (subst (λ (q : ℕ). q < length (states (take i pats))) q-is low)
+
         pub level-next : (rows′ sets′ : List ℕ)
             → Finished rows sets (run (cell rows) 0 (part ps (10 * i) (10 * i + d))) (run (cell rows) 0 (part ps (10 * i + 1) (10 * i + d))) rows′ sets′ → Level pats rows′ sets′ d (i + 1)
         level-next rows′ sets′ f =
@@ -128,26 +132,42 @@ module _ (ps ls : List ℕ) (n : ℕ) (ok : Patterns ps ls n) where
 -- ---- the loop over the patterns at one length
 
 module _ (ps ls : List ℕ) (n count d : ℕ) (xs zs : List ℕ) where
-  pub record Rising (rows sets : List ℕ) (i : ℕ) : Type 0 where
+  -- top is a state of the first i patterns, so that the states of d symbols up to it are finished
+  pub record Rising (rows sets : List ℕ) (top i : ℕ) : Type 0 where
     pub reached : i ≤ n
     pub level : Level (patternsOf ps ls n) rows sets d i
+    pub low : top < length (states (take i (patternsOf ps ls n)))
     pub rowsPast : Past (64 * count) xs rows
     pub setsPast : Past (8 * count) zs sets
 
-module _ (ps ls : List ℕ) (n count d : ℕ) (xs zs : List ℕ) (ok : Patterns ps ls n) (cn : count ≡ stateCount ps ls n) (room : 64 * count ≤ length xs) (place : 8 * count ≤ length zs) (pos : 0 < d) where
-  pub rise-begin : Level (patternsOf ps ls n) xs zs d 0 → Rising ps ls n count d xs zs xs zs 0
-  rise-begin lv = record { reached = omega arith; level = lv; rowsPast = past-none (64 * count) xs; setsPast = past-none (8 * count) zs }
+pub rise-same : {ps ls xs zs rows sets rows′ sets′ : List ℕ} {n count d i top top′ : ℕ} → rows′ ≡ rows → sets′ ≡ sets → top′ ≡ top → Rising ps ls n count d xs zs rows sets top i → Rising ps ls n count d xs zs rows′ sets′ top′ i
+rise-same {ps} {ls} {xs} {zs} {rows} {sets} {rows′} {sets′} {n} {count} {d} {i} {top} {top′} a b e r =
+    subst (λ (t : ℕ). Rising ps ls n count d xs zs rows′ sets′ t i) (sym e) (subst₂ (λ (x y : List ℕ). Rising ps ls n count d xs zs x y top i) (sym a) (sym b) r)
 
-  module _ (rows sets : List ℕ) (i : ℕ) (r : Rising ps ls n count d xs zs rows sets i) where
+module _ (ps ls : List ℕ) (n count d : ℕ) (xs zs : List ℕ) (ok : Patterns ps ls n) (cn : count ≡ stateCount ps ls n) (room : 64 * count ≤ length xs) (place : 8 * count ≤ length zs) (pos : 0 < d) where
+  pub rise-begin : Level (patternsOf ps ls n) xs zs d 0 → Rising ps ls n count d xs zs xs zs 0 0
+  rise-begin lv = record { reached = omega arith; level = lv; low = some-state []; rowsPast = past-none (64 * count) xs; setsPast = past-none (8 * count) zs }
+
+  module _ (rows sets : List ℕ) (top i : ℕ) (r : Rising ps ls n count d xs zs rows sets top i) where
     pub rise-end : n ≤ i → (Level (patternsOf ps ls n) rows sets (d + 1) 0) × (Past (64 * count) xs rows) × (Past (8 * count) zs sets)
     rise-end h =
         let e : i ≡ n = omega (arith, r .reached) in
         (level-end ps ls n ok rows sets d pos (subst (Level (patternsOf ps ls n) rows sets d) e (r .level)), r .rowsPast, r .setsPast)
 
     module _ (h : i < n) where
-      pub rise-skip : getD ls i 0 < d → Rising ps ls n count d xs zs rows sets (i + 1)
-      rise-skip l =
-          record { reached = omega arith; level = level-skip ps ls n ok i h rows sets d (r .level) l; rowsPast = r .rowsPast; setsPast = r .setsPast }
+      -- the level is known up to pattern i, which changed nothing
+      rise-on : Level (patternsOf ps ls n) rows sets d (i + 1) → Rising ps ls n count d xs zs rows sets top (i + 1)
+      rise-on lv =
+          record {
+            reached = omega arith;
+            level = lv;
+            low = omega (arith, r .low, count-early (patternsOf ps ls n) i (in-list ps ls n ok i h));
+            rowsPast = r .rowsPast;
+            setsPast = r .setsPast;
+          }
+
+      pub rise-skip : getD ls i 0 < d → Rising ps ls n count d xs zs rows sets top (i + 1)
+      rise-skip l = rise-on (level-skip ps ls n ok i h rows sets d (r .level) l)
 
       module _ (l : d ≤ getD ls i 0) where
         abbrev q : ℕ
@@ -162,18 +182,31 @@ module _ (ps ls : List ℕ) (n count d : ℕ) (xs zs : List ℕ) (ok : Patterns 
         pub rise-asks : (Inside rows count) × (8 * count ≤ length sets) × (Symbols ps (10 * i) (10 * i + d)) × (10 * i < 10 * i + d) × (q ≡ f → ⊥)
         rise-asks = (within, omega (arith, r .setsPast .len), symbols ps ls n ok i h d l, omega arith, differ ps ls n ok i h rows sets d (r .level) pos l)
 
-        pub rise-next : (rows′ sets′ : List ℕ) → Finished rows sets q f rows′ sets′ → Rising ps ls n count d xs zs rows′ sets′ (i + 1)
-        rise-next rows′ sets′ fin =
-            let b = prefix-lt ps ls n ok i h d l rows (level-cells (patternsOf ps ls n) rows sets d i (r .level)) in
+        cells : Cells (patternsOf ps ls n) rows
+        cells = level-cells (patternsOf ps ls n) rows sets d i (r .level)
+
+        rise-up : (rows′ sets′ : List ℕ) → Finished rows sets q f rows′ sets′ → Rising ps ls n count d xs zs rows′ sets′ q (i + 1)
+        rise-up rows′ sets′ fin =
+            let b = prefix-lt ps ls n ok i h d l rows cells in
             record {
               reached = omega arith;
               level = level-next ps ls n ok i h rows sets d (r .level) pos l rows′ sets′ fin;
+              low = rw (run-is ps ls n ok i h d l rows cells) (prefix-early (patternsOf ps ls n) i (in-list ps ls n ok i h) d);
               rowsPast = past-more (64 * count) xs rows rows′ (r .rowsPast) (past-wrote (64 * count) (64 * q) 64 _ rows rows′ (fin .row) (omega (arith, cn)));
               setsPast = past-more (8 * count) zs sets sets′ (r .setsPast) (past-wrote (8 * count) (8 * q) 8 _ sets sets′ (fin .set) (omega (arith, cn)));
             }
 
-pub rise-same : {ps ls xs zs rows sets rows′ sets′ : List ℕ} {n count d i : ℕ} → rows′ ≡ rows → sets′ ≡ sets → Rising ps ls n count d xs zs rows sets i → Rising ps ls n count d xs zs rows′ sets′ i
-rise-same {ps} {ls} {xs} {zs} {rows} {sets} {rows′} {sets′} {n} {count} {d} {i} a b r = subst₂ (λ (x y : List ℕ). Rising ps ls n count d xs zs x y i) (sym a) (sym b) r
+        -- the state of pattern i is an earlier one's, or it is completed now
+        pub rise-next : (u : ℕ) (rows′ sets′ : List ℕ) → Raised rows sets q f top u rows′ sets′ → Rising ps ls n count d xs zs rows′ sets′ u (i + 1)
+        rise-next u rows′ sets′ fin = go (decLe q top)
+          where
+            go : Dec (q ≤ top) → Rising ps ls n count d xs zs rows′ sets′ u (i + 1)
+            go (yes y) =
+                let o = fin .old y in
+                rise-same (o .1 .0) (o .1 .1) (o .0) (rise-on (level-again ps ls n ok i h rows sets d (r .level) pos l (omega (arith, r .low))))
+            go (no y) =
+                let o = fin .new (omega arith) in
+                rise-same refl refl (o .0) (rise-up rows′ sets′ (o .1))
 
 -- ---- the loop that puts each place into its own state's set
 

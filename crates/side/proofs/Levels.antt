@@ -3,28 +3,26 @@
 use mathlib.Core.Path.{_≡_, refl, sym, ap, ap₂, _∙_, subst, subst₂}
 use mathlib.Core.Logic.{_⊎_, inl, inr, ⊎-elim}
 use Prim.Native.Nat.{ℕ, zero, suc, _+_, _*_, _/_, _%_, _≤_, _<_, zero-le, suc-le-suc}
-use native.Mathlib.Nat.{not-suc-le-zero}
 use native.Mathlib.Omega.{arith}
 use mathlib.Core.Bool.{Bool, true, false, cond, _||_, or-true, or-false}
 use mathlib.Core.List.{List, [], _∷_, _++_, append-nil}
-use lib.Dec.{eqb, eqb→eq}
+use lib.Dec.{eqb}
 use lib.Bits.{bitOr}
-use lib.ListN.{length, getD, take, length-append}
+use lib.ListN.{length, getD, length-append}
 use lib.Seq.{append-snoc}
 use Rattle.rules.proofs.Cases.{byBool}
-use Rattle.reading.specs.Fitting.{Str, same, starts, ends}
+use Rattle.reading.specs.Fitting.{Str, same, ends}
 use Rattle.tables.specs.States.{longest, member, index, states, numbered, entry}
-use Rattle.tables.proofs.Trie.{child, failure, startsAny}
-use Rattle.tables.proofs.Truth.{clash, true-eq, and-left, and-right}
+use Rattle.tables.proofs.Trie.{child, failure}
 use Rattle.tables.proofs.Suffix.{same-refl, Closed, longest-passes}
 use Rattle.tables.proofs.Symbols.{Small}
 use Rattle.tables.specs.Words.{pack}
-use Rattle.tables.proofs.Numbering.{getD-index, index-lt, numbered-closed, numbered-nil, numbered-is, numbered-pattern, index-nil}
+use Rattle.tables.proofs.Numbering.{getD-index, index-lt, numbered-closed, numbered-nil, numbered-pattern, index-nil}
 use Rattle.tables.proofs.Build.{entry-child, entry-word, entry-fail, ends-failure, complete-row}
 use Rattle.tables.proofs.Sets.{pack-or}
 use Rattle.side.specs.Wrote.{Wrote}
 use Rattle.side.specs.Steps.{cell, run, Inside, Numbered, completed, united}
-use Rattle.side.specs.Filled.{atPlace, owns, holds, word, Final, Young, Level, Finished}
+use Rattle.side.specs.Filled.{atPlace, owns, holds, word, Final, Young, Level, Finished, Raised}
 
 -- ---- sets
 
@@ -49,30 +47,6 @@ or-again true b c e = rw e
 or-again false true c e = rw e
 or-again false false c e = or-false c
 
--- ---- patterns and their prefixes
-
-starts-take : (s p : Str) → starts s p ≡ true → (take (length s) p ≡ s) × (length s ≤ length p)
-starts-take [] p e = (refl, zero-le)
-starts-take (x ∷ s) [] e = clash e refl
-starts-take (x ∷ s) (y ∷ p) e =
-    let a : x ≡ y = eqb→eq x y (true-eq (eqb x y) (and-left (eqb x y) (starts s p) e)) in
-    let r = starts-take s p (and-right (eqb x y) (starts s p) e) in
-    (ap₂ _∷_ (sym a) (r .0), suc-le-suc (r .1))
-
--- a pattern that s starts
-pub record Starts (s : Str) (pats : List Str) : Type 0 where
-  pub place : ℕ
-  pub inside : place < length pats
-  pub is : take (length s) (getD pats place []) ≡ s
-  pub long : length s ≤ length (getD pats place [])
-
-starts-any : (s : Str) (pats : List Str) → startsAny s pats ≡ true → Starts s pats
-starts-any s [] e = clash e refl
-starts-any s (p ∷ l) e =
-    byBool (starts s p)
-    (λ t. record { place = 0; inside = suc-le-suc zero-le; is = starts-take s p t .0; long = starts-take s p t .1 })
-    (λ t. let r = starts-any s l (rw t at e) in record { place = suc (r .place); inside = suc-le-suc (r .inside); is = r .is; long = r .long })
-
 -- ---- the table of a list of patterns
 
 module _ (pats : List Str) where
@@ -94,11 +68,6 @@ module _ (pats : List Str) where
   pub child-lt : (q c : ℕ) → child st q c < length st
   child-lt q c =
       byBool (member (getD st q [] ++ (c ∷ [])) st) (λ t. rw t (index-lt (getD st q [] ++ (c ∷ [])) st t)) (λ t. rw t some-state)
-
-  -- a numbered string that is not empty starts a pattern
-  pub started : (s : Str) → 0 < length s → member s st ≡ true → Starts s pats
-  started [] h m = absurd (not-suc-le-zero h)
-  started (x ∷ s) h m = starts-any (x ∷ s) pats (sym (numbered-is pats (x ∷ s)) ∙ m)
 
   -- each cell holds an entry or a child
   abbrev pub Cells : List ℕ → Type 0
@@ -211,5 +180,14 @@ module _ (pats : List Str) where
             set = λ j l. set-of (owns pats (getD st q [])) j l (y .set j l) own-or;
           }
 
-pub joined : {rows sets rows′ sets′ : List ℕ} {q f : ℕ} (u v : ℕ) → q ≡ u → f ≡ v → Wrote rows (64 * q) 64 (completed rows q f) rows′ → Wrote sets (8 * q) 8 (united sets q f) sets′ → Finished rows sets u v rows′ sets′
-joined {rows} {sets} {rows′} {sets′} {q} {f} u v a b r s = subst₂ (λ (x y : ℕ). Finished rows sets x y rows′ sets′) a b (record { row = r; set = s })
+-- q and f are copies of u and v: q is no higher than top, or it is completed from f
+pub raised-old : {rows sets : List ℕ} {q u v top : ℕ} → q ≡ u → q ≤ top → Raised rows sets u v top top rows sets
+raised-old a h = record { old = λ l. (refl, (refl, refl)); new = λ l. absurd (omega arith) }
+
+pub raised-new : {rows sets rows′ sets′ : List ℕ} {q f top : ℕ} (u v : ℕ) → q ≡ u → f ≡ v → top < q → Wrote rows (64 * q) 64 (completed rows q f) rows′ → Wrote sets (8 * q) 8 (united sets q f) sets′
+    → Raised rows sets u v top q rows′ sets′
+raised-new {rows} {sets} {rows′} {sets′} {q} {f} {top} u v a b h r s =
+    record {
+      old = λ l. absurd (omega arith);
+      new = λ l. (a, subst₂ (λ (x y : ℕ). Finished rows sets x y rows′ sets′) a b (record { row = r; set = s }));
+    }

@@ -1,28 +1,30 @@
 -- The loop over the patterns at one length, and the loop over the lengths.
 -- Assumes nothing.
-use mathlib.Core.Path.{_≡_, refl, sym, ap, _∙_, subst}
+use mathlib.Core.Path.{_≡_, refl, sym, ap, ap₂, _∙_, subst}
 use mathlib.Core.Logic.{_≢_, _⊎_, inl, inr, ⊎-elim}
-use Prim.Native.Nat.{ℕ, zero, suc, _+_, _*_, _≤_, _<_, zero-le, suc-le-suc}
+use Prim.Native.Nat.{ℕ, suc, _+_, _*_, _≤_, _<_, zero-le, suc-le-suc}
 use native.Mathlib.Nat.{le-of-suc-le-suc, not-suc-le-zero}
 use native.Mathlib.Omega.{arith}
 use native.Mathlib.Decide.{decLe}
-use mathlib.Core.Bool.{true, or-true}
+use mathlib.Core.Bool.{true}
 use mathlib.Core.List.{List, [], _∷_, tail}
-use lib.Dec.{eqb, eqb→eq, eqb-refl}
+use lib.Dec.{eqb, eqb→eq}
 use lib.ListN.{length, getD, take, length-take}
+use lib.Seq.{getD-take}
 use borrow.Author.Tests.{eqb-false}
 use Rattle.rules.proofs.Cases.{byBool}
-use Rattle.reading.specs.Fitting.{Str, same, starts}
+use Rattle.reading.specs.Fitting.{Str}
 use Rattle.tables.specs.States.{longest, member, index, states, numbered, entry}
-use Rattle.tables.proofs.Trie.{child, failure, startsAny}
-use Rattle.tables.proofs.Truth.{true-eq, eq-true}
-use Rattle.tables.proofs.Suffix.{same-refl, longest-passes}
-use Rattle.tables.proofs.Numbering.{getD-index, index-lt, index-getD, numbered-closed, numbered-nil, numbered-is, distinct-states, index-nil}
+use Rattle.tables.proofs.Trie.{child, failure}
+use Rattle.tables.proofs.Truth.{true-eq}
+use Rattle.tables.proofs.Suffix.{longest-passes}
+use Rattle.tables.proofs.Numbering.{getD-index, index-lt, index-getD, numbered-closed, numbered-nil, distinct-states, index-nil}
 use Rattle.tables.proofs.Build.{failure-shorter}
 use Rattle.side.specs.Wrote.{Wrote}
 use Rattle.side.specs.Steps.{cell, Numbered}
 use Rattle.side.specs.Filled.{owns, holds, word, Final, Young, Level, Owned, Finished}
-use Rattle.side.proofs.Levels.{completes, started}
+use Rattle.side.proofs.Prefixes.{started, member-at, prefix-member, starts-early}
+use Rattle.side.proofs.Levels.{completes}
 
 -- ---- what is not written stays
 
@@ -55,23 +57,6 @@ module _ (pats : List Str) (rows sets rows′ sets′ : List ℕ) (q f : ℕ) (d
         set = λ j l. set-kept sets sets′ q k _ (done .set) d j l ∙ z .set j l;
       }
 
--- ---- prefixes are numbered
-
-take-starts : (d : ℕ) (p : Str) → starts (take d p) p ≡ true
-take-starts zero p = refl
-take-starts (suc d) [] = refl
-take-starts (suc d) (x ∷ p) = rw (eq-true (eqb x x) (eqb-refl x)) (take-starts d p)
-
-any-at : (s : Str) (l : List Str) (i : ℕ) → i < length l → starts s (getD l i []) ≡ true → startsAny s l ≡ true
-any-at s [] i h e = absurd (not-suc-le-zero h)
-any-at s (x ∷ l) zero h e = rw e
-any-at s (x ∷ l) (suc i) h e = rw (any-at s l i (le-of-suc-le-suc h) e) (or-true (starts s x))
-
-pub prefix-member : (pats : List Str) (i d : ℕ) → i < length pats → member (take d (getD pats i [])) (states pats) ≡ true
-prefix-member pats i d h =
-    let w = take d (getD pats i []) in
-    numbered-is pats w ∙ rw (any-at w pats i h (take-starts d (getD pats i []))) (or-true (same w []))
-
 record Cons (w : Str) : Type 0 where
   head : ℕ
   rest : Str
@@ -90,21 +75,21 @@ module _ (pats : List Str) (rows sets : List ℕ) (d i : ℕ) (lv : Level pats r
   abbrev p : Str
   p = getD pats i []
 
+  -- what is said of the patterns before i, and of pattern i
+  these-next : (rows′ sets′ : List ℕ) → ((k : ℕ) → k < i → d ≤ length (getD pats k []) → Final pats rows′ sets′ (index (take d (getD pats k [])) st))
+      → (d ≤ length p → Final pats rows′ sets′ (index (take d p) st))
+      → (k : ℕ) → k < i + 1 → d ≤ length (getD pats k []) → Final pats rows′ sets′ (index (take d (getD pats k [])) st)
+  these-next rows′ sets′ f g k m l = go (decLe (suc k) i)
+    where
+      go : Dec (k < i) → Final pats rows′ sets′ (index (take d (getD pats k [])) st)
+      go (yes y) = f k y l
+      go (no y) =
+          let e : i ≡ k = omega arith in
+          subst (λ (n : ℕ). d ≤ length (getD pats n []) → Final pats rows′ sets′ (index (take d (getD pats n [])) st)) e g l
+
   -- a shorter pattern has nothing to complete
   pub skip : length p < d → Level pats rows sets d (i + 1)
-  skip l =
-      record {
-        final = lv .final;
-        these = λ k m g. both k m g (decLe (suc k) i);
-        either = lv .either;
-      }
-    where
-      both : (k : ℕ) → k < i + 1 → d ≤ length (getD pats k []) → Dec (k < i) → Final pats rows sets (index (take d (getD pats k [])) st)
-      both k m g (yes y) = lv .these k y g
-      both k m g (no y) =
-          let e : k ≡ i = omega arith in
-          let z : d ≤ length p = subst (λ (n : ℕ). d ≤ length (getD pats n [])) e g in
-          absurd (omega arith)
+  skip l = record { final = lv .final; these = these-next rows sets (lv .these) (λ g. absurd (omega arith)); either = lv .either }
 
   module _ (pos : 0 < d) (l : d ≤ length p) where
     abbrev w : Str
@@ -124,6 +109,19 @@ module _ (pats : List Str) (rows sets : List ℕ) (d i : ℕ) (lv : Level pats r
 
     cons : Cons w
     cons = cons-of w (omega (arith, len))
+
+    -- a state of an earlier pattern is finished already
+    pub again : q < length (states (take i pats)) → Level pats rows sets d (i + 1)
+    again low = record { final = lv .final; these = these-next rows sets (lv .these) (λ g. done); either = lv .either }
+      where
+        done : Final pats rows sets q
+        done =
+            let s = starts-early pats i q low (omega (arith, ap length str, len)) in
+            let n : length (take i pats) ≡ i = simp length-take (omega arith) in
+            let k : s .place < i = omega (arith, s .inside) in
+            let g : getD (take i pats) (s .place) [] ≡ getD pats (s .place) [] = getD-take i pats (s .place) [] k in
+            let e : take d (getD pats (s .place) []) ≡ w = ap₂ (λ (m : ℕ) (x : Str). take m x) (sym (ap length str ∙ len)) (sym g) ∙ s .is ∙ str in
+            subst (λ (x : Str). Final pats rows sets (index x st)) e (lv .these (s .place) k (omega (arith, s .long, ap length g, ap length str, len)))
 
     shorter : length (getD st (failure st q) []) < d
     shorter = omega (arith, failure-shorter st (numbered-nil pats) (numbered-closed pats) q (cons .head) (cons .rest) (str ∙ cons .is), ap length str, len)
@@ -160,26 +158,15 @@ module _ (pats : List Str) (rows sets : List ℕ) (d i : ℕ) (lv : Level pats r
       next =
           record {
             final = λ k m g. keep k (lv .final k m g);
-            these = λ k m g. both k m g (decLe (suc k) i);
+            these = these-next rows′ sets′ (λ k m g. keep (index (take d (getD pats k [])) st) (lv .these k m g)) (λ g. new);
             either = λ k m. ⊎-elim (λ z. inl (keep k z)) (λ z. keep-young k z) (lv .either k m);
           }
-        where
-          both : (k : ℕ) → k < i + 1 → d ≤ length (getD pats k []) → Dec (k < i) → Final pats rows′ sets′ (index (take d (getD pats k [])) st)
-          both k m g (yes y) = keep (index (take d (getD pats k [])) st) (lv .these k y g)
-          both k m g (no y) =
-              let e : i ≡ k = omega arith in
-              subst (λ (n : ℕ). Final pats rows′ sets′ (index (take d (getD pats n [])) st)) e new
 
 -- ---- from one length to the next
 
 module _ (pats : List Str) (rows sets : List ℕ) where
   abbrev all : List Str
   all = states pats
-
-  member-at : (l : List Str) (q : ℕ) → q < length l → member (getD l q []) l ≡ true
-  member-at [] q h = absurd (not-suc-le-zero h)
-  member-at (x ∷ l) zero h = rw (same-refl x)
-  member-at (x ∷ l) (suc q) h = rw (member-at l q (le-of-suc-le-suc h)) (or-true (same (getD l q []) x))
 
   pub level-end : (d : ℕ) → 0 < d → Level pats rows sets d (length pats) → Level pats rows sets (d + 1) 0
   level-end d pos lv =

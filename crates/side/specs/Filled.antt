@@ -64,3 +64,8 @@ pub record Owned (pats : List Str) (i : ℕ) (sets : List ℕ) : Type 0 where
 pub record Finished (rows sets : List ℕ) (q f : ℕ) (rows′ sets′ : List ℕ) : Type 0 where
   pub row : Wrote rows (64 * q) 64 (completed rows q f) rows′
   pub set : Wrote sets (8 * q) 8 (united sets q f) sets′
+
+-- state q is finished from f where it lies above top, and r is the higher of both
+pub record Raised (rows sets : List ℕ) (q f top r : ℕ) (rows′ sets′ : List ℕ) : Type 0 where
+  pub old : q ≤ top → (r ≡ top) × ((rows′ ≡ rows) × (sets′ ≡ sets))
+  pub new : top < q → (r ≡ q) × Finished rows sets q f rows′ sets′

@@ -10,7 +10,7 @@ ghost use Rattle.side.specs.Patterns.{patternsOf, Patterns, stateCount};
 ghost use Rattle.side.specs.Wrote.{Wrote, Past};
 ghost use Rattle.side.specs.Steps.{cell, run, part, Inside, Symbols, Descended, Numbered, Counted, completed, united};
 ghost use Rattle.tables.specs.States.{states};
-ghost use Rattle.side.specs.Filled.{Level, Owned, Finished, sideRows, sideSets};
+ghost use Rattle.side.specs.Filled.{Level, Owned, Raised, sideRows, sideSets};
 
 fn wide(x: u8) -> usize
     ensures { λ r. ⌜ r ≡ x ⌝ }
@@ -190,19 +190,32 @@ fn own_sets(sets: &mut [u64], rows: &[u16], count: usize, pats: &[u8], lens: &[u
 
 // ---- completed from the failure states
 
-// The row and the set of the state of the symbols from a to e, from those of its failure state.
-fn complete_one(rows: &mut [u16], sets: &mut [u64], count: usize, pats: &[u8], a: usize, e: usize)
+// The row and the set of the state of the symbols from a to e, from those of its failure state, where it lies above `top`.
+// Gives the higher of both.
+fn complete_one(
+    rows: &mut [u16],
+    sets: &mut [u64],
+    count: usize,
+    pats: &[u8],
+    a: usize,
+    e: usize,
+    top: usize,
+) -> usize
     requires { ⌜ Inside (now rows) count × (8 * count ≤ length (now sets)) × Symbols (now pats) a e × (a < e) × (run (cell (now rows)) 0 (part (now pats) a e) ≡ run (cell (now rows)) 0 (part (now pats) (a + 1) e) → ⊥) ⌝ }
-    ensures { λ _. ⌜ Finished (now (rows .entry)) (now (sets .entry)) (run (cell (now (rows .entry))) 0 (part (now (pats .entry)) a e)) (run (cell (now (rows .entry))) 0 (part (now (pats .entry)) (a + 1) e)) (now (rows .exit)) (now (sets .exit)) ⌝ }
+    ensures { λ r. ⌜ Raised (now (rows .entry)) (now (sets .entry)) (run (cell (now (rows .entry))) 0 (part (now (pats .entry)) a e)) (run (cell (now (rows .entry))) 0 (part (now (pats .entry)) (a + 1) e)) top r (now (rows .exit)) (now (sets .exit)) ⌝ }
 {
     let q = state_of(rows, count, pats, a, e);
+    if q <= top {
+        return top;
+    }
     let b = a + 1;
     let f = state_of(rows, count, pats, b, e);
     complete_row(rows, q, f);
     unite(sets, q, f);
+    q
 }
 
-// The states of d symbols are completed.
+// The states of d symbols are completed, each once: a state that is no higher than one of an earlier pattern is complete.
 fn complete_level(
     rows: &mut [u16],
     sets: &mut [u64],
@@ -215,13 +228,14 @@ fn complete_level(
     requires { ⌜ Patterns (now pats) (now lens) n × (count ≡ stateCount (now pats) (now lens) n) × (64 * count ≤ length (now rows)) × (8 * count ≤ length (now sets)) × (0 < d) × (d < 11) × Level (patternsOf (now pats) (now lens) n) (now rows) (now sets) d 0 ⌝ }
     ensures { λ _. ⌜ Level (patternsOf (now (pats .entry)) (now (lens .entry)) n) (now (rows .exit)) (now (sets .exit)) (d + 1) 0 × Past (64 * count) (now (rows .entry)) (now (rows .exit)) × Past (8 * count) (now (sets .entry)) (now (sets .exit)) ⌝ }
 {
+    let mut top: usize = 0;
     let mut i: usize = 0;
     while i < n {
         let len = wide(lens[i]);
         if d <= len {
             let a = 10 * i;
             let e = a + d;
-            complete_one(rows, sets, count, pats, a, e);
+            top = complete_one(rows, sets, count, pats, a, e, top);
         }
         i += 1;
     }
