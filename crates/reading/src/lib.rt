@@ -82,14 +82,15 @@ fn copy(src: &[u8], from: usize, dst: &mut [u8], to: usize, len: usize)
     }
 }
 
-// The frame of a name: # at 0 and after its last letter.
-pub fn framed(name: &[u8]) -> [u8; 66]
-    requires { ⌜ length (now name) ≤ 64 ⌝ }
-    ensures { λ r. ⌜ r ≡ first 66 (frame (now (name .entry))) 0 ⌝ }
+// The frame of a name is laid at the start of `f`: # at 0 and after its last letter.
+pub fn lay_frame(name: &[u8], f: &mut [u8])
+    requires { ⌜ length (now name) + 2 ≤ length (now f) ⌝ }
+    ensures { λ _. ⌜ now (f .exit) ≡ over (frame (now (name .entry))) (now (f .entry)) ⌝ }
 {
-    let mut f = [0u8; 66];
-    copy(name, 0, &mut f, 1, name.len());
-    f
+    let n = name.len();
+    f[0] = 0;
+    copy(name, 0, f, 1, n);
+    f[n + 1] = 0;
 }
 
 // Whether the `len` bytes of `a` from `at` on are those of `b` from `to` on.
@@ -258,7 +259,8 @@ fn read_letters(image: &[u8], name: &[u8], phones: &mut [u8], numbers: &mut [u16
     requires { ⌜ (valid (now image) ≡ true) × (length (now name) ≤ 64) ⌝ }
     ensures { λ r. ⌜ saying (toldOf r) (now (phones .exit)) (now (numbers .exit)) ≡ delivered (plain (entriesOf (now (image .entry))) (now (name .entry))) (now (phones .entry)) (now (numbers .entry)) ⌝ }
 {
-    let frame = framed(name);
+    let mut frame = [0u8; 66];
+    lay_frame(name, &mut frame);
     let end = name.len() + 2;
     let mut places = [0u16; 64];
     let applied = read_places(image, &frame[..end], &mut places);

@@ -1,30 +1,31 @@
--- Reading by reached letters: what the place found at one gives, and the loop that has applied `count` rules and stands at i.
+-- Reading by reached letters: what the place found at one gives, and the loop of reading (reading/proofs/Loop) with these choices.
 -- Assumes nothing.
-use Prim.Native.Nat.{ℕ, zero, suc, _+_, _-_, _≤_, _<_}
+use Prim.Native.Nat.{ℕ, zero, suc, _+_, _-_, _*_, _≤_, _<_}
 use native.Mathlib.Nat.{le-of-suc-le-suc, not-suc-le-zero}
 use native.Mathlib.Decide.{decLe}
-use native.Mathlib.Numerals.{add-one}
 use native.Mathlib.Omega.{arith}
 use mathlib.Core.Path.{_≡_, refl, sym, ap, _∙_, subst}
 use mathlib.Core.Bool.{Bool, true, false, cond}
-use mathlib.Core.List.{List, [], _∷_, _++_, map, append-nil, append-assoc}
+use mathlib.Core.List.{List, [], _∷_}
 use mathlib.Core.Option.{Option, none, some}
-use borrow.Author.Tests.{lt-ltb, le-ltb}
-use lib.ListN.{length, getD, take, set, replicate, length-set}
-use lib.Seq.{take-suc-set, getD-set-same, getD-set-other}
+use lib.ListN.{length, getD, set}
+use Rattle.rules.proofs.Cases.{byBool}
 use Rattle.rules.specs.Shape.{Entry}
 use Rattle.rules.specs.Refusals.{refusalNumber, refusalPlace}
-use Rattle.image.specs.Image.{two, entriesOf}
+use Rattle.image.specs.Image.{two, entriesOf, valid}
 use Rattle.image.proofs.Entries.{entries-length}
 use Rattle.reading.specs.Fitting.{fits}
-use Rattle.reading.specs.Reading.{Choice, chosen, nothing, unusable, Reading, finished, stopped, cons, onward, readFrom}
+use Rattle.reading.specs.Reading.{Choice, chosen, nothing, unusable, stopped, readFrom}
 use Rattle.reading.specs.Meaning.{noEntry}
-use Rattle.reading.specs.Places.{entryAt, entriesAt}
+use Rattle.reading.specs.Places.{entryAt}
+use Rattle.reading.proofs.Search.{Targets, valid-targets}
+use Rattle.reading.proofs.Loop.{Going, going-begin, going-next, going-none, going-unusable, going-end, going-few, going-within}
 use Rattle.tables.specs.Walk.{lookup}
-use Rattle.walk.specs.Letters.{foundOf, lowestShared, choiceBy, choiceOf, refusalAt}
+use Rattle.walk.specs.Letters.{foundOf, lowestShared, choiceBy, choicesBy, choiceOf, refusalAt, Placed, ReadBy}
 use Rattle.walk.specs.declared.Found.the-variants.{Place, Empty}
 use Rattle.walk.specs.declared.Chosen.{Chosen}
 use Rattle.walk.specs.declared.Chosen.the-variants.{Rule, Nothing, Unusable}
+use Rattle.walk.specs.declared.Reached.the-variants.{Rules, Refused}
 
 -- ---- the rule at the place found
 
@@ -70,93 +71,73 @@ module _ (image ss : List ℕ) (s t : ℕ) (f : List ℕ) (i : ℕ) where
     pub place-fits : p < two 0 image → fits (entryAt image p .rule) f i ≡ true → choiceBy image ss s t f i ≡ chosen (entryAt image p)
     place-fits h q = place-in h ∙ ap (λ (b : Bool). cond b (chosen (entryAt image p)) unusable) q
 
--- ---- rules applied before, then those of the reading; a refusal keeps none
+-- ---- the loop of reading, `Going`, with these choices
 
-abbrev joined : List Entry → Reading → Reading
-joined rs (finished qs) = finished (rs ++ qs)
-joined rs (stopped n p) = stopped n p
+-- a rule that is looked up has a target
+lookup-target : (t : Entry → Bool) (rs : List Entry) → Targets rs → (o : Option ℕ) (r : Entry) → lookup t rs o ≡ chosen r → 0 < length (r .rule .target)
+lookup-target t rs h none r e = let z : _≡_ {A = ℕ} 0 1 = cc in absurd (omega arith)
+lookup-target t rs h (some p) r e =
+    go (decLe (length rs) p)
+  where
+    go : Dec (length rs ≤ p) → 0 < length (r .rule .target)
+    go (yes y) = let x : unusable ≡ chosen r = sym (lookup-past t rs p y) ∙ e in let z : _≡_ {A = ℕ} 0 1 = cc in absurd (omega arith)
+    go (no y) =
+        byBool (t (getD rs p noEntry))
+        (λ b. let x : chosen (getD rs p noEntry) ≡ chosen r = sym (lookup-in t rs p (omega arith) ∙ rw b) ∙ e in
+        let q : getD rs p noEntry ≡ r = cc in subst (λ (y : Entry). 0 < length (y .rule .target)) q (h p (omega arith)))
+        (λ b. let x : unusable ≡ chosen r = sym (lookup-in t rs p (omega arith) ∙ rw b) ∙ e in let z : _≡_ {A = ℕ} 0 1 = cc in absurd (omega arith))
 
-joined-none : (o : Reading) → o ≡ joined [] o
-joined-none (finished qs) = refl
-joined-none (stopped n p) = refl
-
-joined-cons : (rs : List Entry) (r : Entry) (o : Reading) → joined rs (cons r o) ≡ joined (rs ++ (r ∷ [])) o
-joined-cons rs r (finished qs) = ap finished (sym (append-assoc rs (r ∷ []) qs))
-joined-cons rs r (stopped n p) = refl
-
-map-snoc : (g : ℕ → Entry) (l : List ℕ) (x : ℕ) → map g (l ++ (x ∷ [])) ≡ map g l ++ (g x ∷ [])
-map-snoc g [] x = refl
-map-snoc g (y ∷ l) x = ap (λ (v : List Entry). g y ∷ v) (map-snoc g l x)
-
-module _ (image : List ℕ) (choose : ℕ → Choice) (n : ℕ) where
-  past-end : (k i : ℕ) → n < i → readFrom choose n k i ≡ finished []
-  past-end zero i h = refl
-  past-end (suc k) i h = ap (λ (b : Bool). cond b (finished []) (onward (choose i) i (readFrom choose n k))) (lt-ltb n i h)
-
-  at-letter : (k i : ℕ) (x : Choice) → i ≤ n → choose i ≡ x → readFrom choose n (suc k) i ≡ onward x i (readFrom choose n k)
-  at-letter k i x h e =
-      ap (λ (b : Bool). cond b (finished []) (onward (choose i) i (readFrom choose n k))) (le-ltb n i h)
-      ∙ ap (λ (y : Choice). onward y i (readFrom choose n k)) e
+module _ (image ss : List ℕ) (base : ℕ) (left right f : List ℕ) where
+  abbrev choose : ℕ → Choice
+  choose = choicesBy image ss base left right f
 
   -- the loop has `places` and `count`, and stands at i
-  pub record Gone (places : List ℕ) (count i : ℕ) : Type 0 where
-    pub ahead : count < i
-    pub within : count ≤ n
-    pub near : i ≤ n + 4
-    pub room : length places ≡ 64
-    pub inside : (k : ℕ) → k < count → getD places k 0 < two 0 image
-    pub whole : readFrom choose n n 1 ≡ joined (entriesAt image (take count places)) (readFrom choose n (n - count) i)
+  abbrev pub Gone : List ℕ → ℕ → ℕ → Type 0
+  Gone places count i = Going choose (length f - 2) (entryAt image) (two 0 image) places count i
 
-  pub begin : Gone (replicate 64 0) 0 1
-  begin =
-      let e : n ≡ n - 0 = omega arith in
-      record {
-        ahead = omega arith;
-        within = omega arith;
-        near = omega arith;
-        room = refl;
-        inside = λ k h. absurd (not-suc-le-zero h);
-        whole = ap (λ (k : ℕ). readFrom choose n k 1) e ∙ joined-none (readFrom choose n (n - 0) 1);
-      }
+module _ (image ss : List ℕ) (base : ℕ) (left right f : List ℕ) (ok : valid image ≡ true) (few : length f - 2 ≤ 64) where
+  abbrev made : ℕ → Choice
+  made = choose image ss base left right f
 
-  module _ (places : List ℕ) (count i : ℕ) (g : Gone places count i) (few : n ≤ 64) where
-    here : i ≤ n → (x : Choice) → choose i ≡ x → readFrom choose n n 1 ≡ joined (entriesAt image (take count places)) (onward x i (readFrom choose n (n - (count + 1))))
-    here h x e =
-        let m : n - count ≡ suc (n - (count + 1)) = omega (arith, g .ahead) in
-        g .whole ∙ ap (joined (entriesAt image (take count places))) (ap (λ (k : ℕ). readFrom choose n k i) m ∙ at-letter (n - (count + 1)) i x h e)
+  abbrev Read : List ℕ → ℕ → ℕ → Type 0
+  Read = Gone image ss base left right f
 
-    pub next : i ≤ n → (p : ℕ) → choose i ≡ chosen (entryAt image p) → p < two 0 image → (l : ℕ) → l ≡ length (entryAt image p .rule .target) → 1 ≤ l → l ≤ 4
-        → Gone (set places count p) (count + 1) (i + l)
-    next h p e in-list l is low high =
-        let t : take (count + 1) (set places count p) ≡ take count places ++ (p ∷ []) = rw (add-one count) (take-suc-set places count p (omega (arith, g .ahead, g .room))) in
-        record {
-          ahead = omega (arith, g .ahead);
-          within = omega (arith, g .ahead);
-          near = omega arith;
-          room = length-set places count p ∙ g .room;
-          inside = λ k m. within-list k m (decLe (suc k) count);
-          whole =
-              here h (chosen (entryAt image p)) e
-              ∙ (joined-cons (entriesAt image (take count places)) (entryAt image p) (readFrom choose n (n - (count + 1)) (i + length (entryAt image p .rule .target)))
-              ∙ (ap (λ (rs : List Entry). joined rs (readFrom choose n (n - (count + 1)) (i + length (entryAt image p .rule .target))))
-              (sym (ap (entriesAt image) t ∙ map-snoc (entryAt image) (take count places) p))
-              ∙ ap (λ (x : ℕ). joined (entriesAt image (take (count + 1) (set places count p))) (readFrom choose n (n - (count + 1)) (i + x))) (sym is)));
-        }
-      where
-        within-list : (k : ℕ) → k < count + 1 → Dec (suc k ≤ count) → getD (set places count p) k 0 < two 0 image
-        within-list k m (yes y) = subst (λ (q : ℕ). q < two 0 image) (sym (getD-set-other places count k p 0 (omega arith))) (g .inside k y)
-        within-list k m (no y) =
-            let q : k ≡ count = omega arith in
-            subst (λ (x : ℕ). x < two 0 image)
-            (sym (ap (λ (x : ℕ). getD (set places count p) x 0) q ∙ getD-set-same places count p 0 (omega (arith, g .ahead, g .room)))) in-list
+  ahead : (i : ℕ) (r : Entry) → made i ≡ chosen r → 0 < length (r .rule .target)
+  unfolding choiceBy
+  ahead i r e = lookup-target (λ q. fits (q .rule) f i) (entriesOf image) (valid-targets image ok) (lowestShared ss (8 * getD left i 0) (base + 8 * getD right i 0)) r e
 
-    -- no rule is chosen
-    pub declines : i ≤ n → (x : Chosen) → choiceOf image x ≡ choose i → ((p : ℕ) → x ≡ Rule p → ⊥)
-        → stopped (refusalNumber (refusalAt x i)) (refusalPlace (refusalAt x i)) ≡ readFrom choose n n 1
-    declines h (Rule p) e other = absurd (other p refl)
-    declines h Nothing e other = sym (here h nothing (sym e))
-    declines h Unusable e other = sym (here h unusable (sym e))
+  pub begin : (places : List ℕ) → length places ≡ 64 → Read places 0 1
+  begin = going-begin made (length f - 2) ahead (entryAt image) (two 0 image)
 
-    pub done : n < i → finished (entriesAt image (take count places)) ≡ readFrom choose n n 1
+  module _ (places : List ℕ) (count i : ℕ) (g : Read places count i) where
+    module _ (h : i ≤ length f - 2) where
+      pub next : (p : ℕ) → made i ≡ chosen (entryAt image p) → p < two 0 image → (l : ℕ) → l ≡ length (entryAt image p .rule .target) → 1 ≤ l → l ≤ 4
+          → Read (set places count p) (count + 1) (i + l)
+      next = going-next made (length f - 2) ahead (entryAt image) (two 0 image) few places count i g h
+
+      -- no rule is chosen
+      pub declines : (x : Chosen) → choiceOf image x ≡ made i → ((p : ℕ) → x ≡ Rule p → ⊥) → ReadBy image made (length f - 2) places (Refused (refusalAt x i))
+      declines x e other = record { placed = none-placed; says = stops x e other }
+        where
+          no-rules : (k : ℕ) → Refused (refusalAt x i) ≡ Rules k → ⊥
+          no-rules k u = let z : _≡_ {A = ℕ} 0 1 = cc in omega arith
+
+          none-placed : Placed image places (Refused (refusalAt x i))
+          none-placed = record { sized = g .sized; few = λ k u. absurd (no-rules k u); within = λ k u. absurd (no-rules k u) }
+
+          stops : (x : Chosen) → choiceOf image x ≡ made i → ((p : ℕ) → x ≡ Rule p → ⊥)
+              → stopped (refusalNumber (refusalAt x i)) (refusalPlace (refusalAt x i)) ≡ readFrom made (length f - 2) (length f - 2) 1
+          stops (Rule p) e other = absurd (other p refl)
+          stops Nothing e other = sym (going-none made (length f - 2) ahead (entryAt image) (two 0 image) few places count i g h (sym e))
+          stops Unusable e other = sym (going-unusable made (length f - 2) ahead (entryAt image) (two 0 image) few places count i g h (sym e))
+
+    pub done : length f - 2 < i → ReadBy image made (length f - 2) places (Rules count)
     done h =
-        sym (g .whole ∙ (ap (joined (entriesAt image (take count places))) (past-end (n - count) i h) ∙ ap finished (append-nil (entriesAt image (take count places)))))
+        record {
+          placed = record {
+            sized = g .sized;
+            few = λ k u. let e : count ≡ k = cc in omega (arith, going-few made (length f - 2) ahead (entryAt image) (two 0 image) few places count i g);
+            within = λ k u. let e : count ≡ k = cc in rw (sym e) (going-within made (length f - 2) ahead (entryAt image) (two 0 image) few places count i g);
+          };
+          says = sym (going-end made (length f - 2) ahead (entryAt image) (two 0 image) few places count i g h);
+        }

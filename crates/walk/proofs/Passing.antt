@@ -10,7 +10,7 @@ use mathlib.Core.Bool.{Bool, true, false, _&&_, and-false}
 use mathlib.Core.List.{List, [], _∷_, reverse, reverse-cons}
 use lib.Dec.{ltb}
 use borrow.Author.Tests.{lt-ltb, le-ltb}
-use lib.ListN.{length, getD, take, drop, set, replicate, length-set}
+use lib.ListN.{length, getD, take, drop, set, length-set}
 use lib.Seq.{getD-set-same, getD-set-other, take-suc, drop-cons, drop-length}
 use Rattle.tables.specs.Tables.{Table}
 use Rattle.tables.specs.Walk.{Step as State, step, pass, allBelow}
@@ -60,16 +60,7 @@ pub record Passing (at : ℕ → State) (count lo hi : ℕ) (states : List ℕ) 
   pub below : s .state < count
   pub room : length states ≡ 66
   pub all : (k : ℕ) → lo ≤ k → k ≤ hi → getD states k 0 ≡ at k .state
-  pub small : (k : ℕ) → getD states k 0 < count
-
-zeros-small : (count : ℕ) → 0 < count → (k : ℕ) → getD (replicate 66 0) k 0 < count
-zeros-small count h k = subst (λ (q : ℕ). q < count) (sym (zeros 66 k)) h
-  where
-    zeros : (n k : ℕ) → _≡_ {A = ℕ} (getD (replicate n 0) k 0) 0
-    zeros zero zero = refl
-    zeros zero (suc k) = refl
-    zeros (suc n) zero = refl
-    zeros (suc n) (suc k) = zeros n k
+  pub small : (k : ℕ) → lo ≤ k → k ≤ hi → getD states k 0 < count
 
 module _ (at : ℕ → State) (count : ℕ) where
   -- the next state is below the count, and is remembered at its position
@@ -83,7 +74,7 @@ module _ (at : ℕ → State) (count : ℕ) where
         below = b;
         room = length-set states j (r .state) ∙ p .room;
         all = λ k m n. one k m n (decLe k j) (decLe j k);
-        small = λ k. low k (decLe k j) (decLe j k);
+        small = λ k m n. low k m n (decLe k j) (decLe j k);
       }
     where
       same : (k : ℕ) → k ≤ j → j ≤ k → getD (set states j (r .state)) k 0 ≡ r .state
@@ -99,14 +90,14 @@ module _ (at : ℕ → State) (count : ℕ) where
       one k m n (yes y) (no z) = let d : k ≢ j = λ q. z (omega arith) in other k d ∙ p .all k (old k m n d .0) (old k m n d .1)
       one k m n (no y) z = let d : k ≢ j = λ q. y (omega arith) in other k d ∙ p .all k (old k m n d .0) (old k m n d .1)
 
-      low : (k : ℕ) → Dec (k ≤ j) → Dec (j ≤ k) → getD (set states j (r .state)) k 0 < count
-      low k (yes y) (yes z) = subst (λ (q : ℕ). q < count) (sym (same k y z)) b
-      low k (yes y) (no z) = subst (λ (q : ℕ). q < count) (sym (other k (λ q. z (omega arith)))) (p .small k)
-      low k (no y) z = subst (λ (q : ℕ). q < count) (sym (other k (λ q. y (omega arith)))) (p .small k)
+      low : (k : ℕ) → lo′ ≤ k → k ≤ hi′ → Dec (k ≤ j) → Dec (j ≤ k) → getD (set states j (r .state)) k 0 < count
+      low k m n (yes y) (yes z) = subst (λ (q : ℕ). q < count) (sym (same k y z)) b
+      low k m n (yes y) (no z) = let d : k ≢ j = λ q. z (omega arith) in subst (λ (q : ℕ). q < count) (sym (other k d)) (p .small k (old k m n d .0) (old k m n d .1))
+      low k m n (no y) z = let d : k ≢ j = λ q. y (omega arith) in subst (λ (q : ℕ). q < count) (sym (other k d)) (p .small k (old k m n d .0) (old k m n d .1))
 
   -- it is not, and the tables are unusable
-  pub stop : (n last from : ℕ) (j : ℕ) (q : ℕ) → q ≡ at j .state → 1 ≤ j → j ≤ n → count ≤ q → (r : Pass) → r .usable ≡ false → Passed at count n last from r
-  stop n last from j q e a b h r u =
+  pub stop : (n last from : ℕ) (j : ℕ) (q : ℕ) → q ≡ at j .state → 1 ≤ j → j ≤ n → count ≤ q → (states : List ℕ) (r : Pass) → r .usable ≡ false → Passed at count n last from states r
+  stop n last from j q e a b h states r u =
       record {
         usable = u ∙ sym (not-below (λ i. ltb (at i .state) count) j n a b (ap (λ (x : ℕ). ltb x count) (sym e) ∙ le-ltb q count h));
         all = λ y. absurd (never y);
@@ -119,14 +110,14 @@ module _ (at : ℕ → State) (count : ℕ) where
       never y = let z : _≡_ {A = ℕ} 0 1 = cc in omega arith
 
   pub finished : {lo hi : ℕ} {states : List ℕ} {s : Step} {i : ℕ} (n last from : ℕ) → Passing at count lo hi states s i → lo ≤ 1 → n ≤ hi → i ≡ last → s .steps ≡ from + n
-      → (r : Pass) → r .usable ≡ true → r .states ≡ states → r .steps ≡ s .steps → Passed at count n last from r
-  finished {lo} {hi} {states} n last from p l h q m r u e g =
+      → (r : Pass) → r .usable ≡ true → r .steps ≡ s .steps → Passed at count n last from states r
+  finished n last from p l h q m r u g =
       record {
         usable =
             u ∙ sym (all-below (λ i. ltb (at i .state) count) n
-            (λ k a b. lt-ltb (at k .state) count (subst (λ (q : ℕ). q < count) (p .all k (omega arith) (omega arith)) (p .small k))));
-        all = λ y k a b. ap (λ (x : List ℕ). getD x k 0) e ∙ p .all k (omega arith) (omega arith);
-        small = λ y k. subst (λ (x : List ℕ). getD x k 0 < count) (sym e) (p .small k);
+            (λ k a b. lt-ltb (at k .state) count (subst (λ (q : ℕ). q < count) (p .all k (omega arith) (omega arith)) (p .small k (omega arith) (omega arith)))));
+        all = λ y k a b. p .all k (omega arith) (omega arith);
+        small = λ y k a b. p .small k (omega arith) (omega arith);
         looked = λ y. g ∙ p .looked ∙ ap (λ (x : ℕ). at x .steps) q;
         many = λ y. g ∙ m;
       }
@@ -134,15 +125,15 @@ module _ (at : ℕ → State) (count : ℕ) where
 -- ---- the two passes
 
 module _ (words : List ℕ) (rows count : ℕ) (f : List ℕ) where
-  pub left-begin : 0 < count → Passing (leftOn (rowsAt words rows count) f) count 0 0 (replicate 66 0) (record { state = 0; steps = 0 }) 0
-  left-begin h =
+  pub left-begin : (states : List ℕ) → length states ≡ 66 → 0 < count → Passing (leftOn (rowsAt words rows count) f) count 1 0 states (record { state = 0; steps = 0 }) 0
+  left-begin states e h =
       record {
         here = refl;
         looked = refl;
         below = h;
-        room = refl;
-        all = λ k a b. let e : k ≡ 0 = omega arith in ap (λ (x : ℕ). getD (replicate 66 0) x 0) e ∙ ap (λ (x : ℕ). leftOn (rowsAt words rows count) f x .state) (sym e);
-        small = zeros-small count h;
+        room = e;
+        all = λ k a b. absurd (omega arith);
+        small = λ k a b. absurd (omega arith);
       }
 
   module _ (s : Step) (i : ℕ) (here : s .state ≡ leftOn (rowsAt words rows count) f i .state) (looked : s .steps ≡ leftOn (rowsAt words rows count) f i .steps)
@@ -156,15 +147,16 @@ module _ (words : List ℕ) (rows count : ℕ) (f : List ℕ) where
     left-steps = e .more ∙ add-one (s .steps) ∙ ap suc looked ∙ sym (ap (λ (x : State). x .steps) (left-next (rowsAt words rows count) f i h))
 
   module _ (k : ℕ) where
-    pub right-start : 0 < count → 0 < length f → Passing (rightOn (rowsAt words rows count) k f) count (length f) (length f - 1) (replicate 66 0) (record { state = 0; steps = k }) (length f)
-    right-start h l =
+    pub right-start : (states : List ℕ) → length states ≡ 66 → 0 < count → 0 < length f
+        → Passing (rightOn (rowsAt words rows count) k f) count (length f) (length f - 1) states (record { state = 0; steps = k }) (length f)
+    right-start states e h l =
         record {
           here = sym (ap (λ (x : State). x .state) (right-begin (rowsAt words rows count) k f));
           looked = sym (ap (λ (x : State). x .steps) (right-begin (rowsAt words rows count) k f));
           below = h;
-          room = refl;
+          room = e;
           all = λ j a b. absurd (omega arith);
-          small = zeros-small count h;
+          small = λ j a b. absurd (omega arith);
         }
 
     module _ (s : Step) (i : ℕ) (here : s .state ≡ rightOn (rowsAt words rows count) k f i .state) (looked : s .steps ≡ rightOn (rowsAt words rows count) k f i .steps)

@@ -27,23 +27,21 @@ use Rattle.tables.proofs.Truth.{clash, and-left, and-right}
 use Rattle.tables.proofs.Sets.{choice-tables}
 use Rattle.reading.specs.Places.{entriesAt}
 use Rattle.walk.specs.Passes.{Symbols, rowsAt, leftOn, rightOn, Passed}
-use Rattle.walk.specs.Letters.{lowestShared, choiceBy, choicesBy, endingAs, ReadBy, Bounded}
+use Rattle.walk.specs.Letters.{lowestShared, choiceBy, choicesBy, reachedAs, ReadBy, Bounded}
 use Rattle.walk.specs.Walked.{walkedOf, lengthsFor, leftFor, rightFor, walkFor, stepsOn, usableOn, choiceOn, readOn, walkOn, Both, Fit}
 use Rattle.walk.specs.declared.Pass.{Pass}
-use Rattle.walk.specs.declared.Passes.{Passes}
 use Rattle.walk.specs.declared.WalkAnswer.{WalkAnswer}
 use Rattle.walk.specs.declared.Reached.{Reached}
-use Rattle.walk.specs.declared.Ending.{Ending}
-use Rattle.walk.specs.declared.Ending.the-variants.{Finished, Refused as Declined}
+use Rattle.walk.specs.declared.Reached.the-variants.{Rules, Refused as Declined}
 
 -- ---- both passes
 
-module _ (ws : List ℕ) (l r : ℕ) (f : List ℕ) (n : ℕ) (one : Pass) (a : Passed (leftOn (rowsAt ws 2 l) f) l (suc n) (suc n) 0 one) where
-  pub both-bad : one .usable ≡ false → (p : Passes) → p .usable ≡ false → Both ws l r f n p
-  both-bad e p u =
+module _ (ws : List ℕ) (l r : ℕ) (f : List ℕ) (n : ℕ) (left right : List ℕ) (one : Pass) (a : Passed (leftOn (rowsAt ws 2 l) f) l (suc n) (suc n) 0 left one) where
+  pub both-bad : one .usable ≡ false → Both ws l r f n left right one
+  both-bad u =
       record {
         usable =
-            u ∙ sym (ap (λ (b : Bool). b && allBelow (λ i. ltb (rightOn (rowsAt ws (2 + 64 * l) r) (stepsOn (rowsAt ws 2 l) f n) f i .state) r) (suc n)) (sym (a .usable) ∙ e));
+            u ∙ sym (ap (λ (b : Bool). b && allBelow (λ i. ltb (rightOn (rowsAt ws (2 + 64 * l) r) (stepsOn (rowsAt ws 2 l) f n) f i .state) r) (suc n)) (sym (a .usable) ∙ u));
         lefts = λ y. clash y u;
         rights = λ y. clash y u;
         left-small = λ y. clash y u;
@@ -51,41 +49,41 @@ module _ (ws : List ℕ) (l r : ℕ) (f : List ℕ) (n : ℕ) (one : Pass) (a : 
         looked = λ y. clash y u;
       }
 
-  pub both-good : one .usable ≡ true → (two : Pass) → Passed (rightOn (rowsAt ws (2 + 64 * l) r) (one .steps) f) r (suc n) 1 (one .steps) two
-      → (p : Passes) → p .usable ≡ two .usable → p .left ≡ one .states → p .right ≡ two .states → p .steps ≡ two .steps → Both ws l r f n p
-  both-good e two b′ p u x y z =
-      let b : Passed (rightOn (rowsAt ws (2 + 64 * l) r) (stepsOn (rowsAt ws 2 l) f n) f) r (suc n) 1 (stepsOn (rowsAt ws 2 l) f n) two =
-      subst (λ (k : ℕ). Passed (rightOn (rowsAt ws (2 + 64 * l) r) k f) r (suc n) 1 k two) (a .looked e) b′ in
+  pub both-good : one .usable ≡ true → (two : Pass) → Passed (rightOn (rowsAt ws (2 + 64 * l) r) (one .steps) f) r (suc n) 1 (one .steps) right two → Both ws l r f n left right two
+  both-good e two b′ =
+      let b : Passed (rightOn (rowsAt ws (2 + 64 * l) r) (stepsOn (rowsAt ws 2 l) f n) f) r (suc n) 1 (stepsOn (rowsAt ws 2 l) f n) right two =
+      subst (λ (k : ℕ). Passed (rightOn (rowsAt ws (2 + 64 * l) r) k f) r (suc n) 1 k right two) (a .looked e) b′ in
       record {
-        usable = u ∙ b .usable ∙ sym (ap (λ (t : Bool). t && allBelow (λ i. ltb (rightOn (rowsAt ws (2 + 64 * l) r) (stepsOn (rowsAt ws 2 l) f n) f i .state) r) (suc n)) (sym (a .usable) ∙ e));
-        lefts = λ q k s t. ap (λ (w : List ℕ). getD w k 0) x ∙ a .all e k s t;
-        rights = λ q k s t. ap (λ (w : List ℕ). getD w k 0) y ∙ b .all (sym u ∙ q) k s t;
-        left-small = λ q k. subst (λ (w : List ℕ). getD w k 0 < l) (sym x) (a .small e k);
-        right-small = λ q k. subst (λ (w : List ℕ). getD w k 0 < r) (sym y) (b .small (sym u ∙ q) k);
-        looked = λ q. z ∙ b .looked (sym u ∙ q);
+        usable = b .usable ∙ sym (ap (λ (t : Bool). t && allBelow (λ i. ltb (rightOn (rowsAt ws (2 + 64 * l) r) (stepsOn (rowsAt ws 2 l) f n) f i .state) r) (suc n)) (sym (a .usable) ∙ e));
+        lefts = λ q. a .all e;
+        rights = λ q. b .all q;
+        left-small = λ q. a .small e;
+        right-small = λ q. b .small q;
+        looked = λ q. b .looked q;
       }
 
 -- ---- the answer
 
-pub say-refused : (ending : Ending) (x : Refusal) (rs : List Entry) (phones numbers : List ℕ) (steps : ℕ) → ending ≡ Declined x
-    → (r : WalkAnswer) → r .steps ≡ counted (refused (refusalNumber x) (refusalPlace x)) steps → r .speech ≡ Refused x
-    → walkedOf r phones numbers ≡ walkedAs (delivered (endingAs ending rs) phones numbers) steps
-say-refused ending x rs phones numbers steps e r g h =
-    ap₂ (λ (s : Speech) (k : ℕ). record { said = saying (toldOf s) phones numbers; steps = k }) h g
-    ∙ sym (ap (λ (y : Ending). walkedAs (delivered (endingAs y rs) phones numbers) steps) e)
+module _ (image places : List ℕ) (reached : Reached) (phones numbers : List ℕ) (steps : ℕ) where
+  pub say-refused : (x : Refusal) → reached ≡ Declined x
+      → (r : WalkAnswer) → r .steps ≡ counted (refused (refusalNumber x) (refusalPlace x)) steps → r .speech ≡ Refused x
+      → walkedOf r phones numbers ≡ walkedAs (delivered (reachedAs image places reached) phones numbers) steps
+  say-refused x e r g h =
+      ap₂ (λ (s : Speech) (k : ℕ). record { said = saying (toldOf s) phones numbers; steps = k }) h g
+      ∙ sym (ap (λ (y : Reached). walkedAs (delivered (reachedAs image places y) phones numbers) steps) e)
 
-counted-finished : (rs : List Entry) (phones numbers : List ℕ) (steps : ℕ) → counted (delivered (finished rs) phones numbers .told) steps ≡ steps
-counted-finished rs phones numbers steps =
-    byBool (leb (length (phonesOf rs)) (length phones))
-    (λ e. rw e (byBool (leb (length (numbersOf rs)) (length numbers)) (λ g. rw g) (λ g. rw g)))
-    (λ e. rw e)
+  counted-finished : (rs : List Entry) → counted (delivered (finished rs) phones numbers .told) steps ≡ steps
+  counted-finished rs =
+      byBool (leb (length (phonesOf rs)) (length phones))
+      (λ e. rw e (byBool (leb (length (numbersOf rs)) (length numbers)) (λ g. rw g) (λ g. rw g)))
+      (λ e. rw e)
 
-pub say-finished : (ending : Ending) (rs : List Entry) (phones numbers phones′ numbers′ : List ℕ) (steps : ℕ) → ending ≡ Finished
-    → (r : WalkAnswer) → r .steps ≡ steps → saying (toldOf (r .speech)) phones′ numbers′ ≡ delivered (finished rs) phones numbers
-    → walkedOf r phones′ numbers′ ≡ walkedAs (delivered (endingAs ending rs) phones numbers) steps
-say-finished ending rs phones numbers phones′ numbers′ steps e r g h =
-    ap₂ (λ (s : Said) (k : ℕ). record { said = s; steps = k }) h (g ∙ sym (counted-finished rs phones numbers steps))
-    ∙ sym (ap (λ (y : Ending). walkedAs (delivered (endingAs y rs) phones numbers) steps) e)
+  pub say-finished : (k : ℕ) (phones′ numbers′ : List ℕ) → reached ≡ Rules k
+      → (r : WalkAnswer) → r .steps ≡ steps → saying (toldOf (r .speech)) phones′ numbers′ ≡ delivered (finished (entriesAt image (take k places))) phones numbers
+      → walkedOf r phones′ numbers′ ≡ walkedAs (delivered (reachedAs image places reached) phones numbers) steps
+  say-finished k phones′ numbers′ e r g h =
+      ap₂ (λ (s : Said) (k : ℕ). record { said = s; steps = k }) h (g ∙ sym (counted-finished (entriesAt image (take k places))))
+      ∙ sym (ap (λ (y : Reached). walkedAs (delivered (reachedAs image places y) phones numbers) steps) e)
 
 -- ---- readings with equal choices at the letters are equal
 
@@ -113,7 +111,7 @@ pass-same ws ss rows at count s (c ∷ w) = pass-same ws ss rows at count (step 
 
 -- ---- the walk over a frame
 
-module _ (image ws ss : List ℕ) (l r : ℕ) (f : List ℕ) (n : ℕ) (p : Passes) (b : Both ws l r f n p) where
+module _ (image ws ss : List ℕ) (l r : ℕ) (f : List ℕ) (n : ℕ) (left right : List ℕ) (p : Pass) (b : Both ws l r f n left right p) where
   left-same : (i : ℕ) → leftOn (rowsAt ws 2 l) f i ≡ leftOn (leftFor ws ss l) f i
   left-same i = pass-same ws ss 2 0 l (record { state = 0; steps = 0 }) (take i f)
 
@@ -136,33 +134,35 @@ module _ (image ws ss : List ℕ) (l r : ℕ) (f : List ℕ) (n : ℕ) (p : Pass
 
   module _ (e : p .usable ≡ true) where
     choice-is : (i : ℕ) → 1 ≤ i → i ≤ n
-        → choicesBy image ss (8 * l) (p .left) (p .right) f i ≡ choiceOn (leftFor ws ss l) (rightFor ws ss l r) f n (entriesOf image) i
+        → choicesBy image ss (8 * l) left right f i ≡ choiceOn (leftFor ws ss l) (rightFor ws ss l r) f n (entriesOf image) i
     unfolding choiceBy
     choice-is i low high =
-        let x : getD (p .left) i 0 ≡ leftOn (leftFor ws ss l) f i .state = b .lefts e i low (omega arith) ∙ ap (λ (s : State). s .state) (left-same i) in
-        let y : getD (p .right) i 0 ≡ rightOn (rightFor ws ss l r) (stepsOn (leftFor ws ss l) f n) f i .state = b .rights e i low (omega arith) ∙ ap (λ (s : State). s .state) (right-same i) in
-        let z : 8 * getD (p .left) i 0 ≡ 0 + 8 * getD (p .left) i 0 = omega arith in
+        let x : getD left i 0 ≡ leftOn (leftFor ws ss l) f i .state = b .lefts e i low (omega arith) ∙ ap (λ (s : State). s .state) (left-same i) in
+        let y : getD right i 0 ≡ rightOn (rightFor ws ss l r) (stepsOn (leftFor ws ss l) f n) f i .state = b .rights e i low (omega arith) ∙ ap (λ (s : State). s .state) (right-same i) in
+        let z : 8 * getD left i 0 ≡ 0 + 8 * getD left i 0 = omega arith in
         ap (lookup (λ q. fits (q .rule) f i) (entriesOf image))
-        (ap (λ (k : ℕ). lowestShared ss k (8 * l + 8 * getD (p .right) i 0)) z
-        ∙ (sym (choice-tables ws ws ss 2 0 l (2 + 64 * l) (8 * l) r (getD (p .left) i 0) (getD (p .right) i 0))
+        (ap (λ (k : ℕ). lowestShared ss k (8 * l + 8 * getD right i 0)) z
+        ∙ (sym (choice-tables ws ws ss 2 0 l (2 + 64 * l) (8 * l) r (getD left i 0) (getD right i 0))
         ∙ ap₂ (λ (q t : ℕ). lowest (λ k. leftFor ws ss l .holds q k && rightFor ws ss l r .holds t k) places) x y))
 
-    pub walk-read : (m : Reached) → ReadBy image (choicesBy image ss (8 * l) (p .left) (p .right) f) n m → (phones numbers : List ℕ)
-        → walkedAs (delivered (endingAs (m .ending) (entriesAt image (take (m .count) (m .places)))) phones numbers) (p .steps)
+    pub walk-read : (places : List ℕ) (m : Reached) → ReadBy image (choicesBy image ss (8 * l) left right f) n places m → (phones numbers : List ℕ)
+        → walkedAs (delivered (reachedAs image places m) phones numbers) (p .steps)
         ≡ walkOn (leftFor ws ss l) (rightFor ws ss l r) f n (entriesOf image) phones numbers
     unfolding walkOn readOn
-    walk-read m c phones numbers =
+    walk-read places m c phones numbers =
         let u : usableOn (leftFor ws ss l) (rightFor ws ss l r) f n ≡ true = sym usable-is ∙ e in
         ap₂ (λ (o : Reading) (k : ℕ). walkedAs (delivered o phones numbers) k)
         (c .says ∙ read-ext _ _ n choice-is n 1 (omega arith)
         ∙ sym (ap (λ (t : Bool). cond t (readFrom (choiceOn (leftFor ws ss l) (rightFor ws ss l r) f n (entriesOf image)) n n 1) (stopped 16 0)) u))
         (b .looked e ∙ ap (λ (s : State). s .steps) (right-same 1))
 
-    pub states-bounded : (size : ℕ) → 8 * (l + r) ≤ size → Bounded size (8 * l) (p .left) (p .right)
-    states-bounded size h =
+    pub states-bounded : length left ≡ 66 → length right ≡ 66 → (size : ℕ) → 8 * (l + r) ≤ size → Bounded size (8 * l) n left right
+    states-bounded x y size h =
         record {
-          lefts = λ k. let q = b .left-small e k in omega arith;
-          rights = λ k. let q = b .right-small e k in omega arith;
+          left-room = x;
+          right-room = y;
+          lefts = λ k lo hi. let q = b .left-small e k lo (omega arith) in omega arith;
+          rights = λ k lo hi. let q = b .right-small e k lo (omega arith) in omega arith;
         }
 
 -- ---- the walk of a name of letters

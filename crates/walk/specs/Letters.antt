@@ -4,24 +4,22 @@ use Prim.Native.Nat.{ℕ, _+_, _*_, _≤_, _<_}
 use mathlib.Core.Path.{_≡_}
 use mathlib.Core.List.{List}
 use mathlib.Core.Option.{Option, none, some}
-use lib.ListN.{getD, take}
-use Rattle.rules.specs.Shape.{Entry}
+use lib.ListN.{length, getD, take}
 use Rattle.rules.specs.Refusals.{refusalNumber, refusalPlace}
 use Rattle.rules.specs.declared.Refusal.{Refusal}
 use Rattle.rules.specs.declared.Refusal.the-variants.{NoFit, BadTables}
 use Rattle.image.specs.Image.{two, entriesOf}
 use Rattle.reading.specs.Fitting.{fits}
 use Rattle.reading.specs.Reading.{Choice, chosen, nothing, unusable, Reading, finished, stopped, readFrom}
-use Rattle.reading.specs.Places.{entryAt, entriesAt}
+use Rattle.reading.specs.Places.{entryAt, entriesAt, Within}
 use Rattle.tables.specs.Walk.{lookup}
 use Rattle.tables.specs.Lowest.{lowestFrom, meetWord}
 use Rattle.walk.specs.declared.Found.{Found}
 use Rattle.walk.specs.declared.Found.the-variants.{Place, Empty}
 use Rattle.walk.specs.declared.Chosen.{Chosen}
 use Rattle.walk.specs.declared.Chosen.the-variants.{Rule, Nothing, Unusable}
-use Rattle.walk.specs.declared.Ending.{Ending}
-use Rattle.walk.specs.declared.Ending.the-variants.{Finished, Refused}
 use Rattle.walk.specs.declared.Reached.{Reached}
+use Rattle.walk.specs.declared.Reached.the-variants.{Rules, Refused}
 
 -- the place found in the words of two sets
 abbrev pub foundOf : Option ℕ → Found
@@ -56,17 +54,24 @@ refusalAt Unusable i = BadTables 0
 abbrev pub choicesBy : List ℕ → List ℕ → ℕ → List ℕ → List ℕ → List ℕ → ℕ → Choice
 choicesBy image ss base left right f i = choiceBy image ss (8 * getD left i 0) (base + 8 * getD right i 0) f i
 
--- what reading came to
-abbrev pub endingAs : Ending → List Entry → Reading
-endingAs Finished rs = finished rs
-endingAs (Refused x) rs = stopped (refusalNumber x) (refusalPlace x)
+-- what reading came to, with the places of the rules applied in lent memory
+abbrev pub reachedAs : List ℕ → List ℕ → Reached → Reading
+reachedAs image places (Rules k) = finished (entriesAt image (take k places))
+reachedAs image places (Refused x) = stopped (refusalNumber x) (refusalPlace x)
 
-pub record ReadBy (image : List ℕ) (choose : ℕ → Choice) (n : ℕ) (r : Reached) : Type 0 where
-  pub few : r .count ≤ 64
-  pub inside : (k : ℕ) → k < r .count → getD (r .places) k 0 < two 0 image
-  pub says : endingAs (r .ending) (entriesAt image (take (r .count) (r .places))) ≡ readFrom choose n n 1
+-- each rule applied is one of the image
+pub record Placed (image places : List ℕ) (r : Reached) : Type 0 where
+  pub sized : length places ≡ 64
+  pub few : (k : ℕ) → r ≡ Rules k → k ≤ 64
+  pub within : (k : ℕ) → r ≡ Rules k → Within image (take k places)
 
--- each remembered state has a set
-pub record Bounded (size base : ℕ) (left right : List ℕ) : Type 0 where
-  pub lefts : (k : ℕ) → 8 * getD left k 0 + 8 ≤ size
-  pub rights : (k : ℕ) → base + 8 * getD right k 0 + 8 ≤ size
+pub record ReadBy (image : List ℕ) (choose : ℕ → Choice) (n : ℕ) (places : List ℕ) (r : Reached) : Type 0 where
+  pub placed : Placed image places r
+  pub says : reachedAs image places r ≡ readFrom choose n n 1
+
+-- the states remembered for the letters 1 to n, each of which has a set
+pub record Bounded (size base n : ℕ) (left right : List ℕ) : Type 0 where
+  pub left-room : length left ≡ 66
+  pub right-room : length right ≡ 66
+  pub lefts : (k : ℕ) → 1 ≤ k → k ≤ n → 8 * getD left k 0 + 8 ≤ size
+  pub rights : (k : ℕ) → 1 ≤ k → k ≤ n → base + 8 * getD right k 0 + 8 ≤ size

@@ -33,10 +33,10 @@ leftOn t f i = pass t (record { state = 0; steps = 0 }) (take i f)
 abbrev pub rightOn : Table → ℕ → List ℕ → ℕ → State
 rightOn t k f i = pass t (record { state = 0; steps = k }) (reverse (drop i f))
 
--- What a pass gives that stands at `at i` at position i, for positions 1 to n, and ends at position `last`.
-pub record Passed (at : ℕ → State) (count n last from : ℕ) (r : Pass) : Type 0 where
+-- What a pass gives that stands at `at i` at position i, for positions 1 to n, and ends at position `last`; the states are left in lent memory.
+pub record Passed (at : ℕ → State) (count n last from : ℕ) (states : List ℕ) (r : Pass) : Type 0 where
   pub usable : r .usable ≡ allBelow (λ i. ltb (at i .state) count) n
-  pub all : r .usable ≡ true → (k : ℕ) → 1 ≤ k → k ≤ n → getD (r .states) k 0 ≡ at k .state
-  pub small : r .usable ≡ true → (k : ℕ) → getD (r .states) k 0 < count
+  pub all : r .usable ≡ true → (k : ℕ) → 1 ≤ k → k ≤ n → getD states k 0 ≡ at k .state
+  pub small : r .usable ≡ true → (k : ℕ) → 1 ≤ k → k ≤ n → getD states k 0 < count
   pub looked : r .usable ≡ true → r .steps ≡ at last .steps
   pub many : r .usable ≡ true → r .steps ≡ from + n

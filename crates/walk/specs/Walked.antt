@@ -16,7 +16,7 @@ use Rattle.tables.specs.Words.{tableAt, neededWords, neededSets}
 use Rattle.tables.specs.Walk.{lowest, lookup, places, allBelow, walk, walkSteps, Walked, walkedAs}
 use Rattle.walk.specs.Passes.{rowsAt, leftOn, rightOn}
 use Rattle.walk.specs.declared.WalkAnswer.{WalkAnswer}
-use Rattle.walk.specs.declared.Passes.{Passes}
+use Rattle.walk.specs.declared.Pass.{Pass}
 
 -- all that a walk gives: its answer, and the lent phones and numbers after it
 abbrev pub walkedOf : WalkAnswer → List ℕ → List ℕ → Walked
@@ -62,13 +62,13 @@ unfoldable pub walkOn : Table → Table → List ℕ → ℕ → List Entry → 
 walkOn tl tr f n rules phones numbers = walkedAs (delivered (readOn tl tr f n rules) phones numbers) (rightOn tr (stepsOn tl f n) f 1 .steps)
 
 -- what the two passes give: whether no state is out of range, and if so the states and the count
-pub record Both (ws : List ℕ) (l r : ℕ) (f : List ℕ) (n : ℕ) (p : Passes) : Type 0 where
+pub record Both (ws : List ℕ) (l r : ℕ) (f : List ℕ) (n : ℕ) (left right : List ℕ) (p : Pass) : Type 0 where
   pub usable : p .usable ≡ usableOn (rowsAt ws 2 l) (rowsAt ws (2 + 64 * l) r) f n
-  pub lefts : p .usable ≡ true → (k : ℕ) → 1 ≤ k → k ≤ suc n → getD (p .left) k 0 ≡ leftOn (rowsAt ws 2 l) f k .state
+  pub lefts : p .usable ≡ true → (k : ℕ) → 1 ≤ k → k ≤ suc n → getD left k 0 ≡ leftOn (rowsAt ws 2 l) f k .state
   pub rights : p .usable ≡ true → (k : ℕ) → 1 ≤ k → k ≤ suc n
-      → getD (p .right) k 0 ≡ rightOn (rowsAt ws (2 + 64 * l) r) (stepsOn (rowsAt ws 2 l) f n) f k .state
-  pub left-small : p .usable ≡ true → (k : ℕ) → getD (p .left) k 0 < l
-  pub right-small : p .usable ≡ true → (k : ℕ) → getD (p .right) k 0 < r
+      → getD right k 0 ≡ rightOn (rowsAt ws (2 + 64 * l) r) (stepsOn (rowsAt ws 2 l) f n) f k .state
+  pub left-small : p .usable ≡ true → (k : ℕ) → 1 ≤ k → k ≤ suc n → getD left k 0 < l
+  pub right-small : p .usable ≡ true → (k : ℕ) → 1 ≤ k → k ≤ suc n → getD right k 0 < r
   pub looked : p .usable ≡ true → p .steps ≡ rightOn (rowsAt ws (2 + 64 * l) r) (stepsOn (rowsAt ws 2 l) f n) f 1 .steps
 
 -- the lengths fit, as facts

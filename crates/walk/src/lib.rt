@@ -5,14 +5,13 @@ use rules::Refusal;
 ghost use mathlib.Core.Path.{_≡_};
 ghost use mathlib.Core.Bool.{true, false};
 ghost use Prim.Native.Nat.{_+_, _-_, _*_, _<_, _≤_, ℕ};
-ghost use lib.ListN.{length, getD, take};
+ghost use lib.ListN.{length, getD};
 ghost use Rattle.rules.specs.Refusals.{refusalNumber, refusalPlace};
 ghost use Rattle.image.specs.Image.{two, valid, entriesOf};
 ghost use Rattle.reading.specs.Speech.{delivered, refused};
 ghost use Rattle.tables.specs.Walk.{counted, walkedAs, walkSaid, walkSteps, walk as walkBy};
-ghost use Rattle.reading.specs.Places.{entriesAt};
 ghost use Rattle.walk.specs.Passes.{Stepped, Symbols, rowsAt, leftOn, rightOn, Passed};
-ghost use Rattle.walk.specs.Letters.{foundOf, lowestShared, choiceBy, Chooses, refusalAt, choicesBy, endingAs, ReadBy, Bounded};
+ghost use Rattle.walk.specs.Letters.{foundOf, lowestShared, choiceBy, Chooses, refusalAt, choicesBy, reachedAs, Placed, ReadBy, Bounded};
 ghost use Rattle.walk.specs.Walked.{walkedOf, lengthsFor, leftFor, rightFor, walkFor, walkOn, Both, Fit};
 
 fn wide(x: u16) -> usize
@@ -40,19 +39,17 @@ fn look_up(words: &[u16], rows: usize, s: Step, c: u8) -> Step
     }
 }
 
-// The states of a pass, each at its position; where one is not below the state count, the tables are unusable.
+// Whether every state of a pass is below the state count, and how many entries it looked up.
 pub struct Pass {
     pub usable: bool,
-    pub states: [u16; 66],
     pub steps: usize,
 }
 
 // The left pass reads all positions but the last; at i stands the state after position i - 1.
-fn left_pass(words: &[u16], rows: usize, count: usize, frame: &[u8]) -> Pass
-    requires { ⌜ (rows + 64 * count ≤ length (now words)) × (0 < count) × (2 ≤ length (now frame)) × (length (now frame) ≤ 66) × Symbols (now frame) ⌝ }
-    ensures { λ r. ⌜ Passed (leftOn (rowsAt (now (words .entry)) rows count) (now (frame .entry))) count (length (now (frame .entry)) - 1) (length (now (frame .entry)) - 1) 0 r ⌝ }
+fn left_pass(words: &[u16], rows: usize, count: usize, frame: &[u8], states: &mut [u16]) -> Pass
+    requires { ⌜ (rows + 64 * count ≤ length (now words)) × (0 < count) × (2 ≤ length (now frame)) × (length (now frame) ≤ 66) × Symbols (now frame) × (length (now states) ≡ 66) ⌝ }
+    ensures { λ r. ⌜ Passed (leftOn (rowsAt (now (words .entry)) rows count) (now (frame .entry))) count (length (now (frame .entry)) - 1) (length (now (frame .entry)) - 1) 0 (now (states .exit)) r ⌝ }
 {
-    let mut states = [0u16; 66];
     let mut at = Step { state: 0, steps: 0 };
     let end = frame.len() - 1;
     let mut i: usize = 0;
@@ -62,7 +59,6 @@ fn left_pass(words: &[u16], rows: usize, count: usize, frame: &[u8]) -> Pass
         if count <= wide(state) {
             return Pass {
                 usable: false,
-                states,
                 steps: 0,
             };
         }
@@ -72,17 +68,22 @@ fn left_pass(words: &[u16], rows: usize, count: usize, frame: &[u8]) -> Pass
     let steps = at.steps;
     Pass {
         usable: true,
-        states,
         steps,
     }
 }
 
 // The right pass reads from the last position down to 1; at i stands the state after position i. Its count goes on from `steps`.
-fn right_pass(words: &[u16], rows: usize, count: usize, frame: &[u8], steps: usize) -> Pass
-    requires { ⌜ (rows + 64 * count ≤ length (now words)) × (0 < count) × (2 ≤ length (now frame)) × (length (now frame) ≤ 66) × (steps ≤ 66) × Symbols (now frame) ⌝ }
-    ensures { λ r. ⌜ Passed (rightOn (rowsAt (now (words .entry)) rows count) steps (now (frame .entry))) count (length (now (frame .entry)) - 1) 1 steps r ⌝ }
+fn right_pass(
+    words: &[u16],
+    rows: usize,
+    count: usize,
+    frame: &[u8],
+    steps: usize,
+    states: &mut [u16],
+) -> Pass
+    requires { ⌜ (rows + 64 * count ≤ length (now words)) × (0 < count) × (2 ≤ length (now frame)) × (length (now frame) ≤ 66) × (steps ≤ 66) × Symbols (now frame) × (length (now states) ≡ 66) ⌝ }
+    ensures { λ r. ⌜ Passed (rightOn (rowsAt (now (words .entry)) rows count) steps (now (frame .entry))) count (length (now (frame .entry)) - 1) 1 steps (now (states .exit)) r ⌝ }
 {
-    let mut states = [0u16; 66];
     let mut at = Step { state: 0, steps };
     let mut i = frame.len();
     while 1 < i {
@@ -92,7 +93,6 @@ fn right_pass(words: &[u16], rows: usize, count: usize, frame: &[u8], steps: usi
         if count <= wide(state) {
             return Pass {
                 usable: false,
-                states,
                 steps: 0,
             };
         }
@@ -101,7 +101,6 @@ fn right_pass(words: &[u16], rows: usize, count: usize, frame: &[u8], steps: usi
     let steps = at.steps;
     Pass {
         usable: true,
-        states,
         steps,
     }
 }
@@ -136,24 +135,24 @@ pub enum Chosen {
     Unusable,
 }
 
-// The rule count of an image.
-fn rule_count(image: &[u8]) -> usize
-    requires { ⌜ valid (now image) ≡ true ⌝ }
-    ensures { λ r. ⌜ r ≡ two 0 (now (image .entry)) ⌝ }
-{
-    wide(image::two_at(image, 0))
-}
-
 // The choice at position `i`: the rule of lowest place, which must be in the list and fit.
-fn choose(sets: &[u64], s: usize, t: usize, image: &[u8], frame: &[u8], i: usize) -> Chosen
-    requires { ⌜ (s + 8 ≤ length (now sets)) × (t + 8 ≤ length (now sets)) × (valid (now image) ≡ true) × (i ≤ length (now frame)) ⌝ }
+fn choose(
+    sets: &[u64],
+    s: usize,
+    t: usize,
+    image: &[u8],
+    rules: usize,
+    frame: &[u8],
+    i: usize,
+) -> Chosen
+    requires { ⌜ (s + 8 ≤ length (now sets)) × (t + 8 ≤ length (now sets)) × (valid (now image) ≡ true) × («rules» ≡ two 0 (now image)) × (i ≤ length (now frame)) ⌝ }
     ensures { λ r. ⌜ Chooses (now (image .entry)) (choiceBy (now (image .entry)) (now (sets .entry)) s t (now (frame .entry)) i) r ⌝ }
 {
     let found = lowest_place(sets, s, t);
     let Found::Place(place) = found else {
         return Chosen::Nothing;
     };
-    if rule_count(image) <= place {
+    if rules <= place {
         return Chosen::Unusable;
     }
     if !reading::fits_at(image, place, frame, i) {
@@ -173,16 +172,10 @@ fn refusal_at(choice: Chosen, i: usize) -> Refusal
     }
 }
 
-pub enum Ending {
-    Finished,
+// How reading ended: how many rules were applied, or the refusal.
+pub enum Reached {
+    Rules(usize),
     Refused(Refusal),
-}
-
-// The places of the rules applied, in order, and how reading ended.
-pub struct Reached {
-    pub places: [u16; 64],
-    pub count: usize,
-    pub ending: Ending,
 }
 
 // At each reached letter the rule chosen by its two remembered states is applied, and reading goes on after its target.
@@ -191,75 +184,55 @@ fn read_letters(
     right_sets: usize,
     image: &[u8],
     frame: &[u8],
-    left: [u16; 66],
-    right: [u16; 66],
+    left: &[u16],
+    right: &[u16],
+    places: &mut [u16],
 ) -> Reached
-    requires { ⌜ (valid (now image) ≡ true) × (2 ≤ length (now frame)) × (length (now frame) ≤ 66) × Bounded (length (now sets)) «right_sets» left right ⌝ }
-    ensures { λ r. ⌜ ReadBy (now (image .entry)) (choicesBy (now (image .entry)) (now (sets .entry)) «right_sets» left right (now (frame .entry))) (length (now (frame .entry)) - 2) r ⌝ }
+    requires { ⌜ (valid (now image) ≡ true) × (2 ≤ length (now frame)) × (length (now frame) ≤ 66) × Bounded (length (now sets)) «right_sets» (length (now frame) - 2) (now left) (now right) × (length (now places) ≡ 64) ⌝ }
+    ensures { λ r. ⌜ ReadBy (now (image .entry)) (choicesBy (now (image .entry)) (now (sets .entry)) «right_sets» (now (left .entry)) (now (right .entry)) (now (frame .entry))) (length (now (frame .entry)) - 2) (now (places .exit)) r ⌝ }
 {
-    let mut places = [0u16; 64];
-    let mut count: usize = 0;
+    let rules = wide(image::two_at(image, 0));
     let end = frame.len() - 1;
+    let mut count: usize = 0;
     let mut i: usize = 1;
     while i < end {
         let s = 8 * wide(left[i]);
         let t = right_sets + 8 * wide(right[i]);
-        let choice = choose(sets, s, t, image, frame, i);
+        let choice = choose(sets, s, t, image, rules, frame, i);
         let Chosen::Rule(place) = choice else {
-            return Reached {
-                places,
-                count,
-                ending: Ending::Refused(refusal_at(choice, i)),
-            };
+            return Reached::Refused(refusal_at(choice, i));
         };
         places[count] = place as u16;
         count += 1;
         i += reading::target_len_at(image, place);
     }
-    Reached {
-        places,
-        count,
-        ending: Ending::Finished,
-    }
-}
-
-// The states that both passes remember, and how many entries they looked up.
-pub struct Passes {
-    pub usable: bool,
-    pub left: [u16; 66],
-    pub right: [u16; 66],
-    pub steps: usize,
+    Reached::Rules(count)
 }
 
 // The left pass, then the right pass, whose count goes on from the left's.
-fn run_passes(words: &[u16], left_states: usize, right_states: usize, frame: &[u8]) -> Passes
-    requires { ⌜ (0 < «left_states») × (0 < «right_states») × (2 + 64 * («left_states» + «right_states») ≤ length (now words)) × (2 ≤ length (now frame)) × (length (now frame) ≤ 66) × Symbols (now frame) ⌝ }
-    ensures { λ r. ⌜ Both (now (words .entry)) «left_states» «right_states» (now (frame .entry)) (length (now (frame .entry)) - 2) r ⌝ }
+fn run_passes(
+    words: &[u16],
+    left_states: usize,
+    right_states: usize,
+    frame: &[u8],
+    left: &mut [u16],
+    right: &mut [u16],
+) -> Pass
+    requires { ⌜ (0 < «left_states») × (0 < «right_states») × (2 + 64 * («left_states» + «right_states») ≤ length (now words)) × (2 ≤ length (now frame)) × (length (now frame) ≤ 66) × Symbols (now frame) × (length (now left) ≡ 66) × (length (now right) ≡ 66) ⌝ }
+    ensures { λ r. ⌜ Both (now (words .entry)) «left_states» «right_states» (now (frame .entry)) (length (now (frame .entry)) - 2) (now (left .exit)) (now (right .exit)) r ⌝ }
 {
-    let first = left_pass(words, 2, left_states, frame);
-    let left = first.states;
+    let first = left_pass(words, 2, left_states, frame, left);
     if !first.usable {
-        return Passes {
-            usable: false,
-            left,
-            right: left,
-            steps: 0,
-        };
+        return first;
     }
-    let second = right_pass(
+    right_pass(
         words,
         2 + 64 * left_states,
         right_states,
         frame,
         first.steps,
-    );
-    let right = second.states;
-    Passes {
-        usable: second.usable,
-        left,
         right,
-        steps: second.steps,
-    }
+    )
 }
 
 // The answer of a walk: the entries looked up, and what was said.
@@ -286,25 +259,23 @@ fn steps_with(x: Refusal, steps: usize) -> usize
 fn speak(
     image: &[u8],
     reached: Reached,
+    places: &[u16],
     steps: usize,
     phones: &mut [u8],
     numbers: &mut [u16],
 ) -> WalkAnswer
-    requires { ⌜ (valid (now image) ≡ true) × (reached .count ≤ 64) × ((k : ℕ) → k < reached .count → getD (reached .places) k 0 < two 0 (now image)) ⌝ }
-    ensures { λ r. ⌜ walkedOf r (now (phones .exit)) (now (numbers .exit)) ≡ walkedAs (delivered (endingAs (reached .ending) (entriesAt (now (image .entry)) (take (reached .count) (reached .places)))) (now (phones .entry)) (now (numbers .entry))) steps ⌝ }
+    requires { ⌜ (valid (now image) ≡ true) × Placed (now image) (now places) reached ⌝ }
+    ensures { λ r. ⌜ walkedOf r (now (phones .exit)) (now (numbers .exit)) ≡ walkedAs (delivered (reachedAs (now (image .entry)) (now (places .entry)) reached) (now (phones .entry)) (now (numbers .entry))) steps ⌝ }
 {
-    let ending = reached.ending;
-    match ending {
-        Ending::Refused(x) => {
+    match reached {
+        Reached::Refused(x) => {
             let speech = Speech::Refused(x);
             WalkAnswer {
                 steps: steps_with(x, steps),
                 speech,
             }
         }
-        Ending::Finished => {
-            let places = reached.places;
-            let count = reached.count;
+        Reached::Rules(count) => {
             let speech = reading::deliver(image, &places[..count], phones, numbers);
             WalkAnswer { steps, speech }
         }
@@ -325,17 +296,33 @@ fn walk_frame<'a>(
     requires { ⌜ Fit (length (now words)) (length (now sets)) «left_states» «right_states» × (valid (now image) ≡ true) × (2 ≤ length (now frame)) × (length (now frame) ≤ 66) × Symbols (now frame) ⌝ }
     ensures { λ r. ⌜ walkedOf r (now (phones .exit)) (now (numbers .exit)) ≡ walkOn (leftFor (now (words .entry)) (now (sets .entry)) «left_states») (rightFor (now (words .entry)) (now (sets .entry)) «left_states» «right_states») (now (frame .entry)) (length (now (frame .entry)) - 2) (entriesOf (now (image .entry))) (now (phones .entry)) (now (numbers .entry)) ⌝ }
 {
-    let passes = run_passes(words, left_states, right_states, frame);
+    let mut left = [0u16; 66];
+    let mut right = [0u16; 66];
+    let passes = run_passes(
+        words,
+        left_states,
+        right_states,
+        frame,
+        &mut left,
+        &mut right,
+    );
     if !passes.usable {
         return WalkAnswer {
             steps: 0,
             speech: Speech::Refused(Refusal::BadTables(0)),
         };
     }
-    let left = passes.left;
-    let right = passes.right;
-    let reached = read_letters(sets, 8 * left_states, image, frame, left, right);
-    speak(image, reached, passes.steps, phones, numbers)
+    let mut places = [0u16; 64];
+    let reached = read_letters(
+        sets,
+        8 * left_states,
+        image,
+        frame,
+        &left,
+        &right,
+        &mut places,
+    );
+    speak(image, reached, &places, passes.steps, phones, numbers)
 }
 
 // The walk of a name of letters through tables whose lengths fit.
@@ -352,7 +339,8 @@ fn walk_letters<'a>(
     requires { ⌜ Fit (length (now words)) (length (now sets)) «left_states» «right_states» × (valid (now image) ≡ true) × (length (now name) ≤ 64) × Symbols (now name) ⌝ }
     ensures { λ r. ⌜ walkedOf r (now (phones .exit)) (now (numbers .exit)) ≡ walkedAs (delivered (walkBy (leftFor (now (words .entry)) (now (sets .entry)) «left_states») (rightFor (now (words .entry)) (now (sets .entry)) «left_states» «right_states») (now (name .entry)) (entriesOf (now (image .entry)))) (now (phones .entry)) (now (numbers .entry))) (walkSteps (leftFor (now (words .entry)) (now (sets .entry)) «left_states») (rightFor (now (words .entry)) (now (sets .entry)) «left_states» «right_states») (now (name .entry))) ⌝ }
 {
-    let frame = reading::framed(name);
+    let mut frame = [0u8; 66];
+    reading::lay_frame(name, &mut frame);
     let end = name.len() + 2;
     walk_frame(
         words,

@@ -37,15 +37,12 @@ returns c =
       inside = λ p e. absurd (never Nothing p e refl);
     }
 
-rule-count-requires : tie.Need-rule-count-requires
-rule-count-requires c κs = search needs
-
 returns-2 : tie.Need-returns-2
 returns-2 c =
     record {
       is =
-          sym (place-past (c .before .before .before .before .before .before .before .before .before .args .image .now) (c .before .before .before .before .before .before .before .before .before .args .sets .now) (c .before .before .before .before .before .before .before .before .before .args .s) (c .before .before .before .before .before .before .before .before .before .args .t) (c .before .before .before .before .before .before .before .before .before .args .frame .now) (c .before .before .before .before .before .before .before .before .before .args .i) (c .before .before .before .found .given .0 .0) (found-some _ _ (sym (c .before .before .before .before .before .lowest-place .ensures) ∙ c .before .before .before .found .given .1))
-          (omega (arith, c .before .rule-count .ensures)));
+          sym (place-past (c .before .before .before .before .before .before .before .before .args .image .now) (c .before .before .before .before .before .before .before .before .args .sets .now) (c .before .before .before .before .before .before .before .before .args .s) (c .before .before .before .before .before .before .before .before .args .t) (c .before .before .before .before .before .before .before .before .args .frame .now) (c .before .before .before .before .before .before .before .before .args .i) (c .before .before .found .given .0 .0) (found-some _ _ (sym (c .before .before .before .before .lowest-place .ensures) ∙ c .before .before .found .given .1))
+          (omega (arith, c .before .before .before .before .before .before .before .before .pre .3)));
       inside = λ p e. absurd (never-2 Unusable p e refl);
     }
 
@@ -56,20 +53,20 @@ returns-3 : tie.Need-returns-3
 returns-3 c =
     record {
       is =
-          sym (place-unfit (c .before .before .before .before .before .before .before .before .before .before .before .args .image .now) (c .before .before .before .before .before .before .before .before .before .before .before .args .sets .now) (c .before .before .before .before .before .before .before .before .before .before .before .args .s) (c .before .before .before .before .before .before .before .before .before .before .before .args .t) (c .before .before .before .before .before .before .before .before .before .before .before .args .frame .now) (c .before .before .before .before .before .before .before .before .before .before .before .args .i) (c .before .before .before .before .before .found .given .0 .0) (found-some _ _ (sym (c .before .before .before .before .before .before .before .lowest-place .ensures) ∙ c .before .before .before .before .before .found .given .1))
-          (omega (arith, c .before .before .before .rule-count .ensures)) (sym (c .before .fits-at .ensures) ∙ not-true _ (c .if2 .taken)));
+          sym (place-unfit (c .before .before .before .before .before .before .before .before .before .before .args .image .now) (c .before .before .before .before .before .before .before .before .before .before .args .sets .now) (c .before .before .before .before .before .before .before .before .before .before .args .s) (c .before .before .before .before .before .before .before .before .before .before .args .t) (c .before .before .before .before .before .before .before .before .before .before .args .frame .now) (c .before .before .before .before .before .before .before .before .before .before .args .i) (c .before .before .before .before .found .given .0 .0) (found-some _ _ (sym (c .before .before .before .before .before .before .lowest-place .ensures) ∙ c .before .before .before .before .found .given .1))
+          (omega (arith, c .before .before .before .before .before .before .before .before .before .before .pre .3)) (sym (c .before .fits-at .ensures) ∙ not-true _ (c .if2 .taken)));
       inside = λ p e. absurd (never-2 Unusable p e refl);
     }
 
 returns-4 : tie.Need-returns-4
 returns-4 c =
-    let place = c .before .before .before .before .before .found .given .0 .0 in
-    let l : place < two 0 (c .before .before .before .before .before .before .before .before .before .before .before .args .image .now) = omega (arith, c .before .before .before .rule-count .ensures) in
+    let place = c .before .before .before .before .found .given .0 .0 in
+    let l : place < two 0 (c .before .before .before .before .before .before .before .before .before .before .args .image .now) = omega (arith, c .before .before .before .before .before .before .before .before .before .before .pre .3) in
     record {
       is =
-          sym (place-fits (c .before .before .before .before .before .before .before .before .before .before .before .args .image .now) (c .before .before .before .before .before .before .before .before .before .before .before .args .sets .now) (c .before .before .before .before .before .before .before .before .before .before .before .args .s) (c .before .before .before .before .before .before .before .before .before .before .before .args .t) (c .before .before .before .before .before .before .before .before .before .before .before .args .frame .now) (c .before .before .before .before .before .before .before .before .before .before .before .args .i) place (found-some _ _ (sym (c .before .before .before .before .before .before .before .lowest-place .ensures) ∙ c .before .before .before .before .before .found .given .1))
+          sym (place-fits (c .before .before .before .before .before .before .before .before .before .before .args .image .now) (c .before .before .before .before .before .before .before .before .before .before .args .sets .now) (c .before .before .before .before .before .before .before .before .before .before .args .s) (c .before .before .before .before .before .before .before .before .before .before .args .t) (c .before .before .before .before .before .before .before .before .before .before .args .frame .now) (c .before .before .before .before .before .before .before .before .before .before .args .i) place (found-some _ _ (sym (c .before .before .before .before .before .before .lowest-place .ensures) ∙ c .before .before .before .before .found .given .1))
           l (sym (c .before .fits-at .ensures) ∙ not-false _ (c .if2 .left)));
-      inside = λ p e. subst (λ (q : ℕ). q < two 0 (c .before .before .before .before .before .before .before .before .before .before .before .args .image .now)) (same-place place p e) l;
+      inside = λ p e. subst (λ (q : ℕ). q < two 0 (c .before .before .before .before .before .before .before .before .before .before .args .image .now)) (same-place place p e) l;
     }
 
 pub choose-spec : {M : Type 1} → statement M
@@ -80,7 +77,6 @@ choose-spec =
     enum-known-found
     enum-told
     returns
-    rule-count-requires
     returns-2
     fits-at-requires
     returns-3

@@ -1,7 +1,7 @@
 -- `walk::right_pass` meets its contract, by the loop invariant `Passing`: the states of the positions from i on are remembered.
 -- Assumes nothing.
 use Prim.Native.Nat.{_+_, _-_, _≤_, _<_}
-use mathlib.Core.Path.{_≡_, refl}
+use mathlib.Core.Path.{_≡_, refl, sym, _∙_}
 use native.Mathlib.Omega.{arith}
 use lib.ListN.{length}
 use Rattle.walk.specs.Passes.{rowsAt, rightOn}
@@ -17,8 +17,8 @@ abbrev μ-loop : tie.MeasureT-loop
 
 loop-holds : tie.Need-loop-holds Inv-loop μ-loop
 loop-holds c =
-    let a = c .before .before .args in
-    (omega arith, omega arith, refl, right-start (a .words .now) (a .rows) (a .count) (a .frame .now) (a .steps) (omega arith) (omega arith))
+    let a = c .before .before .before .args in
+    (omega arith, omega arith, refl, right-start (a .words .now) (a .rows) (a .count) (a .frame .now) (a .steps) (a .states .now) (c .before .before .before .pre .6) (omega arith) (omega arith))
 
 sub-i : tie.Need-sub-i Inv-loop μ-loop
 sub-i c = omega arith
@@ -28,36 +28,39 @@ shared-slice-read-look-up c = omega arith
 
 look-up-requires : tie.Need-look-up-requires Inv-loop μ-loop
 look-up-requires c κs =
-    let l = c .before .before .before .before .before .pre .5 (c .before .before .loop .i - 1) (omega arith) in
+    let l = c .before .before .before .before .before .before .pre .5 (c .before .before .loop .i - 1) (omega arith) in
     let b = c .before .before .loop .inv .3 .below in
     (omega arith, omega (arith, c .before .before .loop .inv .2))
 
 wide-requires : tie.Need-wide-requires Inv-loop μ-loop
 wide-requires c κs = tt
 
+same-length : tie.Need-same-length Inv-loop μ-loop
+same-length c = c .before .before .before .before .before .loop .inv .3 .room ∙ sym (c .before .before .before .before .before .before .before .before .before .pre .6)
+
 returns : tie.Need-returns Inv-loop μ-loop
 returns c =
-    let a = c .before .before .before .before .before .before .before .before .args in
+    let a = c .before .before .before .before .before .before .before .before .before .args in
     let k = c .before .before .before .before .before .loop in
     let r = c .before .before .look-up in
     let p = k .inv .3 in
     let b : a .count ≤ r .result .state = omega (arith, c .before .wide .ensures) in
     stop (rightOn (rowsAt (a .words .now) (a .rows) (a .count)) (a .steps) (a .frame .now)) (a .count) _ _ _ (k .i - 1) (r .result .state)
     (right-state (a .words .now) (a .rows) (a .count) (a .frame .now) (a .steps) (k .at) (k .i) (p .here) (p .looked) (omega arith) (omega arith) (r .result) (r .ensures))
-    (omega arith) (omega arith) b _ refl
+    (omega arith) (omega arith) b _ _ refl
 
 mul-states : tie.Need-mul-states Inv-loop μ-loop
 mul-states c = omega arith
 
-array-write-states : tie.Need-array-write-states Inv-loop μ-loop
-array-write-states c = omega arith
+slice-write-states : tie.Need-slice-write-states Inv-loop μ-loop
+slice-write-states c = omega (arith, c .before .before .before .before .before .loop .inv .3 .room)
 
 loop-less : tie.Need-loop-less Inv-loop μ-loop
 loop-less c = omega arith
 
 loop-again : tie.Need-loop-again Inv-loop μ-loop
 loop-again c =
-    let a = c .before .before .before .before .before .before .before .before .args in
+    let a = c .before .before .before .before .before .before .before .before .before .args in
     let k = c .before .before .before .before .before .loop in
     let r = c .before .before .look-up in
     let p = k .inv .3 in
@@ -71,12 +74,15 @@ loop-again c =
           b (omega arith) (λ j l m d. (omega arith, omega arith)),
     )
 
+same-length-2 : tie.Need-same-length-2 Inv-loop μ-loop
+same-length-2 c = c .before .loop .inv .3 .room ∙ sym (c .before .before .before .before .before .pre .6)
+
 returns-2 : tie.Need-returns-2 Inv-loop μ-loop
 returns-2 c =
-    let a = c .before .before .before .before .args in
+    let a = c .before .before .before .before .before .args in
     let k = c .before .loop in
     finished (rightOn (rowsAt (a .words .now) (a .rows) (a .count)) (a .steps) (a .frame .now)) (a .count) (length (a .frame .now) - 1) 1 (a .steps)
-    (k .inv .3) (omega arith) (omega arith) (omega arith) (omega (arith, k .inv .2)) _ refl refl refl
+    (k .inv .3) (omega arith) (omega arith) (omega arith) (omega (arith, k .inv .2)) _ refl refl
 
 pub right-pass-spec : {M : Type 1} → statement M
 right-pass-spec =
@@ -89,9 +95,11 @@ right-pass-spec =
     shared-slice-read-look-up
     look-up-requires
     wide-requires
+    same-length
     returns
     mul-states
-    array-write-states
+    slice-write-states
     loop-less
     loop-again
+    same-length-2
     returns-2)

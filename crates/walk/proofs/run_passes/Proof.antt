@@ -1,7 +1,7 @@
 -- `walk::run_passes` meets its contract, from those of the two passes.
 -- Assumes nothing.
 use Prim.Native.Nat.{ℕ, suc, _+_, _-_, _*_, _≤_}
-use mathlib.Core.Path.{_≡_, refl, subst}
+use mathlib.Core.Path.{_≡_, subst}
 use borrow.Author.Needs.{needs}
 use borrow.Author.Tests.{not-true, not-false}
 use native.Mathlib.Omega.{arith}
@@ -17,12 +17,15 @@ shorter k h = omega arith
 left-pass-requires : tie.Need-left-pass-requires
 left-pass-requires c κs = search needs
 
+same-length : tie.Need-same-length
+same-length c = c .before .before .before .before .left-pass .kept .1 .1 .1 .1 .0
+
 returns : tie.Need-returns
 returns c =
-    let a = c .before .before .before .before .before .before .args in
-    both-bad (a .words .now) (a .left-states) (a .right-states) (a .frame .now) (length (a .frame .now) - 2) (c .before .before .before .left-pass .result)
-    (subst (λ (n : ℕ). Passed (leftOn (rowsAt (a .words .now) 2 (a .left-states)) (a .frame .now)) (a .left-states) n n 0 (c .before .before .before .left-pass .result)) (shorter (length (a .frame .now)) (c .before .before .before .before .before .before .pre .3)) (c .before .before .before .left-pass .ensures))
-    (not-true _ (c .if1 .taken)) _ refl
+    let a = c .before .before .before .before .before .before .before .before .before .before .args in
+    both-bad (a .words .now) (a .left-states) (a .right-states) (a .frame .now) (length (a .frame .now) - 2) (c .before .before .before .before .left-pass .last .1 .1 .1 .1 .0) (a .right .now) (c .before .before .before .before .left-pass .result)
+    (subst (λ (n : ℕ). Passed (leftOn (rowsAt (a .words .now) 2 (a .left-states)) (a .frame .now)) (a .left-states) n n 0 (c .before .before .before .before .left-pass .last .1 .1 .1 .1 .0) (c .before .before .before .before .left-pass .result)) (shorter (length (a .frame .now)) (c .before .before .before .before .before .before .before .before .before .before .pre .3)) (c .before .before .before .before .left-pass .ensures))
+    (not-true _ (c .if1 .taken))
 
 mul-right-pass : tie.Need-mul-right-pass
 mul-right-pass c = search needs
@@ -32,26 +35,36 @@ add-right-pass c = search needs
 
 right-pass-requires : tie.Need-right-pass-requires
 right-pass-requires c κs =
-    (omega arith, c .before .before .before .before .before .before .pre .1, c .before .before .before .before .before .before .pre .3, c .before .before .before .before .before .before .pre .4, omega (arith, c .before .before .before .left-pass .ensures .many (not-false _ (c .if1 .left))), c .before .before .before .before .before .before .pre .5)
+    let p = c .before .before .before .before .before .before .before .before .before .before .before .pre in
+    (omega arith, p .1, p .3, p .4, omega (arith, c .before .before .before .before .before .left-pass .ensures .many (not-false _ (c .before .if1 .left))), p .5, p .7)
+
+same-length-2 : tie.Need-same-length-2
+same-length-2 c = c .before .before .before .before .before .before .before .before .left-pass .kept .1 .1 .1 .1 .0
+
+same-length-3 : tie.Need-same-length-3
+same-length-3 c = c .before .before .right-pass .kept .1 .1 .1 .1 .1 .0
 
 returns-2 : tie.Need-returns-2
 returns-2 c =
-    let a = c .before .before .before .before .before .before .before .before .args in
-    let one = c .before .before .before .before .before .left-pass in
-    both-good (a .words .now) (a .left-states) (a .right-states) (a .frame .now) (length (a .frame .now) - 2) (one .result)
-    (subst (λ (n : ℕ). Passed (leftOn (rowsAt (a .words .now) 2 (a .left-states)) (a .frame .now)) (a .left-states) n n 0 (one .result)) (shorter (length (a .frame .now)) (c .before .before .before .before .before .before .before .before .pre .3)) (one .ensures))
-    (not-false _ (c .before .before .if1 .left)) (c .before .right-pass .result)
-    (subst (λ (n : ℕ). Passed (rightOn (rowsAt (a .words .now) (2 + 64 * a .left-states) (a .right-states)) (one .result .steps) (a .frame .now)) (a .right-states) n 1 (one .result .steps) (c .before .right-pass .result))
-    (shorter (length (a .frame .now)) (c .before .before .before .before .before .before .before .before .pre .3)) (c .before .right-pass .ensures))
-    _ refl refl refl refl
+    let a = c .before .before .before .before .before .before .before .before .before .before .before .before .before .before .args in
+    let one = c .before .before .before .before .before .before .before .before .left-pass in
+    let two = c .before .before .right-pass in
+    both-good (a .words .now) (a .left-states) (a .right-states) (a .frame .now) (length (a .frame .now) - 2) (one .last .1 .1 .1 .1 .0) (two .last .1 .1 .1 .1 .1 .0) (one .result)
+    (subst (λ (n : ℕ). Passed (leftOn (rowsAt (a .words .now) 2 (a .left-states)) (a .frame .now)) (a .left-states) n n 0 (one .last .1 .1 .1 .1 .0) (one .result)) (shorter (length (a .frame .now)) (c .before .before .before .before .before .before .before .before .before .before .before .before .before .before .pre .3)) (one .ensures))
+    (not-false _ (c .before .before .before .before .if1 .left)) (two .result)
+    (subst (λ (n : ℕ). Passed (rightOn (rowsAt (a .words .now) (2 + 64 * a .left-states) (a .right-states)) (one .result .steps) (a .frame .now)) (a .right-states) n 1 (one .result .steps) (two .last .1 .1 .1 .1 .1 .0) (two .result))
+    (shorter (length (a .frame .now)) (c .before .before .before .before .before .before .before .before .before .before .before .before .before .before .pre .3)) (two .ensures))
 
 pub run-passes-spec : {M : Type 1} → statement M
 run-passes-spec =
     tie.close
     (tie.spec
     left-pass-requires
+    same-length
     returns
     mul-right-pass
     add-right-pass
     right-pass-requires
+    same-length-2
+    same-length-3
     returns-2)

@@ -5,7 +5,7 @@ use mathlib.Core.Path.{_≡_, sym, ap, _∙_, subst}
 use mathlib.Core.List.{List}
 use borrow.Author.Needs.{needs}
 use native.Mathlib.Omega.{arith}
-use lib.ListN.{length, take}
+use lib.ListN.{length, take, replicate}
 use Rattle.image.specs.Image.{entriesOf}
 use Rattle.reading.proofs.Strings.{frame-long, frame-part}
 use Rattle.walk.specs.Passes.{Symbols}
@@ -14,24 +14,31 @@ use Rattle.walk.proofs.Walked.{frame-symbols, walk-name}
 use Rattle.walk.proofs.walk_letters.Statement.{statement}
 use Rattle.walk.proofs.walk_letters.Tie as tie
 
-framed-requires : tie.Need-framed-requires
-framed-requires c κs = search needs
+slice-aggregate-lay-frame : tie.Need-slice-aggregate-lay-frame
+slice-aggregate-lay-frame c = search needs
+
+lay-frame-requires : tie.Need-lay-frame-requires
+lay-frame-requires c κs = search needs
 
 add-end : tie.Need-add-end
 add-end c = search needs
 
 array-share-prefix-frame : tie.Need-array-share-prefix-frame
-array-share-prefix-frame c = search needs
+array-share-prefix-frame c = omega (arith, c .before .lay-frame .kept .1 .0)
 
 slice-aggregate-walk-frame : tie.Need-slice-aggregate-walk-frame
-slice-aggregate-walk-frame c = sym (ap length (frame-part (c .before .before .before .before .before .before .before .before .args .name .now) (c .before .framed .result) (c .before .before .before .before .before .before .before .before .pre .2) (c .before .framed .ensures)) ∙ frame-long (c .before .before .before .before .before .before .before .before .args .name .now))
+slice-aggregate-walk-frame c =
+    let n = c .before .before .before .before .before .before .before .before .before .before .args .name .now in
+    sym (ap length (frame-part n (replicate 66 0) (c .before .before .lay-frame .last .1 .0) (c .before .before .lay-frame .ensures)) ∙ frame-long n)
 
 walk-frame-requires : tie.Need-walk-frame-requires
 walk-frame-requires c κs =
-    let q = c .before .before .before .before .before .before .before .before .before .before .pre in
-    let e = frame-part (c .before .before .before .before .before .before .before .before .before .before .args .name .now) (c .before .before .before .framed .result) (c .before .before .before .before .before .before .before .before .before .before .pre .2) (c .before .before .before .framed .ensures) in
-    let l : length (take (length (c .before .before .before .before .before .before .before .before .before .before .args .name .now) + 2) (c .before .before .before .framed .result)) ≡ length (c .before .before .before .before .before .before .before .before .before .before .args .name .now) + 2 = ap length e ∙ frame-long (c .before .before .before .before .before .before .before .before .before .before .args .name .now) in
-    (q .0, q .1, omega arith, omega arith, subst Symbols (sym e) (frame-symbols (c .before .before .before .before .before .before .before .before .before .before .args .name .now) (q .3)))
+    let q = c .before .before .before .before .before .before .before .before .before .before .before .before .pre in
+    let n = c .before .before .before .before .before .before .before .before .before .before .before .before .args .name .now in
+    let w = c .before .before .before .before .lay-frame .last .1 .0 in
+    let e = frame-part n (replicate 66 0) w (c .before .before .before .before .lay-frame .ensures) in
+    let l : length (take (length n + 2) w) ≡ length n + 2 = ap length e ∙ frame-long n in
+    (q .0, q .1, omega arith, omega arith, subst Symbols (sym e) (frame-symbols n (q .3)))
 
 same-length : tie.Need-same-length
 same-length c = search needs
@@ -41,18 +48,19 @@ same-length-2 c = search needs
 
 returns : tie.Need-returns
 returns c =
-    let a = c .before .before .before .before .before .before .before .before .before .before .before .before .before .before .before .args in
+    let a = c .before .before .before .before .before .before .before .before .before .before .before .before .before .before .before .before .before .args in
     let tl = leftFor (a .words .now) (a .sets .now) (a .left-states) in
     let tr = rightFor (a .words .now) (a .sets .now) (a .left-states) (a .right-states) in
     c .before .before .before .before .walk-frame .ensures
-    ∙ (ap (λ (f : List ℕ). walkOn tl tr f (length f - 2) (entriesOf (a .image .now)) (a .phones .now) (a .numbers .now)) (frame-part (c .before .before .before .before .before .before .before .before .before .before .before .before .before .before .before .args .name .now) (c .before .before .before .before .before .before .before .before .framed .result) (c .before .before .before .before .before .before .before .before .before .before .before .before .before .before .before .pre .2) (c .before .before .before .before .before .before .before .before .framed .ensures))
+    ∙ (ap (λ (f : List ℕ). walkOn tl tr f (length f - 2) (entriesOf (a .image .now)) (a .phones .now) (a .numbers .now)) (frame-part (a .name .now) (replicate 66 0) (c .before .before .before .before .before .before .before .before .before .lay-frame .last .1 .0) (c .before .before .before .before .before .before .before .before .before .lay-frame .ensures))
     ∙ walk-name tl tr (a .name .now) (entriesOf (a .image .now)) (a .phones .now) (a .numbers .now))
 
 pub walk-letters-spec : {M : Type 1} → statement M
 walk-letters-spec =
     tie.close
     (tie.spec
-    framed-requires
+    slice-aggregate-lay-frame
+    lay-frame-requires
     add-end
     array-share-prefix-frame
     slice-aggregate-walk-frame
