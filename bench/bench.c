@@ -1,6 +1,6 @@
 /*
  * The library beside the hand-written baseline, in one run: the same rulesets, the same names, and the
- * answers compared. Times are the best of several rounds. Built and run by bench/run.
+ * answers compared. Times are the best of many rounds. Built and run by bench/run.
  */
 #include "../host/pirrozketa.h"
 #include "baseline.h"
@@ -10,7 +10,7 @@
 #include <string.h>
 #include <time.h>
 
-enum { NAMES = 2000, ROUNDS = 15 };
+enum { NAMES = 2000, ROUNDS = 40 };
 
 static uint8_t image[PIRROZKETA_IMAGE], back[PIRROZKETA_IMAGE], file[PIRROZKETA_FILE], other[PIRROZKETA_FILE];
 static uint16_t words[PIRROZKETA_WORDS], base_words[BASE_WORDS];
@@ -36,9 +36,12 @@ static void must(int holds, const char *what)
     }
 }
 
-/* The best time of a statement in nanoseconds, over `per` pieces of work. */
-#define BEST(per, work) ({ double best = 1e18; for (int round = 0; round < ROUNDS; round++) { double t = now(); work; \
-    t = now() - t; if (t < best) best = t; } best / (per); })
+/* The best time so far of a statement in nanoseconds, over `per` pieces of work; it is run three times, so that its own data is in the caches. */
+#define TIME(best, per, work) for (int again_ = 0; again_ < 3; again_++) { double t = now(); work; t = (now() - t) / (per); if (t < best) best = t; }
+
+/* The best times of the library's work and of the baseline's, taken by turns, so that a slow spell of the machine meets both. */
+#define PAIR(mine, base, per, library, baseline) do { mine = base = 1e18; for (int round = 0; round < ROUNDS; round++) { \
+    TIME(mine, per, library) TIME(base, per, baseline) } } while (0)
 
 static unsigned draw(unsigned n) { return rand() % n; }
 
@@ -130,7 +133,7 @@ int main(void)
     uint8_t said[PIRROZKETA_PHONES];
     uint16_t by[PIRROZKETA_NUMBERS];
     size_t given, applied, steps;
-    double check;
+    double mine, base, check, none;
 
     printf("| work | library | baseline | ratio |\n|---|---|---|---|\n");
     srand(7);
@@ -143,15 +146,22 @@ int main(void)
     many(length);
     base_many();
     compare();
-    row("(a) a name, many at once, 320 rules", BEST(NAMES, many(length)), BEST(NAMES, base_many()));
+    PAIR(mine, base, NAMES, many(length), base_many());
+    row("(a) a name, many at once, 320 rules", mine, base);
 
-    double mine = BEST(NAMES, for (int k = 0; k < NAMES; k++)
-        pirrozketa_read_name(image, sizeof image, names + starts[k] + 1, names[starts[k]], said, sizeof said, by,
-                             PIRROZKETA_NUMBERS, &given, &applied));
-    check = BEST(NAMES, for (int k = 0; k < NAMES; k++) pirrozketa_check(image, sizeof image));
-    double base = BEST(NAMES, for (int k = 0; k < NAMES; k++)
-        base_plain(&rs, names + starts[k] + 1, names[starts[k]], &spoken[k]));
-    row("(c) build, 320 rules", BEST(1, build()), BEST(1, base_build(&rs, base_words, base_sets)));
+    PAIR(mine, base, 1, build(), base_build(&rs, base_words, base_sets));
+    row("(c) build, 320 rules", mine, base);
+    size_t least_words = 2 + 64 * (size_t)(words[0] + words[1]), least_sets = 8 * (size_t)(words[0] + words[1]);
+    PAIR(mine, base, 1, pirrozketa_build(image, sizeof image, words, least_words, sets, least_sets, &place),
+         base_build(&rs, base_words, base_sets));
+    row("(c) the same in the least memory, so that states are counted first", mine, base);
+
+    PAIR(mine, base, NAMES,
+         for (int k = 0; k < NAMES; k++)
+             pirrozketa_read_name(image, sizeof image, names + starts[k] + 1, names[starts[k]], said, sizeof said, by,
+                                  PIRROZKETA_NUMBERS, &given, &applied),
+         for (int k = 0; k < NAMES; k++) base_plain(&rs, names + starts[k] + 1, names[starts[k]], &spoken[k]));
+    PAIR(check, none, NAMES, for (int k = 0; k < NAMES; k++) pirrozketa_check(image, sizeof image), (void)0);
     row("(d) plain reading, 320 rules, the check of the ruleset taken off", mine - check, base);
     row("(d) the same with the check of the ruleset", mine, base);
 
@@ -159,20 +169,23 @@ int main(void)
     length = draw_names(512);
     build();
     base_build(&rs, base_words, base_sets);
-    mine = BEST(NAMES, for (int k = 0; k < NAMES; k++)
-        pirrozketa_speak(image, sizeof image, words, PIRROZKETA_WORDS, sets, PIRROZKETA_SETS, names + starts[k] + 1,
-                         names[starts[k]], said, sizeof said, by, PIRROZKETA_NUMBERS, &given, &applied, &steps));
-    check = BEST(NAMES, for (int k = 0; k < NAMES; k++) pirrozketa_check(image, sizeof image));
-    row("(b) one name, checked, 512 rules", mine, BEST(NAMES, base_many()));
+    PAIR(mine, base, NAMES,
+         for (int k = 0; k < NAMES; k++)
+             pirrozketa_speak(image, sizeof image, words, PIRROZKETA_WORDS, sets, PIRROZKETA_SETS, names + starts[k] + 1,
+                              names[starts[k]], said, sizeof said, by, PIRROZKETA_NUMBERS, &given, &applied, &steps),
+         base_many());
+    PAIR(check, none, NAMES, for (int k = 0; k < NAMES; k++) pirrozketa_check(image, sizeof image), (void)0);
+    row("(b) one name, checked, 512 rules", mine, base);
     printf("| (b) of which the check of the ruleset | %.0f ns | | |\n", check);
 
     rules(512, 1);
     must(pirrozketa_read_file(file, bytes, back, sizeof back, &place) == PIRROZKETA_ACCEPTED, "the file is refused");
     char what[80];
     snprintf(what, sizeof what, "(f) read a file of %zu bytes", bytes);
-    row(what, BEST(1, pirrozketa_read_file(file, bytes, back, sizeof back, &place)), BEST(1, base_read(file, bytes, &again)));
-    row("(f) write it", BEST(1, pirrozketa_write_file(image, sizeof image, other, sizeof other, &place)),
-        BEST(1, base_write(&rs, other)));
+    PAIR(mine, base, 1, pirrozketa_read_file(file, bytes, back, sizeof back, &place), base_read(file, bytes, &again));
+    row(what, mine, base);
+    PAIR(mine, base, 1, pirrozketa_write_file(image, sizeof image, other, sizeof other, &place), base_write(&rs, other));
+    row("(f) write it", mine, base);
 
     printf("\n| rules | a name, many at once | baseline | ratio |\n|---|---|---|---|\n");
     static const int sizes[] = { 16, 64, 256, 512 };
@@ -185,7 +198,8 @@ int main(void)
         base_many();
         compare();
         snprintf(what, sizeof what, "%d", sizes[k]);
-        row(what, BEST(NAMES, many(length)), BEST(NAMES, base_many()));
+        PAIR(mine, base, NAMES, many(length), base_many());
+        row(what, mine, base);
     }
     return 0;
 }
