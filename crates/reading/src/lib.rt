@@ -3,6 +3,7 @@ use rules::Refusal;
 ghost use mathlib.Core.Path.{_≡_};
 ghost use mathlib.Core.Bool.{true};
 ghost use Prim.Native.Nat.{_+_, _<_, _≤_};
+ghost use lib.Dec.{leb};
 ghost use lib.ListN.{length, take, drop};
 ghost use lib.Seq.{paste};
 ghost use Rattle.rules.specs.Memory.{over};
@@ -169,32 +170,37 @@ fn phone_count(image: &[u8], places: &[u16]) -> usize
     total
 }
 
-// The phones of the rules at places, in order.
-fn write_phones(image: &[u8], places: &[u16], phones: &mut [u8])
-    requires { ⌜ (valid (now image) ≡ true) × (Within (now image) (now places) × (length (phonesOf (entriesAt (now image) (now places))) ≤ length (now phones))) ⌝ }
-    ensures { λ _. ⌜ now (phones .exit) ≡ over (phonesOf (entriesAt (now (image .entry)) (now (places .entry)))) (now (phones .entry)) ⌝ }
+// Whether there is room for the phones of the rules at places. A rule has at most four, so that they need not be counted where there is
+// room for as many.
+fn phones_fit(image: &[u8], places: &[u16], room: usize) -> bool
+    requires { ⌜ (valid (now image) ≡ true) × ((length (now places) ≤ 64) × Within (now image) (now places)) ⌝ }
+    ensures { λ r. ⌜ r ≡ leb (length (phonesOf (entriesAt (now (image .entry)) (now (places .entry))))) room ⌝ }
+{
+    if 4 * places.len() <= room {
+        return true;
+    }
+    phone_count(image, places) <= room
+}
+
+// The phones and the numbers of the rules at places, in order; how many phones they are.
+fn write_rules(image: &[u8], places: &[u16], phones: &mut [u8], numbers: &mut [u16]) -> usize
+    requires { ⌜ (valid (now image) ≡ true) × Within (now image) (now places) × (length (phonesOf (entriesAt (now image) (now places))) ≤ length (now phones)) × (length (now places) ≤ length (now numbers)) ⌝ }
+    ensures count { λ r. ⌜ r ≡ length (phonesOf (entriesAt (now (image .entry)) (now (places .entry)))) ⌝ }
+    ensures phones { λ _. ⌜ now (phones .exit) ≡ over (phonesOf (entriesAt (now (image .entry)) (now (places .entry)))) (now (phones .entry)) ⌝ }
+    ensures numbers { λ _. ⌜ now (numbers .exit) ≡ over (numbersOf (entriesAt (now (image .entry)) (now (places .entry)))) (now (numbers .entry)) ⌝ }
 {
     let mut to = 0;
     let mut k = 0;
     while k < places.len() {
-        let at = 4 + 26 * wide_place(places[k]);
+        let place = wide_place(places[k]);
+        numbers[k] = image::number_at(image, place);
+        let at = 4 + 26 * place;
         let len = wide(image[at + 5]);
         copy(image, at + 22, phones, to, len);
         to += len;
         k += 1;
     }
-}
-
-// The numbers of the rules at places, in order.
-fn write_numbers(image: &[u8], places: &[u16], numbers: &mut [u16])
-    requires { ⌜ (valid (now image) ≡ true) × (Within (now image) (now places) × (length (now places) ≤ length (now numbers))) ⌝ }
-    ensures { λ _. ⌜ now (numbers .exit) ≡ over (numbersOf (entriesAt (now (image .entry)) (now (places .entry)))) (now (numbers .entry)) ⌝ }
-{
-    let mut k = 0;
-    while k < places.len() {
-        numbers[k] = image::number_at(image, wide_place(places[k]));
-        k += 1;
-    }
+    to
 }
 
 // The phones and the numbers of the rules at places, where the lent memory has room for both (document 01's refusals 4 and 5).
@@ -202,18 +208,16 @@ pub fn deliver(image: &[u8], places: &[u16], phones: &mut [u8], numbers: &mut [u
     requires { ⌜ (valid (now image) ≡ true) × ((length (now places) ≤ 64) × Within (now image) (now places)) ⌝ }
     ensures { λ r. ⌜ saying (toldOf r) (now (phones .exit)) (now (numbers .exit)) ≡ delivered (finished (entriesAt (now (image .entry)) (now (places .entry)))) (now (phones .entry)) (now (numbers .entry)) ⌝ }
 {
-    let total = phone_count(image, places);
-    if phones.len() < total {
-        return Speech::Refused(Refusal::PhonesRoom(total));
+    if !phones_fit(image, places, phones.len()) {
+        return Speech::Refused(Refusal::PhonesRoom(phone_count(image, places)));
     }
     let count = places.len();
     if numbers.len() < count {
         return Speech::Refused(Refusal::NumbersRoom(count));
     }
-    write_phones(image, places, phones);
-    write_numbers(image, places, numbers);
+    let given = write_rules(image, places, phones, numbers);
     Speech::Spoken {
-        phones: total,
+        phones: given,
         numbers: count,
     }
 }
