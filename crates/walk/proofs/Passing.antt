@@ -16,8 +16,8 @@ use Rattle.tables.specs.Tables.{Table}
 use Rattle.tables.specs.Walk.{Step as State, step, pass, allBelow}
 use Rattle.tables.proofs.Walk.{pass-append}
 use Rattle.walk.specs.Passes.{Stepped, rowsAt, leftOn, rightOn, Passed}
-use Rattle.walk.specs.declared.Step.{Step}
-use Rattle.walk.specs.declared.Pass.{Pass}
+use Rattle.walk.specs.declared.passes.Step.{Step}
+use Rattle.walk.specs.declared.passes.Pass.{Pass}
 
 -- ---- a test at every position from 1 to n
 

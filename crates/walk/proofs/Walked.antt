@@ -29,10 +29,10 @@ use Rattle.reading.specs.Places.{entriesAt}
 use Rattle.walk.specs.Passes.{Symbols, rowsAt, leftOn, rightOn, Passed}
 use Rattle.walk.specs.Letters.{lowestShared, choiceBy, choicesBy, reachedAs, ReadBy, Bounded}
 use Rattle.walk.specs.Walked.{walkedOf, lengthsFor, leftFor, rightFor, walkFor, stepsOn, usableOn, choiceOn, readOn, walkOn, Both, Fit}
-use Rattle.walk.specs.declared.Pass.{Pass}
+use Rattle.walk.specs.declared.passes.Pass.{Pass}
 use Rattle.walk.specs.declared.WalkAnswer.{WalkAnswer}
-use Rattle.walk.specs.declared.Reached.{Reached}
-use Rattle.walk.specs.declared.Reached.the-variants.{Rules, Refused as Declined}
+use Rattle.walk.specs.declared.letters.Reached.{Reached}
+use Rattle.walk.specs.declared.letters.Reached.the-variants.{Rules, Refused as Declined}
 
 -- ---- both passes
 

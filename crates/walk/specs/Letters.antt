@@ -14,12 +14,12 @@ use Rattle.reading.specs.Reading.{Choice, chosen, nothing, unusable, Reading, f
 use Rattle.reading.specs.Places.{entryAt, entriesAt, Within}
 use Rattle.tables.specs.Walk.{lookup}
 use Rattle.tables.specs.Lowest.{lowestFrom, meetWord}
-use Rattle.walk.specs.declared.Found.{Found}
-use Rattle.walk.specs.declared.Found.the-variants.{Place, Empty}
-use Rattle.walk.specs.declared.Chosen.{Chosen}
-use Rattle.walk.specs.declared.Chosen.the-variants.{Rule, Nothing, Unusable}
-use Rattle.walk.specs.declared.Reached.{Reached}
-use Rattle.walk.specs.declared.Reached.the-variants.{Rules, Refused}
+use Rattle.walk.specs.declared.letters.Found.{Found}
+use Rattle.walk.specs.declared.letters.Found.the-variants.{Place, Empty}
+use Rattle.walk.specs.declared.letters.Chosen.{Chosen}
+use Rattle.walk.specs.declared.letters.Chosen.the-variants.{Rule, Nothing, Unusable}
+use Rattle.walk.specs.declared.letters.Reached.{Reached}
+use Rattle.walk.specs.declared.letters.Reached.the-variants.{Rules, Refused}
 
 -- the place found in the words of two sets
 abbrev pub foundOf : Option ℕ → Found

@@ -9,8 +9,8 @@ use lib.ListN.{length, getD, take, drop}
 use Rattle.tables.specs.Tables.{Table}
 use Rattle.tables.specs.Words.{tableAt}
 use Rattle.tables.specs.Walk.{Step as State, pass, allBelow}
-use Rattle.walk.specs.declared.Step.{Step}
-use Rattle.walk.specs.declared.Pass.{Pass}
+use Rattle.walk.specs.declared.passes.Step.{Step}
+use Rattle.walk.specs.declared.passes.Pass.{Pass}
 
 -- one entry is looked up: the next state, and the count raised by one
 pub record Stepped (words : List ℕ) (rows : ℕ) (s : Step) (c : ℕ) (r : Step) : Type 0 where

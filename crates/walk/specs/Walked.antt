@@ -16,7 +16,7 @@ use Rattle.tables.specs.Words.{tableAt, neededWords, neededSets}
 use Rattle.tables.specs.Walk.{lowest, lookup, places, allBelow, walk, walkSteps, Walked, walkedAs}
 use Rattle.walk.specs.Passes.{rowsAt, leftOn, rightOn}
 use Rattle.walk.specs.declared.WalkAnswer.{WalkAnswer}
-use Rattle.walk.specs.declared.Pass.{Pass}
+use Rattle.walk.specs.declared.passes.Pass.{Pass}
 
 -- all that a walk gives: its answer, and the lent phones and numbers after it
 abbrev pub walkedOf : WalkAnswer → List ℕ → List ℕ → Walked

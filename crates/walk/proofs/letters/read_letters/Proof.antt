@@ -1,4 +1,4 @@
--- `walk::read_letters` meets its contract, by the loop invariant `Gone`: the rules applied so far, then the reading from i, are the whole reading.
+-- `walk::letters::read_letters` meets its contract, by the loop invariant `Gone`: the rules applied so far, then the reading from i, are the whole reading.
 -- Assumes nothing.
 use Prim.Native.Nat.{ℕ, _+_, _-_, _*_}
 use mathlib.Core.Path.{_≡_, sym, ap, ap₂, _∙_, subst}
@@ -10,13 +10,13 @@ use denote.Enum.Declared.{tagOf}
 use Rattle.rules.specs.declared.Refusal.{Refusal}
 use Rattle.image.proofs.Tests.{valid-long, valid-count}
 use Rattle.walk.specs.Letters.{choiceOf, choiceBy, choicesBy, ReadBy}
-use Rattle.walk.specs.declared.Chosen.{Chosen}
-use Rattle.walk.specs.declared.Chosen.the-variants.{Rule}
-use Rattle.walk.specs.declared.Reached.the-variants.{Refused}
-use Rattle.walk.proofs.Chosen.{the-type}
-use Rattle.walk.proofs.Letters.{Gone, begin, next, declines, done}
-use Rattle.walk.proofs.read_letters.Statement.{statement}
-use Rattle.walk.proofs.read_letters.Tie as tie
+use Rattle.walk.specs.declared.letters.Chosen.{Chosen}
+use Rattle.walk.specs.declared.letters.Chosen.the-variants.{Rule}
+use Rattle.walk.specs.declared.letters.Reached.the-variants.{Refused}
+use Rattle.walk.proofs.letters.Chosen.{the-type}
+use Rattle.walk.proofs.Choosing.{Gone, begin, next, declines, done}
+use Rattle.walk.proofs.letters.read_letters.Statement.{statement}
+use Rattle.walk.proofs.letters.read_letters.Tie as tie
 
 abbrev Inv-loop : tie.InvT-loop
 Inv-loop sets right-sets image frame left right places₀ rules end count₀ i₀ places count i = Gone image sets right-sets left right frame places count i

@@ -22,10 +22,10 @@ use Rattle.reading.proofs.Search.{Targets, valid-targets}
 use Rattle.reading.proofs.Loop.{Going, going-begin, going-next, going-none, going-unusable, going-end, going-few, going-within}
 use Rattle.tables.specs.Walk.{lookup}
 use Rattle.walk.specs.Letters.{foundOf, lowestShared, choiceBy, choicesBy, choiceOf, refusalAt, Placed, ReadBy}
-use Rattle.walk.specs.declared.Found.the-variants.{Place, Empty}
-use Rattle.walk.specs.declared.Chosen.{Chosen}
-use Rattle.walk.specs.declared.Chosen.the-variants.{Rule, Nothing, Unusable}
-use Rattle.walk.specs.declared.Reached.the-variants.{Rules, Refused}
+use Rattle.walk.specs.declared.letters.Found.the-variants.{Place, Empty}
+use Rattle.walk.specs.declared.letters.Chosen.{Chosen}
+use Rattle.walk.specs.declared.letters.Chosen.the-variants.{Rule, Nothing, Unusable}
+use Rattle.walk.specs.declared.letters.Reached.the-variants.{Rules, Refused}
 
 -- ---- the rule at the place found
 

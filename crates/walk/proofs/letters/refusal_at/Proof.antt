@@ -1,11 +1,11 @@
--- `walk::refusal_at` meets its contract, case by case.
+-- `walk::letters::refusal_at` meets its contract, case by case.
 -- Assumes nothing.
 use mathlib.Core.Path.{sym, ap}
 use borrow.Author.Needs.{needs}
 use Rattle.walk.specs.Letters.{refusalAt}
-use Rattle.walk.specs.declared.Chosen.{Chosen}
-use Rattle.walk.proofs.refusal_at.Statement.{statement}
-use Rattle.walk.proofs.refusal_at.Tie as tie
+use Rattle.walk.specs.declared.letters.Chosen.{Chosen}
+use Rattle.walk.proofs.letters.refusal_at.Statement.{statement}
+use Rattle.walk.proofs.letters.refusal_at.Tie as tie
 
 enum-told : tie.Need-enum-told
 enum-told c = search needs

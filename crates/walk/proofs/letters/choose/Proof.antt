@@ -1,4 +1,4 @@
--- `walk::choose` meets its contract: the three cases of the rule at the place found.
+-- `walk::letters::choose` meets its contract: the three cases of the rule at the place found.
 -- Assumes nothing.
 use Prim.Native.Nat.{ℕ, _<_}
 use mathlib.Core.Path.{_≡_, refl, sym, _∙_, subst}
@@ -6,11 +6,11 @@ use borrow.Author.Needs.{needs}
 use borrow.Author.Tests.{not-true, not-false}
 use native.Mathlib.Omega.{arith}
 use Rattle.image.specs.Image.{two}
-use Rattle.walk.specs.declared.Chosen.{Chosen}
-use Rattle.walk.specs.declared.Chosen.the-variants.{Rule, Nothing, Unusable}
-use Rattle.walk.proofs.Letters.{found-none, found-some, none-shared, place-past, place-unfit, place-fits}
-use Rattle.walk.proofs.choose.Statement.{statement}
-use Rattle.walk.proofs.choose.Tie as tie
+use Rattle.walk.specs.declared.letters.Chosen.{Chosen}
+use Rattle.walk.specs.declared.letters.Chosen.the-variants.{Rule, Nothing, Unusable}
+use Rattle.walk.proofs.Choosing.{found-none, found-some, none-shared, place-past, place-unfit, place-fits}
+use Rattle.walk.proofs.letters.choose.Statement.{statement}
+use Rattle.walk.proofs.letters.choose.Tie as tie
 
 never : (x : Chosen) (p : ℕ) → x ≡ Rule p → x ≡ Nothing → ⊥
 never x p e g = let z : _≡_ {A = ℕ} 0 1 = cc in omega arith

@@ -1,4 +1,4 @@
--- `walk::run_passes` meets its contract, from those of the two passes.
+-- `walk::passes::run_passes` meets its contract, from those of the two passes.
 -- Assumes nothing.
 use Prim.Native.Nat.{ℕ, suc, _+_, _-_, _*_, _≤_}
 use mathlib.Core.Path.{_≡_, subst}
@@ -8,8 +8,8 @@ use native.Mathlib.Omega.{arith}
 use lib.ListN.{length}
 use Rattle.walk.specs.Passes.{rowsAt, leftOn, rightOn, Passed}
 use Rattle.walk.proofs.Walked.{both-bad, both-good}
-use Rattle.walk.proofs.run_passes.Statement.{statement}
-use Rattle.walk.proofs.run_passes.Tie as tie
+use Rattle.walk.proofs.passes.run_passes.Statement.{statement}
+use Rattle.walk.proofs.passes.run_passes.Tie as tie
 
 shorter : (k : ℕ) → 2 ≤ k → k - 1 ≡ suc (k - 2)
 shorter k h = omega arith

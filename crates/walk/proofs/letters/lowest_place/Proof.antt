@@ -1,4 +1,4 @@
--- `walk::lowest_place` meets its contract. The loop's invariant: the lowest shared place is the lowest from word j on.
+-- `walk::letters::lowest_place` meets its contract. The loop's invariant: the lowest shared place is the lowest from word j on.
 -- Assumes nothing.
 use mathlib.Core.Path.{_≡_, refl, sym, ap, _∙_}
 use Prim.Native.Nat.{_-_, _≤_}
@@ -8,8 +8,8 @@ use lib.Count.{trailing-le}
 use Rattle.tables.specs.Lowest.{lowestFrom, meetWord}
 use Rattle.tables.proofs.Sets.{from-found, from-next, from-end}
 use Rattle.walk.specs.Letters.{foundOf}
-use Rattle.walk.proofs.lowest_place.Statement.{statement}
-use Rattle.walk.proofs.lowest_place.Tie as tie
+use Rattle.walk.proofs.letters.lowest_place.Statement.{statement}
+use Rattle.walk.proofs.letters.lowest_place.Tie as tie
 
 abbrev Inv-loop : tie.InvT-loop
 Inv-loop sets s t j₀ j = (j ≤ 8) × (lowestFrom (meetWord sets s t) 0 8 ≡ lowestFrom (meetWord sets s t) j (8 - j))
