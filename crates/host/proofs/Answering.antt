@@ -24,7 +24,7 @@ use Rattle.walk.specs.declared.WalkAnswer.{WalkAnswer}
 use Rattle.tables.proofs.Truth.{clash}
 use Rattle.host.specs.Codes.{phonesGiven, numbersGiven}
 use Rattle.host.specs.Many.{namesIn, replied, Lot, then, each, spokenAll, Many, manyFrom, manySaid, rest, whole, Within, hasNext, nextName, Next}
-use Rattle.host.specs.declared.Progress.{Progress}
+use Rattle.host.specs.declared.many.Progress.{Progress}
 
 -- ---- parts of lists
 

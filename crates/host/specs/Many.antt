@@ -12,7 +12,7 @@ use Rattle.image.specs.Image.{valid}
 use Rattle.reading.specs.Fitting.{Str}
 use Rattle.tables.specs.Walk.{Walked, walkSaid}
 use Rattle.host.specs.Codes.{spokenCode, phonesOrPlace, phonesGiven, numbersGiven}
-use Rattle.host.specs.declared.Progress.{Progress}
+use Rattle.host.specs.declared.many.Progress.{Progress}
 
 -- the names in the bytes, each after a byte that says its length: at most k of them, and only whole ones
 abbrev pub namesIn : ℕ → List ℕ → List Str

@@ -1,9 +1,9 @@
--- `host::rule_of` meets its contract: the bytes, read one by one.
+-- `host::given::rule_of` meets its contract: the bytes, read one by one.
 -- Assumes nothing.
 use Rattle.host.proofs.Reports.{rule-of-is}
 use borrow.Author.Needs.{needs}
-use Rattle.host.proofs.rule_of.Statement.{statement}
-use Rattle.host.proofs.rule_of.Tie as tie
+use Rattle.host.proofs.given.rule_of.Statement.{statement}
+use Rattle.host.proofs.given.rule_of.Tie as tie
 
 shared-slice-read-t3 : tie.Need-shared-slice-read-t3
 shared-slice-read-t3 c = search needs

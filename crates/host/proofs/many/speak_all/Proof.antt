@@ -1,4 +1,4 @@
--- `host::speak_all` meets its contract, by the loop invariant `Going`: what stands and what is to come make the same lot.
+-- `host::many::speak_all` meets its contract, by the loop invariant `Going`: what stands and what is to come make the same lot.
 -- Assumes nothing.
 use Prim.Native.Nat.{_-_, _/_}
 use mathlib.Core.Path.{sym, ap, _∙_}
@@ -8,8 +8,8 @@ use Rattle.host.specs.Many.{Lot}
 use native.Mathlib.Omega.{arith}
 use Rattle.tables.specs.Walk.{walkSaid}
 use Rattle.host.proofs.Answering.{Going, begin, next, next-count, next-whole, walk-fits, all-is, end-count, end-replies, end-phones, end-numbers}
-use Rattle.host.proofs.speak_all.Statement.{statement}
-use Rattle.host.proofs.speak_all.Tie as tie
+use Rattle.host.proofs.many.speak_all.Statement.{statement}
+use Rattle.host.proofs.many.speak_all.Tie as tie
 
 abbrev Inv-loop : tie.InvT-loop
 Inv-loop image words sets names phones₀ numbers₀ replies₀ limit p₀ phones numbers replies p = Going (walkSaid image words sets) names limit phones₀ numbers₀ replies₀ phones numbers replies p

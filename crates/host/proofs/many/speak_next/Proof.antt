@@ -1,10 +1,10 @@
--- `host::speak_next` meets its contract: one walk, in the part of the lent memory after the answers before it.
+-- `host::many::speak_next` meets its contract: one walk, in the part of the lent memory after the answers before it.
 -- Assumes nothing.
 use native.Mathlib.Omega.{arith}
 use borrow.Author.Needs.{needs}
 use Rattle.host.proofs.Answering.{phones-room, numbers-room, next-is}
-use Rattle.host.proofs.speak_next.Statement.{statement}
-use Rattle.host.proofs.speak_next.Tie as tie
+use Rattle.host.proofs.many.speak_next.Statement.{statement}
+use Rattle.host.proofs.many.speak_next.Tie as tie
 
 add-start : tie.Need-add-start
 add-start c = search needs

@@ -1,9 +1,9 @@
--- `host::rule_in` meets its contract: 24 bytes are a rule, others are none.
+-- `host::given::rule_in` meets its contract: 24 bytes are a rule, others are none.
 -- Assumes nothing.
 use Rattle.host.proofs.Reports.{rule-yes, rule-no}
 use borrow.Author.Needs.{needs}
-use Rattle.host.proofs.rule_in.Statement.{statement}
-use Rattle.host.proofs.rule_in.Tie as tie
+use Rattle.host.proofs.given.rule_in.Statement.{statement}
+use Rattle.host.proofs.given.rule_in.Tie as tie
 
 rule-of-requires : tie.Need-rule-of-requires
 rule-of-requires c κs = search needs

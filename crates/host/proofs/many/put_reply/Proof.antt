@@ -1,12 +1,12 @@
--- `host::put_reply` meets its contract: four stores.
+-- `host::many::put_reply` meets its contract: four stores.
 -- Assumes nothing.
 use mathlib.Core.Path.{_∙_}
 use native.Mathlib.Omega.{arith}
 use lib.ListN.{length-set}
 use Rattle.host.proofs.Answering.{put-four}
 use borrow.Author.Needs.{needs}
-use Rattle.host.proofs.put_reply.Statement.{statement}
-use Rattle.host.proofs.put_reply.Tie as tie
+use Rattle.host.proofs.many.put_reply.Statement.{statement}
+use Rattle.host.proofs.many.put_reply.Tie as tie
 
 spoken-code-requires : tie.Need-spoken-code-requires
 spoken-code-requires c κs = search needs

@@ -1,0 +1,85 @@
+// What an answer is as numbers: a code, and a place or a count.
+use file::Written;
+use reading::Speech;
+use rules::Answer;
+ghost use mathlib.Core.Path.{_≡_};
+ghost use Rattle.rules.specs.Refusals.{replyOf};
+ghost use Rattle.reading.specs.Speech.{toldOf};
+ghost use Rattle.host.specs.Codes.{codeOf, placeIn, spokenCode, phonesOrPlace, phonesGiven, numbersGiven};
+ghost use Rattle.file.specs.Loading.{reportOf};
+ghost use Rattle.host.specs.Files.{writtenCode, bytesOrPlace};
+
+pub fn code_of(answer: Answer) -> u8
+    ensures { λ r. ⌜ r ≡ codeOf (replyOf answer) ⌝ }
+{
+    match answer {
+        Answer::Accepted => 255,
+        Answer::Refused(x) => rules::refusal_number(x),
+    }
+}
+
+pub fn place_in(answer: Answer) -> usize
+    ensures { λ r. ⌜ r ≡ placeIn (replyOf answer) ⌝ }
+{
+    match answer {
+        Answer::Accepted => 0,
+        Answer::Refused(x) => rules::refusal_place(x),
+    }
+}
+
+pub fn spoken_code(speech: Speech) -> u8
+    ensures { λ r. ⌜ r ≡ spokenCode (toldOf speech) ⌝ }
+{
+    match speech {
+        Speech::Spoken {
+            phones: _,
+            numbers: _,
+        } => 255,
+        Speech::Refused(x) => rules::refusal_number(x),
+    }
+}
+
+pub fn phones_or_place(speech: Speech) -> usize
+    ensures { λ r. ⌜ r ≡ phonesOrPlace (toldOf speech) ⌝ }
+{
+    match speech {
+        Speech::Spoken { phones, numbers: _ } => phones,
+        Speech::Refused(x) => rules::refusal_place(x),
+    }
+}
+
+pub fn phones_given(speech: Speech) -> usize
+    ensures { λ r. ⌜ r ≡ phonesGiven (toldOf speech) ⌝ }
+{
+    match speech {
+        Speech::Spoken { phones, numbers: _ } => phones,
+        Speech::Refused(_) => 0,
+    }
+}
+
+pub fn numbers_given(speech: Speech) -> usize
+    ensures { λ r. ⌜ r ≡ numbersGiven (toldOf speech) ⌝ }
+{
+    match speech {
+        Speech::Spoken { phones: _, numbers } => numbers,
+        Speech::Refused(_) => 0,
+    }
+}
+
+pub fn written_code(written: Written) -> u8
+    ensures { λ r. ⌜ r ≡ writtenCode (reportOf written) ⌝ }
+{
+    match written {
+        Written::Bytes(_) => 255,
+        Written::Refused(x) => rules::refusal_number(x),
+    }
+}
+
+pub fn bytes_or_place(written: Written) -> usize
+    ensures { λ r. ⌜ r ≡ bytesOrPlace (reportOf written) ⌝ }
+{
+    match written {
+        Written::Bytes(n) => n,
+        Written::Refused(x) => rules::refusal_place(x),
+    }
+}

@@ -1,0 +1,124 @@
+// Many names one after the other, through tables whose ruleset is known to be valid.
+use super::codes;
+use walk::WalkAnswer;
+ghost use mathlib.Core.Path.{_≡_};
+ghost use mathlib.Core.Bool.{true};
+ghost use mathlib.Core.List.{_∷_, _++_};
+ghost use Prim.Native.Nat.{_+_, _*_, _/_, _<_, _≤_};
+ghost use lib.ListN.{length, getD, take, drop};
+ghost use Rattle.rules.specs.Memory.{over};
+ghost use Rattle.image.specs.Image.{valid};
+ghost use Rattle.reading.specs.Speech.{toldOf};
+ghost use Rattle.tables.specs.Walk.{walkSaid};
+ghost use Rattle.host.specs.Codes.{spokenCode, phonesOrPlace, numbersGiven};
+ghost use Rattle.host.specs.Many.{spokenAll, hasNext, Next};
+
+fn wide(x: u8) -> usize
+    ensures { λ r. ⌜ (r ≡ x) × (r < 256) ⌝ }
+{
+    x as usize
+}
+
+// How far the answering has come: the place in the names, the names answered, the phones and the numbers given.
+pub struct Progress {
+    pub at: usize,
+    pub count: usize,
+    pub phones: usize,
+    pub numbers: usize,
+}
+
+// Whether fewer than `limit` names are answered and a whole name, after its length, lies from `at` on.
+fn has_next(names: &[u8], at: usize, count: usize, limit: usize) -> bool
+    requires { ⌜ at ≤ length (now names) ⌝ }
+    ensures { λ r. ⌜ r ≡ hasNext (now (names .entry)) at count limit ⌝ }
+{
+    if limit <= count {
+        return false;
+    }
+    if names.len() <= at {
+        return false;
+    }
+    let left = names.len() - at - 1;
+    if left < wide(names[at]) {
+        return false;
+    }
+    true
+}
+
+// A reply, from `at` on.
+fn put_reply(replies: &mut [usize], at: usize, answer: WalkAnswer)
+    requires { ⌜ at + 4 ≤ length (now replies) ⌝ }
+    ensures { λ _. ⌜ now (replies .exit) ≡ take at (now (replies .entry)) ++ (spokenCode (toldOf (answer .speech)) ∷ phonesOrPlace (toldOf (answer .speech)) ∷ numbersGiven (toldOf (answer .speech)) ∷ answer .steps ∷ drop (at + 4) (now (replies .entry))) ⌝ }
+{
+    let speech = answer.speech;
+    replies[at] = wide(codes::spoken_code(speech));
+    replies[at + 1] = codes::phones_or_place(speech);
+    replies[at + 2] = codes::numbers_given(speech);
+    replies[at + 3] = answer.steps;
+}
+
+// The next name is answered, in the lent memory after the answers before it.
+fn speak_next<'a>(
+    image: &[u8],
+    words: &'a [u16],
+    sets: &'a [u64],
+    names: &[u8],
+    phones: &mut [u8],
+    numbers: &mut [u16],
+    replies: &mut [usize],
+    p: Progress,
+) -> Progress
+    requires { ⌜ (valid (now image) ≡ true) × (p .at + 1 + getD (now names) (p .at) 0 ≤ length (now names)) × (p .phones ≤ length (now phones)) × (p .numbers ≤ length (now numbers)) × (4 * p .count + 4 ≤ length (now replies)) ⌝ }
+    ensures { λ r. ⌜ Next (walkSaid (now (image .entry)) (now (words .entry)) (now (sets .entry))) (now (names .entry)) (now (phones .entry)) (now (numbers .entry)) (now (replies .entry)) p (now (phones .exit)) (now (numbers .exit)) (now (replies .exit)) r ⌝ }
+{
+    let at = p.at;
+    let start = at + 1;
+    let end = start + wide(names[at]);
+    let from = p.phones;
+    let to = p.numbers;
+    let answer = walk::walk_valid(
+        image,
+        words,
+        sets,
+        &names[start..end],
+        &mut phones[from..],
+        &mut numbers[to..],
+    );
+    put_reply(replies, 4 * p.count, answer);
+    let speech = answer.speech;
+    Progress {
+        at: end,
+        count: p.count + 1,
+        phones: from + codes::phones_given(speech),
+        numbers: to + codes::numbers_given(speech),
+    }
+}
+
+// Every whole name that has room for its reply is answered.
+pub fn speak_all<'a>(
+    image: &[u8],
+    words: &'a [u16],
+    sets: &'a [u64],
+    names: &[u8],
+    phones: &mut [u8],
+    numbers: &mut [u16],
+    replies: &mut [usize],
+) -> usize
+    requires { ⌜ valid (now image) ≡ true ⌝ }
+    ensures count { λ r. ⌜ r ≡ spokenAll (now (image .entry)) (now (words .entry)) (now (sets .entry)) (now (names .entry)) (now (phones .entry)) (now (numbers .entry)) (now (replies .entry)) .count ⌝ }
+    ensures replies { λ _. ⌜ now (replies .exit) ≡ over (spokenAll (now (image .entry)) (now (words .entry)) (now (sets .entry)) (now (names .entry)) (now (phones .entry)) (now (numbers .entry)) (now (replies .entry)) .replies) (now (replies .entry)) ⌝ }
+    ensures phones { λ _. ⌜ now (phones .exit) ≡ spokenAll (now (image .entry)) (now (words .entry)) (now (sets .entry)) (now (names .entry)) (now (phones .entry)) (now (numbers .entry)) (now (replies .entry)) .phones ⌝ }
+    ensures numbers { λ _. ⌜ now (numbers .exit) ≡ spokenAll (now (image .entry)) (now (words .entry)) (now (sets .entry)) (now (names .entry)) (now (phones .entry)) (now (numbers .entry)) (now (replies .entry)) .numbers ⌝ }
+{
+    let limit = replies.len() / 4;
+    let mut p = Progress {
+        at: 0,
+        count: 0,
+        phones: 0,
+        numbers: 0,
+    };
+    while has_next(names, p.at, p.count, limit) {
+        p = speak_next(image, words, sets, names, phones, numbers, replies, p);
+    }
+    p.count
+}
