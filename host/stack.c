@@ -30,6 +30,15 @@ static void build(void)
 {
     code = pirrozketa_build(image, sizeof image, words, PIRROZKETA_WORDS, sets, PIRROZKETA_SETS, &place);
 }
+static void build_least(void)
+{
+    code = pirrozketa_build(image, sizeof image, words, 2 + 64 * (size_t)(words[0] + words[1]), sets,
+                            8 * (size_t)(words[0] + words[1]), &place);
+}
+static void load(void)
+{
+    code = pirrozketa_load(file, bytes, copy, sizeof copy, words, PIRROZKETA_WORDS, sets, PIRROZKETA_SETS, &place);
+}
 static void read_name(void)
 {
     code = pirrozketa_read_name(image, sizeof image, name, sizeof name, phones, sizeof phones, numbers,
@@ -73,8 +82,8 @@ int main(void)
 {
     static const struct { const char *name; void (*call)(void); } calls[] = {
         { "clear", clear }, { "check", check }, { "add", add }, { "drop", drop }, { "move", move },
-        { "write_file", write_file }, { "read_file", read_file }, { "build", build }, { "read_name", read_name },
-        { "speak", speak }, { "speak_many", speak_many },
+        { "write_file", write_file }, { "read_file", read_file }, { "build", build }, { "build, least", build_least },
+        { "load", load }, { "read_name", read_name }, { "speak", speak }, { "speak_many", speak_many },
     };
     /* 512 long rules; the last fits every a, so that a name of 64 times a applies 64 rules */
     srand(1);
