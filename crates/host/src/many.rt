@@ -76,10 +76,10 @@ fn speak_next<'a>(
     let end = start + wide(names[at]);
     let from = p.phones;
     let to = p.numbers;
-    let answer = walk::walk_valid(
-        image,
+    let answer = compiled::speak_words(
         words,
         sets,
+        image,
         &names[start..end],
         &mut phones[from..],
         &mut numbers[to..],

@@ -18,38 +18,38 @@ wide-requires c κs = search needs
 add-end : tie.Need-add-end
 add-end c = search needs
 
-sub-walk-valid : tie.Need-sub-walk-valid
-sub-walk-valid c = search needs
+sub-speak-words : tie.Need-sub-speak-words
+sub-speak-words c = search needs
 
-part-walk-valid-start : tie.Need-part-walk-valid-start
-part-walk-valid-start c = search needs
+part-speak-words-start : tie.Need-part-speak-words-start
+part-speak-words-start c = search needs
 
-part-walk-valid-end : tie.Need-part-walk-valid-end
-part-walk-valid-end c = search needs
+part-speak-words-end : tie.Need-part-speak-words-end
+part-speak-words-end c = search needs
 
-sub-walk-valid-2 : tie.Need-sub-walk-valid-2
-sub-walk-valid-2 c = search needs
+sub-speak-words-2 : tie.Need-sub-speak-words-2
+sub-speak-words-2 c = search needs
 
-part-walk-valid-start-2 : tie.Need-part-walk-valid-start-2
-part-walk-valid-start-2 c = search needs
+part-speak-words-start-2 : tie.Need-part-speak-words-start-2
+part-speak-words-start-2 c = search needs
 
-part-walk-valid-end-2 : tie.Need-part-walk-valid-end-2
-part-walk-valid-end-2 c = search needs
+part-speak-words-end-2 : tie.Need-part-speak-words-end-2
+part-speak-words-end-2 c = search needs
 
-mul-walk-valid : tie.Need-mul-walk-valid
-mul-walk-valid c = search needs
+mul-speak-words : tie.Need-mul-speak-words
+mul-speak-words c = search needs
 
-sub-walk-valid-3 : tie.Need-sub-walk-valid-3
-sub-walk-valid-3 c = search needs
+sub-speak-words-3 : tie.Need-sub-speak-words-3
+sub-speak-words-3 c = search needs
 
-part-walk-valid-start-3 : tie.Need-part-walk-valid-start-3
-part-walk-valid-start-3 c = search needs
+part-speak-words-start-3 : tie.Need-part-speak-words-start-3
+part-speak-words-start-3 c = search needs
 
-part-walk-valid-end-3 : tie.Need-part-walk-valid-end-3
-part-walk-valid-end-3 c = search needs
+part-speak-words-end-3 : tie.Need-part-speak-words-end-3
+part-speak-words-end-3 c = search needs
 
-walk-valid-requires : tie.Need-walk-valid-requires
-walk-valid-requires c κs = search needs
+speak-words-requires : tie.Need-speak-words-requires
+speak-words-requires c κs = search needs
 
 mul-put-reply : tie.Need-mul-put-reply
 mul-put-reply c = search needs
@@ -67,7 +67,7 @@ add-t23 : tie.Need-add-t23
 add-t23 c =
     let st = c .before .before .before .before .before .before .before .before .before .before .before .before .before .before .before .before .before .before .before .before .before .before .before .before in
     let a = st .args in
-    let w = c .before .before .before .before .before .before .before .before .before .before .before .walk-valid in
+    let w = c .before .before .before .before .before .before .before .before .before .before .before .speak-words in
     let n = c .before .before .before .before .before .before .before .before .before .before .before .before .before .before .before .wide in
     omega (arith, phones-room (a .image .now) (a .words .now) (a .sets .now) (a .names .now) (a .phones .now) (a .numbers .now) (a .replies .now) (a .p) (n .result) (w .result) (w .last .1 .1 .1 .1 .0) (w .last .1 .1 .1 .1 .1 .0) (n .ensures .0) (w .ensures) (c .phones-given .result) (c .phones-given .ensures) (st .pre .2), st .good .1 .1 .1 .1 .0)
 
@@ -78,7 +78,7 @@ add-t34 : tie.Need-add-t34
 add-t34 c =
     let st = c .before .before .before .before .before .before .before .before .before .before .before .before .before .before .before .before .before .before .before .before .before .before .before .before .before in
     let a = st .args in
-    let w = c .before .before .before .before .before .before .before .before .before .before .before .before .walk-valid in
+    let w = c .before .before .before .before .before .before .before .before .before .before .before .before .speak-words in
     let n = c .before .before .before .before .before .before .before .before .before .before .before .before .before .before .before .before .wide in
     omega (arith, numbers-room (a .image .now) (a .words .now) (a .sets .now) (a .names .now) (a .phones .now) (a .numbers .now) (a .replies .now) (a .p) (n .result) (w .result) (w .last .1 .1 .1 .1 .0) (w .last .1 .1 .1 .1 .1 .0) (n .ensures .0) (w .ensures) (c .numbers-given .result) (c .numbers-given .ensures) (st .pre .3), st .good .1 .1 .1 .1 .1 .0)
 
@@ -95,7 +95,7 @@ returns : tie.Need-returns
 returns c =
     let st = c .before .before .before .before .before .before .before .before .before .before .before .before .before .before .before .before .before .before .before .before .before .before .before .before .before in
     let a = st .args in
-    let w = c .before .before .before .before .before .before .before .before .before .before .before .before .walk-valid in
+    let w = c .before .before .before .before .before .before .before .before .before .before .before .before .speak-words in
     let n = c .before .before .before .before .before .before .before .before .before .before .before .before .before .before .before .before .wide in
     next-is (a .image .now) (a .words .now) (a .sets .now) (a .names .now) (a .phones .now) (a .numbers .now) (a .replies .now) (a .p) (n .result) (w .result) (w .last .1 .1 .1 .1 .0) (w .last .1 .1 .1 .1 .1 .0) (n .ensures .0) (w .ensures) (c .before .phones-given .result) (c .numbers-given .result) (c .before .phones-given .ensures) (c .numbers-given .ensures) _ (c .before .before .before .before .before .put-reply .ensures)
 
@@ -107,17 +107,17 @@ speak-next-spec =
     shared-slice-read-wide
     wide-requires
     add-end
-    sub-walk-valid
-    part-walk-valid-start
-    part-walk-valid-end
-    sub-walk-valid-2
-    part-walk-valid-start-2
-    part-walk-valid-end-2
-    mul-walk-valid
-    sub-walk-valid-3
-    part-walk-valid-start-3
-    part-walk-valid-end-3
-    walk-valid-requires
+    sub-speak-words
+    part-speak-words-start
+    part-speak-words-end
+    sub-speak-words-2
+    part-speak-words-start-2
+    part-speak-words-end-2
+    mul-speak-words
+    sub-speak-words-3
+    part-speak-words-start-3
+    part-speak-words-end-3
+    speak-words-requires
     mul-put-reply
     put-reply-requires
     add-t28
