@@ -1,7 +1,6 @@
 -- The edits of document 01's ledger: their refusals in order, and the state after them. Places count from 0.
 use Prim.Native.Nat.{ℕ, zero, suc, _+_}
 use mathlib.Core.List.{List, [], _∷_}
-use mathlib.Core.Bool.{Bool, true, false}
 use lib.ListN.{length, getD}
 use lib.Dec.{leb, ltb, eqb}
 use Rattle.rules.specs.Limits.{maxRules, maxNumber}

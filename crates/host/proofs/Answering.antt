@@ -1,15 +1,14 @@
 -- Many names in one call: while names are answered in turn, what stands and what is to come make the same lot.
 -- Assumes nothing.
-use Prim.Native.Nat.{ℕ, zero, suc, _+_, _-_, _*_, _/_, _≤_, _<_}
+use Prim.Native.Nat.{ℕ, _+_, _-_, _*_, _/_, _≤_}
 use mathlib.Core.Path.{_≡_, refl, sym, ap, ap₂, _∙_}
 use mathlib.Core.Bool.{Bool, true, false}
-use mathlib.Core.List.{List, [], _∷_, _++_, append-assoc}
+use mathlib.Core.List.{List, [], _∷_, _++_}
 use native.Mathlib.Omega.{arith}
-use lib.Dec.{leb, ltb}
-use lib.ListN.{length, getD, take, drop, set, length-append, length-drop, drop-of-length-le, take-append-drop}
-use lib.Seq.{drop-cons, drop-drop, take-at, drop-at, take-append-add, drop-append-add, length-take-le, sets-eq}
+use lib.Dec.{leb}
+use lib.ListN.{length, getD, take, drop, length-drop, take-append-drop}
 use borrow.Rule.Slice.PartMut.{midOf, putMid}
-use borrow.Author.Tests.{leb-true, leb-false, le-leb, lt-leb, ltb-true, ltb-false, lt-ltb, le-ltb}
+use borrow.Author.Tests.{leb-true}
 use Rattle.rules.specs.Memory.{over}
 use Rattle.rules.proofs.Memory.{over-length, put-tail, tail-is}
 use Rattle.rules.proofs.Cases.{byBool}
@@ -21,109 +20,11 @@ use Rattle.reading.specs.Speech.{phonesOf, numbersOf, Said, toldOf, saying, del
 use Rattle.tables.specs.Walk.{Walked, walkWords, walkSaid}
 use Rattle.walk.specs.Walked.{walkedOf}
 use Rattle.walk.specs.declared.WalkAnswer.{WalkAnswer}
-use Rattle.tables.proofs.Truth.{clash}
 use Rattle.host.specs.Codes.{phonesGiven, numbersGiven}
 use Rattle.host.specs.Many.{namesIn, replied, Lot, then, each, spokenAll, Many, manyFrom, manySaid, rest, whole, Within, hasNext, nextName, Next}
 use Rattle.host.specs.declared.many.Progress.{Progress}
-
--- ---- parts of lists
-
--- z stands from a on, and what it gives ends at b
-module _ (a g b : ℕ) (xs zs ys : List ℕ) (h : a ≤ length xs) (e : b ≡ a + g) (now : ys ≡ take a xs ++ zs) where
-  seam : b ≡ length (take a xs) + g
-  seam = omega (arith, e, length-take-le a xs h)
-
-  pub part-take : (ls : List ℕ) → take b ys ++ ls ≡ take a xs ++ (take g zs ++ ls)
-  part-take ls =
-      ap (λ (l : List ℕ). l ++ ls) (ap₂ (λ (n : ℕ) (l : List ℕ). take n l) seam now ∙ take-append-add (take a xs) zs g)
-      ∙ append-assoc (take a xs) (take g zs) ls
-
-  pub part-drop : drop b ys ≡ drop g zs
-  part-drop = ap₂ (λ (n : ℕ) (l : List ℕ). drop n l) seam now ∙ drop-append-add (take a xs) zs g
-
-  pub part-in : g ≤ length zs → b ≤ length ys
-  part-in k = omega (arith, k, e, ap length now, length-append (take a xs) zs, length-take-le a xs h)
-
-  pub part-length : length zs ≡ length (drop a xs) → length ys ≡ length xs
-  part-length k = omega (arith, k, ap length now, length-append (take a xs) zs, length-take-le a xs h, length-drop a xs, h)
-
--- vs are put from a to b
-module _ (a b : ℕ) (xs vs ys : List ℕ) (h : a ≤ length xs) (e : b ≡ a + length vs) (now : ys ≡ take a xs ++ (vs ++ drop b xs)) where
-  joined : ys ≡ (take a xs ++ vs) ++ drop b xs
-  joined = now ∙ sym (append-assoc (take a xs) vs (drop b xs))
-
-  long : length (take a xs ++ vs) ≡ b
-  long = omega (arith, length-append (take a xs) vs, length-take-le a xs h, e)
-
-  pub put-over : (ls : List ℕ) → take b ys ++ over ls (drop b ys) ≡ take a xs ++ over (vs ++ ls) (drop a xs)
-  put-over ls =
-      let t : take b ys ≡ take a xs ++ vs = ap (take b) joined ∙ take-at (take a xs ++ vs) (drop b xs) b long in
-      let d : drop b ys ≡ drop b xs = ap (drop b) joined ∙ drop-at (take a xs ++ vs) (drop b xs) b long in
-      let n : b + length ls ≡ a + length (vs ++ ls) = omega (arith, e, length-append vs ls) in
-      let q : drop (length ls) (drop b xs) ≡ drop (length (vs ++ ls)) (drop a xs) =
-      drop-drop (length ls) b xs ∙ (ap (λ (k : ℕ). drop k xs) n ∙ sym (drop-drop (length (vs ++ ls)) a xs)) in
-      ap₂ (λ (u v : List ℕ). u ++ over ls v) t d
-      ∙ (append-assoc (take a xs) vs (ls ++ drop (length ls) (drop b xs))
-      ∙ ap (λ (l : List ℕ). take a xs ++ l) (sym (append-assoc vs ls (drop (length ls) (drop b xs))) ∙ ap (λ (l : List ℕ). (vs ++ ls) ++ l) q))
-
-  pub put-length : b ≤ length xs → length ys ≡ length xs
-  put-length k = omega (arith, ap length joined, length-append (take a xs ++ vs) (drop b xs), long, length-drop b xs, k)
-
--- ---- the names
-
-pick-true : (a b : Bool) → pick a b false ≡ true → (a ≡ true) × (b ≡ true)
-pick-true true b h = (refl, h)
-pick-true false b h = absurd (clash h refl)
-
-module _ (names : List ℕ) (at count k : ℕ) where
-  module _ (h : hasNext names at count k ≡ true) where
-    pub next-count : count < k
-    next-count = ltb-true count k (pick-true (ltb count k) _ h .0)
-
-    pub next-whole : at + 1 + getD names at 0 ≤ length names
-    next-whole = leb-true _ (length names) (pick-true (ltb count k) _ h .1)
-
-    -- the next name, and the names after it
-    pub names-next : namesIn (k - count) (drop at names) ≡ take (getD names at 0) (drop (at + 1) names) ∷ namesIn (k - (count + 1)) (drop (at + 1 + getD names at 0) names)
-    names-next =
-        let n = getD names at 0 in
-        let s = drop (at + 1) names in
-        let fuel : k - count ≡ suc (k - (count + 1)) = omega (arith, next-count) in
-        let one : suc at ≡ at + 1 = omega arith in
-        let inside : at < length names = omega (arith, next-whole) in
-        let tail : drop at names ≡ n ∷ s = drop-cons names at 0 inside ∙ ap (λ (m : ℕ). n ∷ drop m names) one in
-        let room : n ≤ length s = omega (arith, length-drop (at + 1) names, next-whole) in
-        ap₂ namesIn fuel tail
-        ∙ (ap (λ (t : Bool). pick t (take n s ∷ namesIn (k - (count + 1)) (drop n s)) []) (le-leb n (length s) room)
-        ∙ ap (λ (l : List ℕ). take n s ∷ namesIn (k - (count + 1)) l) (drop-drop n (at + 1) names))
-
-  names-nil : (j : ℕ) → namesIn j [] ≡ []
-  names-nil zero = refl
-  names-nil (suc j) = refl
-
-  names-broken : (j n : ℕ) (s : List ℕ) → leb n (length s) ≡ false → namesIn j (n ∷ s) ≡ []
-  names-broken zero n s h = refl
-  names-broken (suc j) n s h = ap (λ (t : Bool). pick t (take n s ∷ namesIn j (drop n s)) []) h
-
-  pub names-end : hasNext names at count k ≡ false → namesIn (k - count) (drop at names) ≡ []
-  names-end h =
-      byBool (ltb count k)
-      (λ c. byBool (leb (at + 1) (length names))
-      (λ i.
-      let n = getD names at 0 in
-      let s = drop (at + 1) names in
-      let inside : at < length names = omega (arith, leb-true (at + 1) (length names) i) in
-      let one : suc at ≡ at + 1 = omega arith in
-      let no : leb (at + 1 + n) (length names) ≡ false = ap (λ (t : Bool). pick t (leb (at + 1 + n) (length names)) false) (sym c) ∙ h in
-      let over-end : length names < at + 1 + n = leb-false (at + 1 + n) (length names) no in
-      let tail : drop at names ≡ n ∷ s = drop-cons names at 0 inside ∙ ap (λ (m : ℕ). n ∷ drop m names) one in
-      ap (namesIn (k - count)) tail ∙ names-broken (k - count) n s (lt-leb n (length s) (omega (arith, length-drop (at + 1) names, over-end, inside))))
-      (λ i.
-      let none : drop at names ≡ [] = drop-of-length-le names {i = at} (omega (arith, leb-false (at + 1) (length names) i)) in
-      ap (namesIn (k - count)) none ∙ names-nil (k - count)))
-      (λ c.
-      let fuel : k - count ≡ 0 = omega (arith, ltb-false count k c) in
-      ap (λ (j : ℕ). namesIn j (drop at names)) fuel)
+use Rattle.host.proofs.Runs.{part-take, part-drop, part-in, part-length, put-over, put-length}
+use Rattle.host.proofs.Names.{next-count, next-whole, names-next, names-end}
 
 -- ---- the lot
 
@@ -335,35 +236,6 @@ module _ (image ws ss names ph nu re : List ℕ) (p : Progress) (n : ℕ) (r : W
     numbers-now = put-tail (p .numbers) nu ys ∙ ap (λ (x : Walked). take (p .numbers) nu ++ x .said .numbers) named;
     replies-now = er ∙ ap (λ (x : Walked). take (4 * p .count) re ++ (replied x ++ drop (4 * p .count + 4) re)) named;
   }
-
--- four stores one after another
-pub put-four : (re : List ℕ) (at a b c d a′ b′ c′ : ℕ) → at + 4 ≤ length re → a ≡ a′ → b ≡ b′ → c ≡ c′
-    → set (set (set (set re at a) (at + 1) b) (at + 2) c) (at + 3) d ≡ take at re ++ (a′ ∷ b′ ∷ c′ ∷ d ∷ drop (at + 4) re)
-put-four re at a b c d a′ b′ c′ h ea eb ec =
-    let e₁ : at + 1 ≡ suc at = omega arith in
-    let e₂ : at + 2 ≡ suc (suc at) = omega arith in
-    let e₃ : at + 3 ≡ suc (suc (suc at)) = omega arith in
-    ap (λ (x : ℕ). set (set (set (set re at x) (at + 1) b) (at + 2) c) (at + 3) d) ea
-    ∙ (ap₂ (λ (x y : ℕ). set (set (set (set re at a′) (at + 1) x) (at + 2) y) (at + 3) d) eb ec
-    ∙ (ap (λ (i : ℕ). set (set (set (set re at a′) i b′) (at + 2) c′) (at + 3) d) e₁
-    ∙ (ap₂ (λ (i j : ℕ). set (set (set (set re at a′) (suc at) b′) i c′) j d) e₂ e₃
-    ∙ (sets-eq (a′ ∷ b′ ∷ c′ ∷ d ∷ []) re at h ∙ append-assoc (take at re) (a′ ∷ b′ ∷ c′ ∷ d ∷ []) (drop (at + 4) re)))))
-
--- ---- whether a name is left
-
-has-full : (t : Bool) → false ≡ pick t false false
-has-full true = refl
-has-full false = refl
-
-module _ (names : List ℕ) (at count k : ℕ) where
-  pub has-none : k ≤ count → false ≡ hasNext names at count k
-  has-none h = ap (λ (t : Bool). pick t (leb (at + 1 + getD names at 0) (length names)) false) (sym (le-ltb count k h))
-
-  pub has-broken : length names < at + 1 + getD names at 0 → false ≡ hasNext names at count k
-  has-broken h = has-full (ltb count k) ∙ ap (λ (t : Bool). pick (ltb count k) t false) (sym (lt-leb (at + 1 + getD names at 0) (length names) h))
-
-  pub has-one : count < k → at + 1 + getD names at 0 ≤ length names → true ≡ hasNext names at count k
-  has-one h i = ap₂ (λ (s t : Bool). pick s t false) (sym (lt-ltb count k h)) (sym (le-leb (at + 1 + getD names at 0) (length names) i))
 
 -- ---- the whole call
 

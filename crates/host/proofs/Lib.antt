@@ -1,3 +1,5 @@
 pub mod Reports
+pub mod Runs
+pub mod Names
 pub mod Answering
 pub mod Loads

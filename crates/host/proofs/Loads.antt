@@ -4,14 +4,14 @@ use Prim.Native.Nat.{ℕ}
 use mathlib.Core.Path.{_≡_, sym, ap, _∙_}
 use mathlib.Core.List.{List}
 use mathlib.Core.Bool.{true}
-use Rattle.rules.specs.Refusals.{refusalNumber, refusalPlace, Reply, accepted, declined, replyOf}
+use Rattle.rules.specs.Refusals.{refusalNumber, refusalPlace, Reply, declined, replyOf}
 use Rattle.rules.specs.declared.Refusal.{Refusal}
 use Rattle.rules.specs.declared.Answer.{Answer}
 use Rattle.rules.specs.declared.Answer.the-variants.{Accepted, Refused}
 use Rattle.image.specs.Image.{valid, entriesOf, Edited, outcome}
 use Rattle.file.specs.Loading.{loaded}
 use Rattle.file.proofs.Round.{read-valid}
-use Rattle.tables.specs.Words.{Built, building, builtFrom, built}
+use Rattle.tables.specs.Words.{building, builtFrom, built}
 use Rattle.transcript.specs.Prepared.{Prepared, ready, withTables, onward}
 use Rattle.host.specs.Codes.{codeOf, placeIn}
 use Rattle.host.specs.Files.{LoadedAs}

@@ -1,7 +1,7 @@
 -- The states of a pattern table: the numbered strings of a list of patterns (document 01, "The tables").
 -- Assumes nothing.
 use Prim.Native.Nat.{ℕ, zero, suc}
-use mathlib.Core.Bool.{Bool, true, false, cond, _||_}
+use mathlib.Core.Bool.{Bool, false, cond, _||_}
 use mathlib.Core.List.{List, [], _∷_, _++_, map}
 use lib.ListN.{getD}
 use Rattle.reading.specs.Fitting.{Str, same}

@@ -3,7 +3,6 @@ use Rattle.transcript.proofs.Bounds.{onward, answer-short}
 use lib.Seq.{length-take-le}
 use lib.ListN.{length, drop}
 use mathlib.Core.Path.{_≡_, sym}
-use Prim.Native.Nat.{_<_}
 use native.Mathlib.Omega.{arith}
 use borrow.Author.Needs.{needs}
 use Rattle.say.proofs.say_line.Statement.{statement}

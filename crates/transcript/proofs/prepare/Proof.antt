@@ -1,6 +1,5 @@
 use Rattle.transcript.proofs.Preparing.{too-long, refused-file, built-file, never-taken, accepted-valid}
 use Rattle.rules.specs.Refusals.{replyOf, refusalNumber, refusalPlace}
-use mathlib.Core.Path.{_≡_}
 -- `transcript::prepare` meets its contract; what a build accepts is a ruleset. Assumes nothing.
 use borrow.Author.Needs.{needs}
 use Rattle.transcript.proofs.prepare.Statement.{statement}

@@ -1,6 +1,5 @@
 -- `walk::speak` meets its contract: a refusal with its steps, or what `deliver` gives with the steps carried.
 -- Assumes nothing.
-use Prim.Native.Nat.{_≤_}
 use mathlib.Core.Path.{refl, sym}
 use borrow.Author.Needs.{needs}
 use native.Mathlib.Omega.{arith}

@@ -2,7 +2,7 @@
 -- Assumes nothing.
 use native.Mathlib.Omega.{arith}
 use borrow.Author.Needs.{needs}
-use Rattle.host.proofs.Answering.{has-none, has-broken, has-one}
+use Rattle.host.proofs.Names.{has-none, has-broken, has-one}
 use Rattle.host.proofs.many.has_next.Statement.{statement}
 use Rattle.host.proofs.many.has_next.Tie as tie
 

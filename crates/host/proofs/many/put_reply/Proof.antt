@@ -3,7 +3,7 @@
 use mathlib.Core.Path.{_∙_}
 use native.Mathlib.Omega.{arith}
 use lib.ListN.{length-set}
-use Rattle.host.proofs.Answering.{put-four}
+use Rattle.host.proofs.Runs.{put-four}
 use borrow.Author.Needs.{needs}
 use Rattle.host.proofs.many.put_reply.Statement.{statement}
 use Rattle.host.proofs.many.put_reply.Tie as tie

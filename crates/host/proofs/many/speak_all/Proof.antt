@@ -7,7 +7,8 @@ use Rattle.rules.specs.Memory.{over}
 use Rattle.host.specs.Many.{Lot}
 use native.Mathlib.Omega.{arith}
 use Rattle.tables.specs.Walk.{walkSaid}
-use Rattle.host.proofs.Answering.{Going, begin, next, next-count, next-whole, walk-fits, all-is, end-count, end-replies, end-phones, end-numbers}
+use Rattle.host.proofs.Answering.{Going, begin, next, walk-fits, all-is, end-count, end-replies, end-phones, end-numbers}
+use Rattle.host.proofs.Names.{next-count, next-whole}
 use Rattle.host.proofs.many.speak_all.Statement.{statement}
 use Rattle.host.proofs.many.speak_all.Tie as tie
 
