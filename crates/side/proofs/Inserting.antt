@@ -14,8 +14,8 @@ use lib.Seq.{append-snoc, take-suc, take-all, getD-take, getD-drop}
 use borrow.Author.Tests.{eqb-false}
 use Rattle.rules.proofs.Cases.{byBool}
 use Rattle.reading.specs.Fitting.{Str}
-use Rattle.tables.specs.States.{member, index, numberOne, states, numbered}
-use Rattle.tables.proofs.Trie.{distinct, child, insert}
+use Rattle.tables.specs.States.{member, index, numberOne, states, numbered, child}
+use Rattle.tables.proofs.Trie.{distinct, insert}
 use Rattle.tables.proofs.Truth.{clash, true-eq}
 use Rattle.tables.proofs.Suffix.{same-refl, Closed}
 use Rattle.tables.proofs.Count.{Within, states-length}

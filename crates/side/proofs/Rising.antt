@@ -14,8 +14,8 @@ use lib.Seq.{getD-take}
 use borrow.Author.Tests.{eqb-false}
 use Rattle.rules.proofs.Cases.{byBool}
 use Rattle.reading.specs.Fitting.{Str}
-use Rattle.tables.specs.States.{longest, member, index, states, numbered, entry}
-use Rattle.tables.proofs.Trie.{child, failure}
+use Rattle.tables.specs.States.{longest, member, index, states, numbered, entry, child}
+use Rattle.tables.proofs.Trie.{failure}
 use Rattle.tables.proofs.Truth.{true-eq}
 use Rattle.tables.proofs.Suffix.{longest-passes}
 use Rattle.tables.proofs.Numbering.{getD-index, index-lt, index-getD, numbered-closed, numbered-nil, distinct-states, index-nil}

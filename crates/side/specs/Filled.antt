@@ -7,8 +7,7 @@ use mathlib.Core.Bool.{Bool, false}
 use mathlib.Core.List.{List, [], _∷_}
 use lib.ListN.{length, getD, take}
 use Rattle.reading.specs.Fitting.{Str, same, ends}
-use Rattle.tables.specs.States.{states, entry, index}
-use Rattle.tables.proofs.Trie.{child}
+use Rattle.tables.specs.States.{states, entry, index, child}
 use Rattle.tables.specs.Words.{pack, tab}
 use Rattle.side.specs.Wrote.{Wrote}
 use Rattle.side.specs.Steps.{cell, completed, united}
