@@ -1,18 +1,19 @@
 // The plain reading of a name: at each reached letter the first rule in order that fits (document 01, "Letters, rules, fitting").
+pub mod delivery;
+
 use rules::Refusal;
 ghost use mathlib.Core.Path.{_≡_};
 ghost use mathlib.Core.Bool.{true};
 ghost use Prim.Native.Nat.{_+_, _<_, _≤_};
-ghost use lib.Dec.{leb};
 ghost use lib.ListN.{length, take, drop};
 ghost use lib.Seq.{paste};
 ghost use Rattle.rules.specs.Memory.{over};
 ghost use Rattle.rules.specs.Shape.{first};
 ghost use Rattle.image.specs.Image.{two, entriesOf, valid};
 ghost use Rattle.reading.specs.Fitting.{same, starts, ends, frame, fits};
-ghost use Rattle.reading.specs.Reading.{finished, plain};
-ghost use Rattle.reading.specs.Speech.{phonesOf, numbersOf, toldOf, saying, delivered, judgedName, plainSaid};
-ghost use Rattle.reading.specs.Places.{entryAt, entriesAt, Within, Judges, FitAt, ReadInto};
+ghost use Rattle.reading.specs.Reading.{plain};
+ghost use Rattle.reading.specs.Speech.{toldOf, saying, delivered, judgedName, plainSaid};
+ghost use Rattle.reading.specs.Places.{entryAt, Judges, FitAt, ReadInto};
 
 // The answer of a call that speaks a name: how many phones and rule numbers it gave, or why it declined.
 pub enum Speech {
@@ -155,73 +156,6 @@ pub fn target_len_at(image: &[u8], place: usize) -> usize
     wide(image[4 + 26 * place + 3])
 }
 
-// The phones of the rules at places, counted.
-fn phone_count(image: &[u8], places: &[u16]) -> usize
-    requires { ⌜ (valid (now image) ≡ true) × ((length (now places) ≤ 64) × Within (now image) (now places)) ⌝ }
-    ensures { λ r. ⌜ r ≡ length (phonesOf (entriesAt (now (image .entry)) (now (places .entry)))) ⌝ }
-{
-    let mut total = 0;
-    let mut k = 0;
-    while k < places.len() {
-        let place = wide_place(places[k]);
-        total += wide(image[4 + 26 * place + 5]);
-        k += 1;
-    }
-    total
-}
-
-// Whether there is room for the phones of the rules at places. A rule has at most four, so that they need not be counted where there is
-// room for as many.
-fn phones_fit(image: &[u8], places: &[u16], room: usize) -> bool
-    requires { ⌜ (valid (now image) ≡ true) × ((length (now places) ≤ 64) × Within (now image) (now places)) ⌝ }
-    ensures { λ r. ⌜ r ≡ leb (length (phonesOf (entriesAt (now (image .entry)) (now (places .entry))))) room ⌝ }
-{
-    if 4 * places.len() <= room {
-        return true;
-    }
-    phone_count(image, places) <= room
-}
-
-// The phones and the numbers of the rules at places, in order; how many phones they are.
-fn write_rules(image: &[u8], places: &[u16], phones: &mut [u8], numbers: &mut [u16]) -> usize
-    requires { ⌜ (valid (now image) ≡ true) × Within (now image) (now places) × (length (phonesOf (entriesAt (now image) (now places))) ≤ length (now phones)) × (length (now places) ≤ length (now numbers)) ⌝ }
-    ensures count { λ r. ⌜ r ≡ length (phonesOf (entriesAt (now (image .entry)) (now (places .entry)))) ⌝ }
-    ensures phones { λ _. ⌜ now (phones .exit) ≡ over (phonesOf (entriesAt (now (image .entry)) (now (places .entry)))) (now (phones .entry)) ⌝ }
-    ensures numbers { λ _. ⌜ now (numbers .exit) ≡ over (numbersOf (entriesAt (now (image .entry)) (now (places .entry)))) (now (numbers .entry)) ⌝ }
-{
-    let mut to = 0;
-    let mut k = 0;
-    while k < places.len() {
-        let place = wide_place(places[k]);
-        numbers[k] = image::number_at(image, place);
-        let at = 4 + 26 * place;
-        let len = wide(image[at + 5]);
-        copy(image, at + 22, phones, to, len);
-        to += len;
-        k += 1;
-    }
-    to
-}
-
-// The phones and the numbers of the rules at places, where the lent memory has room for both (document 01's refusals 4 and 5).
-pub fn deliver(image: &[u8], places: &[u16], phones: &mut [u8], numbers: &mut [u16]) -> Speech
-    requires { ⌜ (valid (now image) ≡ true) × ((length (now places) ≤ 64) × Within (now image) (now places)) ⌝ }
-    ensures { λ r. ⌜ saying (toldOf r) (now (phones .exit)) (now (numbers .exit)) ≡ delivered (finished (entriesAt (now (image .entry)) (now (places .entry)))) (now (phones .entry)) (now (numbers .entry)) ⌝ }
-{
-    if !phones_fit(image, places, phones.len()) {
-        return Speech::Refused(Refusal::PhonesRoom(phone_count(image, places)));
-    }
-    let count = places.len();
-    if numbers.len() < count {
-        return Speech::Refused(Refusal::NumbersRoom(count));
-    }
-    let given = write_rules(image, places, phones, numbers);
-    Speech::Spoken {
-        phones: given,
-        numbers: count,
-    }
-}
-
 // The first rule in order that fits at `i`.
 fn first_fit(image: &[u8], count: usize, frame: &[u8], i: usize) -> Fit
     requires { ⌜ (valid (now image) ≡ true) × ((count ≡ two 0 (now image)) × (i ≤ length (now frame))) ⌝ }
@@ -270,7 +204,7 @@ fn read_letters(image: &[u8], name: &[u8], phones: &mut [u8], numbers: &mut [u16
     let applied = read_places(image, &frame[..end], &mut places);
     match applied {
         Applied::NoFit(i) => Speech::Refused(Refusal::NoFit(i)),
-        Applied::Rules(k) => deliver(image, &places[..k], phones, numbers),
+        Applied::Rules(k) => delivery::deliver(image, &places[..k], phones, numbers),
     }
 }
 

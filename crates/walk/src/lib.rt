@@ -65,7 +65,7 @@ fn speak(
             }
         }
         Reached::Rules(count) => {
-            let speech = reading::deliver(image, &places[..count], phones, numbers);
+            let speech = reading::delivery::deliver(image, &places[..count], phones, numbers);
             WalkAnswer { steps, speech }
         }
     }
