@@ -1,17 +1,16 @@
 -- Laws of a command's fields: the places of an array one by one, and what the length of an add says.
 -- Assumes nothing.
-use Prim.Native.Nat.{ℕ, zero, suc, _+_, _-_, _≤_, _<_}
-use mathlib.Core.Path.{_≡_, refl, sym, ap, _∙_}
-use mathlib.Core.List.{List, [], _∷_, _++_}
-use mathlib.Core.Bool.{Bool, true, false}
+use Prim.Native.Nat.{ℕ, _+_, _≤_, _<_}
+use mathlib.Core.Path.{_≡_, refl, sym, _∙_}
+use mathlib.Core.List.{List, [], _∷_}
+use mathlib.Core.Bool.{true}
 use native.Mathlib.Omega.{arith}
 use lib.ListN.{length, getD, take, drop, length-take, List·getD-eq-default}
 use lib.Seq.{getD-drop, getD-take}
-use lib.Dec.{leb, eqb}
+use lib.Dec.{leb}
 use borrow.Author.Tests.{leb-true, eqb-true}
-use Rattle.rules.specs.Shape.{pick, first}
+use Rattle.rules.specs.Shape.{first}
 use Rattle.image.proofs.Tests.{and-l, and-r}
-use Rattle.rules.specs.declared.Rule.{Rule}
 use Rattle.commands.specs.Fields.{phonesStart, addSized, AddSized, fieldOf, ruleOf}
 
 -- the four and the six places of an array

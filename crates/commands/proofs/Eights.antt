@@ -1,13 +1,13 @@
 -- The loop that lays set words, eight bytes each.
 -- Assumes nothing.
-use Prim.Native.Nat.{ℕ, _+_, _-_, _*_, _≤_, _<_}
+use Prim.Native.Nat.{ℕ, _+_, _*_, _≤_, _<_}
 use mathlib.Core.Path.{_≡_, refl, sym, ap, _∙_}
 use mathlib.Core.List.{List, [], _∷_, _++_}
 use native.Mathlib.Omega.{arith}
 use native.Mathlib.Numerals.{add-one}
-use lib.ListN.{length, take, drop, getD, take-append-drop}
+use lib.ListN.{length, take, getD, take-append-drop}
 use lib.Seq.{take-suc, take-all, length-take-le}
-use Rattle.rules.specs.Memory.{over, overAt}
+use Rattle.rules.specs.Memory.{overAt}
 use Rattle.rules.proofs.Memory.{over-at-length}
 use Rattle.transcript.proofs.Fields.{over-on}
 use Rattle.commands.specs.Memory.{bytes8, eights}

@@ -1,21 +1,19 @@
 -- Calls over a part that was lent and came back: their outcome with what lies past it, and that what is told has room.
 -- Assumes nothing.
-use Prim.Native.Nat.{ℕ, _≤_, _<_, min}
-use mathlib.Core.Path.{_≡_, refl, sym, ap, _∙_, subst}
-use mathlib.Core.List.{List, [], _∷_, _++_}
-use mathlib.Core.Bool.{Bool, true, false}
+use Prim.Native.Nat.{ℕ, _≤_, _<_}
+use mathlib.Core.Path.{_≡_, sym, ap, _∙_, subst}
+use mathlib.Core.List.{List, _++_}
 use native.Mathlib.Omega.{arith}
 use lib.ListN.{length, take, drop, length-take}
 use borrow.Author.Tests.{le-leb, lt-leb, leb-true}
 use lib.Dec.{leb}
 use Rattle.rules.proofs.Cases.{byBool}
-use Rattle.rules.specs.Shape.{pick}
-use Rattle.rules.specs.Refusals.{Reply, declined, replyOf}
+use Rattle.rules.specs.Refusals.{Reply, declined}
 use Rattle.image.specs.Image.{two, Edited, outcome, valid, entriesOf}
 use Rattle.commands.specs.Fields.{four}
 use Rattle.reading.specs.Reading.{plain}
 use Rattle.reading.specs.Speech.{Told, spoken, refused, Said, saying, judgedName, plainSaid}
-use Rattle.tables.specs.Words.{Built, building, built}
+use Rattle.tables.specs.Words.{building, built}
 use Rattle.tables.specs.Walk.{Walked, walkSaid}
 use Rattle.file.specs.Loading.{Report, reportOf, Filed, filing, filed, loaded, wrote, listingOf}
 use Rattle.file.specs.declared.Written.{Written}

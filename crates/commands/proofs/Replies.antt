@@ -1,20 +1,19 @@
 -- The lines of answers, as the functions lay them, and an edit's outcome with its answer.
 -- Assumes nothing.
-use Prim.Native.Nat.{ℕ, _+_, _*_, _/_, _%_, _≤_, _<_}
-use mathlib.Core.Path.{_≡_, refl, sym, ap, _∙_}
+use Prim.Native.Nat.{ℕ, _/_, _%_, _≤_}
+use mathlib.Core.Path.{_≡_, refl, sym, _∙_}
 use mathlib.Core.List.{List, [], _∷_, _++_}
 use mathlib.Core.Bool.{Bool, true, false}
 use native.Mathlib.Omega.{arith}
 use lib.ListN.{length}
 use Rattle.rules.specs.Memory.{over, overAt}
-use Rattle.rules.specs.Shape.{pick}
 use Rattle.rules.specs.Refusals.{Reply, accepted, declined, replyOf, refusalNumber, refusalPlace}
 use Rattle.rules.specs.declared.Refusal.{Refusal}
 use Rattle.rules.specs.declared.Answer.{Answer}
 use Rattle.rules.specs.declared.Answer.the-variants.{Accepted, Refused}
 use Rattle.image.specs.Image.{two, Edited, outcome}
 use Rattle.frames.specs.Lines.{lineOf, framed}
-use Rattle.transcript.specs.Answers.{printed, refusedBody, refusalLine, two as field, four as place}
+use Rattle.transcript.specs.Answers.{refusedBody, refusalLine, two as field, four as place}
 use Rattle.transcript.proofs.Printed.{printed-is, length-printed}
 use Rattle.commands.specs.Answers.{doneLine, lastLine, statesLine, walkRefusal, malformedLine, replyLine, editLine, sizedTo, Answered}
 

@@ -1,20 +1,19 @@
 -- The lines that a command answers, and the edits that commands stand for. A frame of another length than its fields answers 05 with 13, place 0,
 -- and changes nothing.
-use Prim.Native.Nat.{ℕ, _+_, _/_, _%_}
+use Prim.Native.Nat.{ℕ}
 use mathlib.Core.Path.{_≡_}
 use mathlib.Core.List.{List, [], _∷_, _++_}
-use mathlib.Core.Bool.{Bool, true, false}
-use lib.ListN.{length, getD, take, drop}
-use lib.Dec.{leb, eqb}
+use mathlib.Core.Bool.{Bool}
+use lib.ListN.{length}
+use lib.Dec.{eqb}
 use Rattle.rules.specs.Memory.{over}
 use Rattle.rules.specs.Shape.{pick}
 use Rattle.rules.specs.Refusals.{Reply, accepted, declined}
 use Rattle.image.specs.Image.{two, Edited, outcome}
-use Rattle.edits.specs.Ledger.{Edit}
 use Rattle.edits.specs.Ledger.Edit.{Add, Drop, Move}
 use Rattle.edits.specs.Edits.{edited}
-use Rattle.transcript.specs.Answers.{two as field, four as place, twos, printed, refusedBody}
-use Rattle.commands.specs.Fields.{four, addSized, ruleOf}
+use Rattle.transcript.specs.Answers.{two as field, four as place, printed, refusedBody}
+use Rattle.commands.specs.Fields.{addSized, ruleOf}
 
 -- 06 alone
 unfoldable pub doneLine : List ℕ

@@ -1,7 +1,7 @@
 -- The commands that read and write the rule file.
 use Prim.Native.Nat.{ℕ}
-use mathlib.Core.List.{List, _++_}
-use lib.ListN.{length, take, drop}
+use mathlib.Core.List.{List}
+use lib.ListN.{length, take}
 use lib.Dec.{leb, eqb}
 use Rattle.rules.specs.Shape.{pick}
 use Rattle.rules.specs.Refusals.{declined}

@@ -1,7 +1,7 @@
 -- Calls over the first so many of what the monitor holds: the rest keeps its contents.
 use Prim.Native.Nat.{ℕ, min}
-use mathlib.Core.List.{List, [], _∷_, _++_}
-use lib.ListN.{length, take, drop}
+use mathlib.Core.List.{List, _++_}
+use lib.ListN.{take, drop}
 use Rattle.reading.specs.Speech.{Said, saying, plainSaid}
 use Rattle.tables.specs.Words.{Built, building, built}
 use Rattle.tables.specs.Walk.{Walked, walkSaid}

@@ -1,341 +1,245 @@
+-- `commands::answer` meets its contract: each command is answered by its own function.
+-- Assumes nothing.
 use Rattle.commands.proofs.Replies.{short}
 use native.Mathlib.Omega.{arith}
 use borrow.Author.Needs.{needs}
 use Rattle.commands.proofs.answer.Statement.{statement}
 use Rattle.commands.proofs.answer.Tie as tie
-use Rattle.commands.proofs.answer.Reads as reads
-use Rattle.commands.proofs.answer.Lts as lts
-use Rattle.commands.proofs.answers.malformed.Reads as malformed-reads
-use Rattle.commands.proofs.editing.add_command.Reads as add-command-reads
-use Rattle.commands.proofs.editing.clear_command.Reads as clear-command-reads
-use Rattle.commands.proofs.editing.drop_command.Reads as drop-command-reads
-use Rattle.commands.proofs.editing.force_command.Reads as force-command-reads
-use Rattle.commands.proofs.editing.move_command.Reads as move-command-reads
-use Rattle.commands.proofs.filing.read_command.Reads as read-command-reads
-use Rattle.commands.proofs.filing.write_command.Reads as write-command-reads
-use Rattle.commands.proofs.memory.show_numbers.Reads as show-numbers-reads
-use Rattle.commands.proofs.memory.show_phones.Reads as show-phones-reads
-use Rattle.commands.proofs.memory.show_sets.Reads as show-sets-reads
-use Rattle.commands.proofs.memory.show_words.Reads as show-words-reads
-use Rattle.commands.proofs.memory.store_set.Reads as store-set-reads
-use Rattle.commands.proofs.memory.store_word.Reads as store-word-reads
-use Rattle.commands.proofs.speaking.build_command.Reads as build-command-reads
-use Rattle.commands.proofs.speaking.plain_command.Reads as plain-command-reads
-use Rattle.commands.proofs.speaking.walk_command.Reads as walk-command-reads
 
--- src/lib.rt:55:9
 malformed-requires : tie.Need-malformed-requires
 malformed-requires c κs = search needs
 
--- src/lib.rt:55:9
 same-length : tie.Need-same-length
 same-length c = search needs
 
--- src/lib.rt:55:9
 returns : tie.Need-returns
 returns c = search needs
 
--- src/lib.rt:57:16
 shared-slice-read-kind : tie.Need-shared-slice-read-kind
 shared-slice-read-kind c = search needs
 
--- src/lib.rt:59:17
 add-command-requires : tie.Need-add-command-requires
 add-command-requires c κs = search needs
 
--- src/lib.rt:60:17
 drop-command-requires : tie.Need-drop-command-requires
 drop-command-requires c κs = search needs
 
--- src/lib.rt:61:17
 move-command-requires : tie.Need-move-command-requires
 move-command-requires c κs = search needs
 
--- src/lib.rt:62:17
 read-command-requires : tie.Need-read-command-requires
 read-command-requires c κs = search needs
 
--- src/lib.rt:63:17
 write-command-requires : tie.Need-write-command-requires
 write-command-requires c κs = search needs
 
--- src/lib.rt:64:17
 build-command-requires : tie.Need-build-command-requires
 build-command-requires c κs = search needs
 
--- src/lib.rt:65:17
 walk-command-requires : tie.Need-walk-command-requires
 walk-command-requires c κs = search needs
 
--- src/lib.rt:66:17
 plain-command-requires : tie.Need-plain-command-requires
 plain-command-requires c κs = search needs
 
--- src/lib.rt:67:17
 store-word-requires : tie.Need-store-word-requires
 store-word-requires c κs = search needs
 
--- src/lib.rt:68:17
 store-set-requires : tie.Need-store-set-requires
 store-set-requires c κs = search needs
 
--- src/lib.rt:69:17
 show-words-requires : tie.Need-show-words-requires
 show-words-requires c κs = search needs
 
--- src/lib.rt:70:17
 show-sets-requires : tie.Need-show-sets-requires
 show-sets-requires c κs = search needs
 
--- src/lib.rt:71:17
 show-phones-requires : tie.Need-show-phones-requires
 show-phones-requires c κs = search needs
 
--- src/lib.rt:72:17
 show-numbers-requires : tie.Need-show-numbers-requires
 show-numbers-requires c κs = search needs
 
--- src/lib.rt:73:17
 force-command-requires : tie.Need-force-command-requires
 force-command-requires c κs = search needs
 
--- src/lib.rt:74:17
 clear-command-requires : tie.Need-clear-command-requires
 clear-command-requires c κs = search needs
 
--- src/lib.rt:75:14
 malformed-requires-2 : tie.Need-malformed-requires-2
 malformed-requires-2 c κs = search needs
 
--- src/lib.rt:41:1
 same-length-2 : tie.Need-same-length-2
 same-length-2 c = search needs
 
--- src/lib.rt:41:1
 same-length-3 : tie.Need-same-length-3
 same-length-3 c = search needs
 
--- src/lib.rt:41:1
 returns-2 : tie.Need-returns-2
 returns-2 c = omega (arith, short (c .before .before .before .before .add-command .ensures), c .before .before .before .before .before .before .before .before .before .before .before .before .before .before .before .before .before .before .pre .room)
 
--- src/lib.rt:41:1
 same-length-4 : tie.Need-same-length-4
 same-length-4 c = search needs
 
--- src/lib.rt:41:1
 same-length-5 : tie.Need-same-length-5
 same-length-5 c = search needs
 
--- src/lib.rt:41:1
 returns-3 : tie.Need-returns-3
 returns-3 c = omega (arith, short (c .before .before .before .before .drop-command .ensures), c .before .before .before .before .before .before .before .before .before .before .before .before .before .before .before .before .before .before .pre .room)
 
--- src/lib.rt:41:1
 same-length-6 : tie.Need-same-length-6
 same-length-6 c = search needs
 
--- src/lib.rt:41:1
 same-length-7 : tie.Need-same-length-7
 same-length-7 c = search needs
 
--- src/lib.rt:41:1
 returns-4 : tie.Need-returns-4
 returns-4 c = omega (arith, short (c .before .before .before .before .move-command .ensures), c .before .before .before .before .before .before .before .before .before .before .before .before .before .before .before .before .before .before .pre .room)
 
--- src/lib.rt:41:1
 same-length-8 : tie.Need-same-length-8
 same-length-8 c = search needs
 
--- src/lib.rt:41:1
 same-length-9 : tie.Need-same-length-9
 same-length-9 c = search needs
 
--- src/lib.rt:41:1
 returns-5 : tie.Need-returns-5
 returns-5 c = omega (arith, short (c .before .before .before .before .read-command .ensures), c .before .before .before .before .before .before .before .before .before .before .before .before .before .before .before .before .before .before .pre .room)
 
--- src/lib.rt:41:1
 same-length-10 : tie.Need-same-length-10
 same-length-10 c = search needs
 
--- src/lib.rt:41:1
 same-length-11 : tie.Need-same-length-11
 same-length-11 c = search needs
 
--- src/lib.rt:41:1
 returns-6 : tie.Need-returns-6
 returns-6 c = search needs
 
--- src/lib.rt:41:1
 same-length-12 : tie.Need-same-length-12
 same-length-12 c = search needs
 
--- src/lib.rt:41:1
 same-length-13 : tie.Need-same-length-13
 same-length-13 c = search needs
 
--- src/lib.rt:41:1
 same-length-14 : tie.Need-same-length-14
 same-length-14 c = search needs
 
--- src/lib.rt:41:1
 same-length-15 : tie.Need-same-length-15
 same-length-15 c = search needs
 
--- src/lib.rt:41:1
 returns-7 : tie.Need-returns-7
 returns-7 c = search needs
 
--- src/lib.rt:41:1
 same-length-16 : tie.Need-same-length-16
 same-length-16 c = search needs
 
--- src/lib.rt:41:1
 same-length-17 : tie.Need-same-length-17
 same-length-17 c = search needs
 
--- src/lib.rt:41:1
 same-length-18 : tie.Need-same-length-18
 same-length-18 c = search needs
 
--- src/lib.rt:41:1
 same-length-19 : tie.Need-same-length-19
 same-length-19 c = search needs
 
--- src/lib.rt:41:1
 same-length-20 : tie.Need-same-length-20
 same-length-20 c = search needs
 
--- src/lib.rt:41:1
 same-length-21 : tie.Need-same-length-21
 same-length-21 c = search needs
 
--- src/lib.rt:41:1
 returns-8 : tie.Need-returns-8
 returns-8 c = search needs
 
--- src/lib.rt:41:1
 same-length-22 : tie.Need-same-length-22
 same-length-22 c = search needs
 
--- src/lib.rt:41:1
 same-length-23 : tie.Need-same-length-23
 same-length-23 c = search needs
 
--- src/lib.rt:41:1
 same-length-24 : tie.Need-same-length-24
 same-length-24 c = search needs
 
--- src/lib.rt:41:1
 same-length-25 : tie.Need-same-length-25
 same-length-25 c = search needs
 
--- src/lib.rt:41:1
 returns-9 : tie.Need-returns-9
 returns-9 c = search needs
 
--- src/lib.rt:41:1
 same-length-26 : tie.Need-same-length-26
 same-length-26 c = search needs
 
--- src/lib.rt:41:1
 same-length-27 : tie.Need-same-length-27
 same-length-27 c = search needs
 
--- src/lib.rt:41:1
 returns-10 : tie.Need-returns-10
 returns-10 c = search needs
 
--- src/lib.rt:41:1
 same-length-28 : tie.Need-same-length-28
 same-length-28 c = search needs
 
--- src/lib.rt:41:1
 same-length-29 : tie.Need-same-length-29
 same-length-29 c = search needs
 
--- src/lib.rt:41:1
 returns-11 : tie.Need-returns-11
 returns-11 c = search needs
 
--- src/lib.rt:41:1
 same-length-30 : tie.Need-same-length-30
 same-length-30 c = search needs
 
--- src/lib.rt:41:1
 same-length-31 : tie.Need-same-length-31
 same-length-31 c = search needs
 
--- src/lib.rt:41:1
 returns-12 : tie.Need-returns-12
 returns-12 c = search needs
 
--- src/lib.rt:41:1
 same-length-32 : tie.Need-same-length-32
 same-length-32 c = search needs
 
--- src/lib.rt:41:1
 same-length-33 : tie.Need-same-length-33
 same-length-33 c = search needs
 
--- src/lib.rt:41:1
 returns-13 : tie.Need-returns-13
 returns-13 c = search needs
 
--- src/lib.rt:41:1
 same-length-34 : tie.Need-same-length-34
 same-length-34 c = search needs
 
--- src/lib.rt:41:1
 same-length-35 : tie.Need-same-length-35
 same-length-35 c = search needs
 
--- src/lib.rt:41:1
 returns-14 : tie.Need-returns-14
 returns-14 c = search needs
 
--- src/lib.rt:41:1
 same-length-36 : tie.Need-same-length-36
 same-length-36 c = search needs
 
--- src/lib.rt:41:1
 same-length-37 : tie.Need-same-length-37
 same-length-37 c = search needs
 
--- src/lib.rt:41:1
 returns-15 : tie.Need-returns-15
 returns-15 c = search needs
 
--- src/lib.rt:41:1
 same-length-38 : tie.Need-same-length-38
 same-length-38 c = search needs
 
--- src/lib.rt:41:1
 same-length-39 : tie.Need-same-length-39
 same-length-39 c = search needs
 
--- src/lib.rt:41:1
 returns-16 : tie.Need-returns-16
 returns-16 c = search needs
 
--- src/lib.rt:41:1
 same-length-40 : tie.Need-same-length-40
 same-length-40 c = search needs
 
--- src/lib.rt:41:1
 same-length-41 : tie.Need-same-length-41
 same-length-41 c = search needs
 
--- src/lib.rt:41:1
 returns-17 : tie.Need-returns-17
 returns-17 c = search needs
 
--- src/lib.rt:41:1
 same-length-42 : tie.Need-same-length-42
 same-length-42 c = search needs
 
--- src/lib.rt:41:1
 returns-18 : tie.Need-returns-18
 returns-18 c = search needs
 

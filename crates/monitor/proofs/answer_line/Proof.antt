@@ -1,79 +1,59 @@
+-- `monitor::answer_line` meets its contract: what is held is large enough for the answer.
+-- Assumes nothing.
 use lib.Seq.{length-take-le}
 use mathlib.Core.Path.{sym}
 use borrow.Author.Needs.{needs}
 use Rattle.monitor.proofs.answer_line.Statement.{statement}
 use Rattle.monitor.proofs.answer_line.Tie as tie
-use Rattle.monitor.proofs.answer_line.Reads as reads
-use Rattle.monitor.proofs.answer_line.Lts as lts
-use Rattle.io.proofs.write_all.Reads as write-all-reads
-use Rattle.monitor.proofs.ended.Reads as ended-reads
-use Rattle.monitor.proofs.reply.Reads as reply-reads
 
--- src/main.rt:93:9
 ended-requires : tie.Need-ended-requires
 ended-requires c κs = search needs
 
--- src/main.rt:95:9
 slice-reshare-prefix-reply : tie.Need-slice-reshare-prefix-reply
 slice-reshare-prefix-reply c = search needs
 
--- src/main.rt:95:9
 slice-aggregate-reply : tie.Need-slice-aggregate-reply
 slice-aggregate-reply c = sym (length-take-le _ _ (c .before .before .before .ended .ensures))
 
--- src/main.rt:94:9
 reply-requires : tie.Need-reply-requires
 reply-requires c κs = search needs
 
--- src/main.rt:105:34
 slice-reshare-prefix-write-all : tie.Need-slice-reshare-prefix-write-all
 slice-reshare-prefix-write-all c = search needs
 
--- src/main.rt:105:34
 slice-aggregate-write-all : tie.Need-slice-aggregate-write-all
 slice-aggregate-write-all c = sym (length-take-le _ _ (c .before .before .before .before .before .before .before .before .before .before .before .before .before .before .before .before .before .reply .ensures))
 
--- src/main.rt:105:5
 write-all-requires : tie.Need-write-all-requires
 write-all-requires c κs = search needs
 
--- src/main.rt:79:1
 same-length : tie.Need-same-length
 same-length c = search needs
 
--- src/main.rt:79:1
 same-length-2 : tie.Need-same-length-2
 same-length-2 c = search needs
 
--- src/main.rt:79:1
 same-length-3 : tie.Need-same-length-3
 same-length-3 c = search needs
 
--- src/main.rt:79:1
 same-length-4 : tie.Need-same-length-4
 same-length-4 c = search needs
 
--- src/main.rt:79:1
 same-length-5 : tie.Need-same-length-5
 same-length-5 c = search needs
 
--- src/main.rt:79:1
 same-length-6 : tie.Need-same-length-6
 same-length-6 c = search needs
 
--- src/main.rt:79:1
 same-length-7 : tie.Need-same-length-7
 same-length-7 c = search needs
 
--- src/main.rt:79:1
 same-length-8 : tie.Need-same-length-8
 same-length-8 c = search needs
 
--- src/main.rt:79:1
 same-length-9 : tie.Need-same-length-9
 same-length-9 c = search needs
 
--- src/main.rt:79:1
 returns : tie.Need-returns
 returns c = search needs
 

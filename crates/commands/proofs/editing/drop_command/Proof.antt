@@ -1,3 +1,5 @@
+-- `commands::editing::drop_command` meets its contract: a frame of 3 bytes is the edit, any other is malformed.
+-- Assumes nothing.
 use lib.ListN.{length}
 use lib.Dec.{eqb}
 use borrow.Author.Tests.{eq-eqb, ne-eqb}
@@ -9,42 +11,29 @@ use Rattle.commands.proofs.Replies.{answered-not, answered-edit}
 use borrow.Author.Needs.{needs}
 use Rattle.commands.proofs.editing.drop_command.Statement.{statement}
 use Rattle.commands.proofs.editing.drop_command.Tie as tie
-use Rattle.commands.proofs.editing.drop_command.Reads as reads
-use Rattle.commands.proofs.editing.drop_command.Lts as lts
-use Rattle.commands.proofs.answers.malformed.Reads as malformed-reads
-use Rattle.commands.proofs.answers.reply_line.Reads as reply-line-reads
-use Rattle.commands.proofs.editing.drop.Reads as drop-reads
 
--- src/editing.rt:85:9
 malformed-requires : tie.Need-malformed-requires
 malformed-requires c κs = search needs
 
--- src/editing.rt:85:9
 same-length : tie.Need-same-length
 same-length c = search needs
 
--- src/editing.rt:85:9
 returns : tie.Need-returns
 unfolding dropped
 returns c = let a = c .before .before .before .before .before .before .before .before .args in answered-not (eqb (length (a .f .now)) 3) (edited (a .image .now) (Edit.Drop (two 1 (a .f .now)))) (a .image .now) (a .out .now) _ _ (ne-eqb (length (a .f .now)) 3 (c .before .before .before .before .if1 .taken)) (c .before .before .malformed .ensures .0) (c .before .before .malformed .ensures .1)
 
--- src/editing.rt:87:9
 drop-requires : tie.Need-drop-requires
 drop-requires c κs = search needs
 
--- src/editing.rt:88:5
 reply-line-requires : tie.Need-reply-line-requires
 reply-line-requires c κs = search needs
 
--- src/editing.rt:80:1
 same-length-2 : tie.Need-same-length-2
 same-length-2 c = search needs
 
--- src/editing.rt:80:1
 same-length-3 : tie.Need-same-length-3
 same-length-3 c = search needs
 
--- src/editing.rt:80:1
 returns-2 : tie.Need-returns-2
 unfolding dropped
 returns-2 c = let a = c .before .before .before .before .before .before .before .before .before .before .before .before .before .args in answered-edit (eqb (length (a .f .now)) 3) (edited (a .image .now) (Edit.Drop (two 1 (a .f .now)))) (a .image .now) (a .out .now) _ _ (eq-eqb (length (a .f .now)) 3 (c .before .before .before .before .before .before .before .before .before .if1 .left)) (c .before .before .before .before .before .before .before .drop .result) _ (c .before .before .before .before .before .before .before .drop .ensures) (c .before .before .reply-line .ensures .0) (c .before .before .reply-line .ensures .1)

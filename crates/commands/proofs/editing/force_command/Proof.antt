@@ -1,3 +1,5 @@
+-- `commands::editing::force_command` meets its contract: a frame of 9 bytes overwrites, any other is malformed.
+-- Assumes nothing.
 use lib.ListN.{length}
 use native.Mathlib.Omega.{arith}
 use mathlib.Core.Path.{_∙_}
@@ -6,41 +8,28 @@ use Rattle.commands.proofs.Shown.{kept-short, done-sized}
 use borrow.Author.Needs.{needs}
 use Rattle.commands.proofs.editing.force_command.Statement.{statement}
 use Rattle.commands.proofs.editing.force_command.Tie as tie
-use Rattle.commands.proofs.editing.force_command.Reads as reads
-use Rattle.commands.proofs.editing.force_command.Lts as lts
-use Rattle.commands.proofs.answers.done_line.Reads as done-line-reads
-use Rattle.commands.proofs.answers.malformed.Reads as malformed-reads
-use Rattle.commands.proofs.editing.force.Reads as force-reads
 
--- src/editing.rt:110:9
 malformed-requires : tie.Need-malformed-requires
 malformed-requires c κs = search needs
 
--- src/editing.rt:110:9
 same-length : tie.Need-same-length
 same-length c = search needs
 
--- src/editing.rt:110:9
 returns : tie.Need-returns
 returns c = let a = c .before .before .before .before .before .before .before .before .args in (omega (arith, c .before .before .malformed .ensures .0), kept-short (length (a .f .now)) 9 (a .image .now) (forced (a .f .now) (a .image .now)) (c .before .before .before .before .if1 .taken))
 
--- src/editing.rt:112:5
 force-requires : tie.Need-force-requires
 force-requires c κs = search needs
 
--- src/editing.rt:113:5
 done-line-requires : tie.Need-done-line-requires
 done-line-requires c κs = search needs
 
--- src/editing.rt:104:1
 same-length-2 : tie.Need-same-length-2
 same-length-2 c = search needs
 
--- src/editing.rt:104:1
 same-length-3 : tie.Need-same-length-3
 same-length-3 c = search needs
 
--- src/editing.rt:104:1
 returns-2 : tie.Need-returns-2
 returns-2 c = let a = c .before .before .before .before .before .before .before .before .before .before .before .before .args in (omega (arith, c .before .before .done-line .ensures .0), c .before .before .before .before .before .before .force .ensures ∙ done-sized (length (a .f .now)) 9 (a .image .now) (forced (a .f .now) (a .image .now)) (c .before .before .before .before .before .before .before .before .if1 .left))
 

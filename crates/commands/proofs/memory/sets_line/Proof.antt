@@ -1,3 +1,5 @@
+-- `commands::memory::sets_line` meets its contract: 0A and the set words as a line.
+-- Assumes nothing.
 use lib.ListN.{length, replicate}
 use native.Mathlib.Omega.{arith}
 use Prim.Native.Nat.{_+_}
@@ -10,36 +12,25 @@ use Rattle.commands.proofs.Shown.{front-ten}
 use borrow.Author.Needs.{needs}
 use Rattle.commands.proofs.memory.sets_line.Statement.{statement}
 use Rattle.commands.proofs.memory.sets_line.Tie as tie
-use Rattle.commands.proofs.memory.sets_line.Reads as reads
-use Rattle.commands.proofs.memory.sets_line.Lts as lts
-use Rattle.commands.proofs.memory.put_sets.Reads as put-sets-reads
-use Rattle.frames.proofs.write_line.Reads as write-line-reads
 
--- src/memory.rt:126:22
 slice-aggregate-put-sets : tie.Need-slice-aggregate-put-sets
 slice-aggregate-put-sets c = search needs
 
--- src/memory.rt:126:9
 put-sets-requires : tie.Need-put-sets-requires
 put-sets-requires c κs = search needs
 
--- src/memory.rt:127:32
 array-share-prefix-body : tie.Need-array-share-prefix-body
 array-share-prefix-body c = search needs
 
--- src/memory.rt:127:32
 slice-aggregate-write-line : tie.Need-slice-aggregate-write-line
 slice-aggregate-write-line c = let t = eights (c .before .before .before .before .before .before .before .args .sets .now) in let l = length-eights (c .before .before .before .before .before .before .before .args .sets .now) in let p = c .before .before .before .put-sets in let e : p .result ≡ 1 + length t = omega (arith, l, p .ensures .0) in omega (arith, e, ap length (front-ten t (replicate 2041 10) _ _ refl e (p .ensures .1)))
 
--- src/memory.rt:127:5
 write-line-requires : tie.Need-write-line-requires
 write-line-requires c κs = let t = eights (c .before .before .before .before .before .before .before .args .sets .now) in let l = length-eights (c .before .before .before .before .before .before .before .args .sets .now) in let p = c .before .before .before .put-sets in let e : p .result ≡ 1 + length t = omega (arith, l, p .ensures .0) in omega (arith, l, c .before .before .before .before .before .before .before .pre .0, c .before .before .before .before .before .before .before .pre .1, ap length (front-ten t (replicate 2041 10) _ _ refl e (p .ensures .1)))
 
--- src/memory.rt:120:1
 same-length : tie.Need-same-length
 same-length c = search needs
 
--- src/memory.rt:120:1
 returns : tie.Need-returns
 returns c = let a = c .before .before .before .before .before .before .before .before .before .before .args in let t = eights (a .sets .now) in let l = length-eights (a .sets .now) in let p = c .before .before .before .before .before .before .put-sets in let e : p .result ≡ 1 + length t = omega (arith, l, p .ensures .0) in let f = front-ten t (replicate 2041 10) _ _ refl e (p .ensures .1) in (omega (arith, l, c .before .before .before .before .before .before .before .before .before .before .pre .0, c .before .before .write-line .ensures .0, ap length f), printed-is (10 ∷ t) _ (a .out .now) _ f (c .before .before .write-line .ensures .1))
 

@@ -1,3 +1,5 @@
+-- `commands::memory::show_numbers` meets its contract: 0A and the numbers as a line.
+-- Assumes nothing.
 use lib.ListN.{length}
 use native.Mathlib.Omega.{arith}
 use Prim.Native.Nat.{ℕ}
@@ -10,32 +12,22 @@ use Rattle.commands.proofs.Shown.{kept-short, done-sized}
 use borrow.Author.Needs.{needs}
 use Rattle.commands.proofs.memory.show_numbers.Statement.{statement}
 use Rattle.commands.proofs.memory.show_numbers.Tie as tie
-use Rattle.commands.proofs.memory.show_numbers.Reads as reads
-use Rattle.commands.proofs.memory.show_numbers.Lts as lts
-use Rattle.commands.proofs.answers.malformed.Reads as malformed-reads
-use Rattle.commands.proofs.memory.words_line.Reads as words-line-reads
 
--- src/memory.rt:169:9
 malformed-requires : tie.Need-malformed-requires
 malformed-requires c κs = search needs
 
--- src/memory.rt:169:9
 same-length : tie.Need-same-length
 same-length c = search needs
 
--- src/memory.rt:169:9
 returns : tie.Need-returns
 returns c = let a = c .before .before .before .before .before .before .before .before .args in (omega (arith, c .before .before .malformed .ensures .0), c .before .before .malformed .ensures .1 ∙ ap (λ (l : List ℕ). over l (a .out .now)) (kept-short (length (a .f .now)) 1 malformedLine (printed (10 ∷ twos (a .numbers .now))) (c .before .before .before .before .if1 .taken)))
 
--- src/memory.rt:171:5
 words-line-requires : tie.Need-words-line-requires
 words-line-requires c κs = search needs
 
--- src/memory.rt:163:1
 same-length-2 : tie.Need-same-length-2
 same-length-2 c = search needs
 
--- src/memory.rt:163:1
 returns-2 : tie.Need-returns-2
 returns-2 c = let a = c .before .before .before .before .before .before .before .before .args in (c .before .before .words-line .ensures .0, c .before .before .words-line .ensures .1 ∙ ap (λ (l : List ℕ). over l (a .out .now)) (done-sized (length (a .f .now)) 1 malformedLine (printed (10 ∷ twos (a .numbers .now))) (c .before .before .before .before .if1 .left)))
 

@@ -1,3 +1,5 @@
+-- `commands::memory::show_sets` meets its contract: the part that is asked for, where it is inside.
+-- Assumes nothing.
 use native.Mathlib.Omega.{arith}
 use Prim.Native.Nat.{ℕ}
 use mathlib.Core.Path.{ap, _∙_}
@@ -8,80 +10,57 @@ use Rattle.commands.proofs.Shown.{shown-short, shown-out, shown-in}
 use borrow.Author.Needs.{needs}
 use Rattle.commands.proofs.memory.show_sets.Statement.{statement}
 use Rattle.commands.proofs.memory.show_sets.Tie as tie
-use Rattle.commands.proofs.memory.show_sets.Reads as reads
-use Rattle.commands.proofs.memory.show_sets.Lts as lts
-use Rattle.commands.proofs.answers.malformed.Reads as malformed-reads
-use Rattle.commands.proofs.fields.four_at.Reads as four-at-reads
-use Rattle.commands.proofs.memory.sets_line.Reads as sets-line-reads
-use Rattle.commands.proofs.memory.wide.Reads as wide-reads
 
--- src/memory.rt:137:9
 malformed-requires : tie.Need-malformed-requires
 malformed-requires c κs = search needs
 
--- src/memory.rt:137:9
 same-length : tie.Need-same-length
 same-length c = search needs
 
--- src/memory.rt:137:9
 returns : tie.Need-returns
 unfolding shownSets
 returns c = let a = c .before .before .before .before .before .before .before .before .args in (omega (arith, c .before .before .malformed .ensures .0), c .before .before .malformed .ensures .1 ∙ ap (λ (l : List ℕ). over l (a .out .now)) (shown-short eights (a .f .now) (a .sets .now) (c .before .before .before .before .if1 .taken)))
 
--- src/memory.rt:139:9
 four-at-requires : tie.Need-four-at-requires
 four-at-requires c κs = search needs
 
--- src/memory.rt:140:18
 shared-slice-read-wide : tie.Need-shared-slice-read-wide
 shared-slice-read-wide c = search needs
 
--- src/memory.rt:140:9
 wide-requires : tie.Need-wide-requires
 wide-requires c κs = search needs
 
--- src/memory.rt:141:15
 add-end : tie.Need-add-end
 add-end c = search needs
 
--- src/memory.rt:143:9
 malformed-requires-2 : tie.Need-malformed-requires-2
 malformed-requires-2 c κs = search needs
 
--- src/memory.rt:143:9
 same-length-2 : tie.Need-same-length-2
 same-length-2 c = search needs
 
--- src/memory.rt:143:9
 returns-2 : tie.Need-returns-2
 unfolding shownSets
 returns-2 c = let a = c .before .before .before .before .before .before .before .before .before .before .before .before .args in (omega (arith, c .before .before .malformed2 .ensures .0), c .before .before .malformed2 .ensures .1 ∙ ap (λ (l : List ℕ). over l (a .out .now)) (shown-out eights (a .f .now) (a .sets .now) _ _ (c .before .before .before .before .before .before .before .before .if1 .left) (c .before .before .before .before .before .before .before .four-at .ensures .0) (c .before .before .before .before .before .wide .ensures .0) (c .before .before .before .before .if2 .taken)))
 
--- src/memory.rt:145:15
 mul-sets-line : tie.Need-mul-sets-line
 mul-sets-line c = search needs
 
--- src/memory.rt:145:15
 sub-sets-line : tie.Need-sub-sets-line
 sub-sets-line c = search needs
 
--- src/memory.rt:145:15
 part-sets-line-start : tie.Need-part-sets-line-start
 part-sets-line-start c = search needs
 
--- src/memory.rt:145:15
 part-sets-line-end : tie.Need-part-sets-line-end
 part-sets-line-end c = search needs
 
--- src/memory.rt:145:5
 sets-line-requires : tie.Need-sets-line-requires
 sets-line-requires c κs = search needs
 
--- src/memory.rt:131:1
 same-length-3 : tie.Need-same-length-3
 same-length-3 c = search needs
 
--- src/memory.rt:131:1
 returns-3 : tie.Need-returns-3
 unfolding shownSets
 returns-3 c = let a = c .before .before .before .before .before .before .before .before .before .before .before .before .before .args in (c .before .before .sets-line .ensures .0, c .before .before .sets-line .ensures .1 ∙ ap (λ (l : List ℕ). over l (a .out .now)) (shown-in eights (a .f .now) (a .sets .now) _ _ (c .before .before .before .before .before .before .before .before .before .if1 .left) (c .before .before .before .before .before .before .before .before .four-at .ensures .0) (c .before .before .before .before .before .before .wide .ensures .0) (c .before .before .before .before .before .if2 .left)))

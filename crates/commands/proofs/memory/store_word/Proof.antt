@@ -1,4 +1,6 @@
-use lib.ListN.{length, set}
+-- `commands::memory::store_word` meets its contract: one element is stored where its index is inside.
+-- Assumes nothing.
+use lib.ListN.{length}
 use native.Mathlib.Omega.{arith}
 use Rattle.image.specs.Image.{two}
 use Rattle.commands.specs.Fields.{four}
@@ -6,66 +8,46 @@ use Rattle.commands.proofs.Shown.{kept-short, stored-out, stored-in}
 use borrow.Author.Needs.{needs}
 use Rattle.commands.proofs.memory.store_word.Statement.{statement}
 use Rattle.commands.proofs.memory.store_word.Tie as tie
-use Rattle.commands.proofs.memory.store_word.Reads as reads
-use Rattle.commands.proofs.memory.store_word.Lts as lts
-use Rattle.commands.proofs.answers.done_line.Reads as done-line-reads
-use Rattle.commands.proofs.answers.malformed.Reads as malformed-reads
-use Rattle.commands.proofs.fields.four_at.Reads as four-at-reads
-use Rattle.image.proofs.two_at.Reads as two-at-reads
 
--- src/memory.rt:31:9
 malformed-requires : tie.Need-malformed-requires
 malformed-requires c κs = search needs
 
--- src/memory.rt:31:9
 same-length : tie.Need-same-length
 same-length c = search needs
 
--- src/memory.rt:31:9
 returns : tie.Need-returns
 returns c = let a = c .before .before .before .before .before .before .before .before .args in (omega (arith, c .before .before .malformed .ensures .0), kept-short (length (a .f .now)) 7 (a .words .now) _ (c .before .before .before .before .if1 .taken))
 
--- src/memory.rt:33:9
 four-at-requires : tie.Need-four-at-requires
 four-at-requires c κs = search needs
 
--- src/memory.rt:35:9
 malformed-requires-2 : tie.Need-malformed-requires-2
 malformed-requires-2 c κs = search needs
 
--- src/memory.rt:35:9
 same-length-2 : tie.Need-same-length-2
 same-length-2 c = search needs
 
--- src/memory.rt:35:9
 returns-2 : tie.Need-returns-2
 returns-2 c = let a = c .before .before .before .before .before .before .before .before .before .before .args in (omega (arith, c .before .before .malformed2 .ensures .0), stored-out (length (a .f .now)) 7 (four 1 (a .f .now)) _ (two 5 (a .f .now)) (a .words .now) (c .before .before .before .before .before .before .if1 .left) (c .before .before .before .before .before .four-at .ensures .0) (c .before .before .before .before .if2 .taken))
 
--- src/memory.rt:37:16
 two-at-requires : tie.Need-two-at-requires
 two-at-requires c κs = search needs
 
--- src/memory.rt:37:5
 mul-words : tie.Need-mul-words
 mul-words c = search needs
 
--- src/memory.rt:37:5
 slice-write-words : tie.Need-slice-write-words
 slice-write-words c = search needs
 
--- src/memory.rt:38:5
 done-line-requires : tie.Need-done-line-requires
 done-line-requires c κs = search needs
 
--- src/memory.rt:25:1
 same-length-3 : tie.Need-same-length-3
 same-length-3 c = search needs
 
--- src/memory.rt:25:1
 same-length-4 : tie.Need-same-length-4
 same-length-4 c = search needs
 
--- src/memory.rt:25:1
 returns-3 : tie.Need-returns-3
 returns-3 c = let a = c .before .before .before .before .before .before .before .before .before .before .before .args in (omega (arith, c .before .before .done-line .ensures .0), stored-in (length (a .f .now)) 7 (four 1 (a .f .now)) _ (two 5 (a .f .now)) _ (a .words .now) (c .before .before .before .before .before .before .before .if1 .left) (c .before .before .before .before .before .before .four-at .ensures .0) (c .before .before .before .before .two-at .ensures))
 

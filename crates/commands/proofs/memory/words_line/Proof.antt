@@ -1,3 +1,5 @@
+-- `commands::memory::words_line` meets its contract: 0A and the words as a line.
+-- Assumes nothing.
 use lib.ListN.{replicate}
 use lib.ListN.{length}
 use native.Mathlib.Omega.{arith}
@@ -11,36 +13,25 @@ use Rattle.commands.proofs.Shown.{front-ten}
 use borrow.Author.Needs.{needs}
 use Rattle.commands.proofs.memory.words_line.Statement.{statement}
 use Rattle.commands.proofs.memory.words_line.Tie as tie
-use Rattle.commands.proofs.memory.words_line.Reads as reads
-use Rattle.commands.proofs.memory.words_line.Lts as lts
-use Rattle.frames.proofs.write_line.Reads as write-line-reads
-use Rattle.transcript.proofs.put_numbers.Reads as put-numbers-reads
 
--- src/memory.rt:65:37
 slice-aggregate-put-numbers : tie.Need-slice-aggregate-put-numbers
 slice-aggregate-put-numbers c = search needs
 
--- src/memory.rt:65:9
 put-numbers-requires : tie.Need-put-numbers-requires
 put-numbers-requires c κs = search needs
 
--- src/memory.rt:66:32
 array-share-prefix-body : tie.Need-array-share-prefix-body
 array-share-prefix-body c = search needs
 
--- src/memory.rt:66:32
 slice-aggregate-write-line : tie.Need-slice-aggregate-write-line
 slice-aggregate-write-line c = let t = twos (c .before .before .before .before .before .before .before .args .words .now) in let l = length-twos (c .before .before .before .before .before .before .before .args .words .now) in let p = c .before .before .before .put-numbers in let e : p .result ≡ 1 + length t = omega (arith, l, p .ensures .0) in omega (arith, e, ap length (front-ten t (replicate 511 10) _ _ refl e (p .ensures .1)))
 
--- src/memory.rt:66:5
 write-line-requires : tie.Need-write-line-requires
 write-line-requires c κs = let t = twos (c .before .before .before .before .before .before .before .args .words .now) in let l = length-twos (c .before .before .before .before .before .before .before .args .words .now) in let p = c .before .before .before .put-numbers in let e : p .result ≡ 1 + length t = omega (arith, l, p .ensures .0) in omega (arith, l, c .before .before .before .before .before .before .before .pre .0, c .before .before .before .before .before .before .before .pre .1, ap length (front-ten t (replicate 511 10) _ _ refl e (p .ensures .1)))
 
--- src/memory.rt:59:1
 same-length : tie.Need-same-length
 same-length c = search needs
 
--- src/memory.rt:59:1
 returns : tie.Need-returns
 returns c = let a = c .before .before .before .before .before .before .before .before .before .before .args in let t = twos (a .words .now) in let l = length-twos (a .words .now) in let p = c .before .before .before .before .before .before .put-numbers in let e : p .result ≡ 1 + length t = omega (arith, l, p .ensures .0) in let f = front-ten t (replicate 511 10) _ _ refl e (p .ensures .1) in (omega (arith, l, c .before .before .before .before .before .before .before .before .before .before .pre .0, c .before .before .write-line .ensures .0, ap length f), printed-is (10 ∷ t) _ (a .out .now) _ f (c .before .before .write-line .ensures .1))
 

@@ -1,48 +1,36 @@
+-- `commands::speaking::plain_command` meets its contract: a frame of 5 bytes or more is a reading, a shorter one is malformed.
+-- Assumes nothing.
 use Rattle.commands.proofs.Lent.{same-room}
 use Rattle.reading.specs.Speech.{toldOf}
 use native.Mathlib.Omega.{arith}
 use borrow.Author.Needs.{needs}
 use Rattle.commands.proofs.speaking.plain_command.Statement.{statement}
 use Rattle.commands.proofs.speaking.plain_command.Tie as tie
-use Rattle.commands.proofs.speaking.plain_command.Reads as reads
-use Rattle.commands.proofs.speaking.plain_command.Lts as lts
-use Rattle.commands.proofs.answers.malformed.Reads as malformed-reads
-use Rattle.commands.proofs.speaking.plain_lent.Reads as plain-lent-reads
-use Rattle.transcript.proofs.answer_line.Reads as plain-line-reads
 
--- src/speaking.rt:129:9
 malformed-requires : tie.Need-malformed-requires
 malformed-requires c κs = search needs
 
--- src/speaking.rt:129:9
 same-length : tie.Need-same-length
 same-length c = search needs
 
--- src/speaking.rt:129:9
 returns : tie.Need-returns
 returns c = search needs
 
--- src/speaking.rt:131:9
 plain-lent-requires : tie.Need-plain-lent-requires
 plain-lent-requires c κs = search needs
 
--- src/speaking.rt:133:5
 plain-line-requires : tie.Need-plain-line-requires
 plain-line-requires c κs = let p = c .before .before .before .before .before .before .before .plain-lent in (omega arith, (omega arith, (omega arith, same-room (toldOf (p .result)) _ _ _ _ (p .kept .1 .1 .0) (p .kept .1 .1 .1 .0) (p .ensures .1))))
 
--- src/speaking.rt:124:1
 same-length-2 : tie.Need-same-length-2
 same-length-2 c = search needs
 
--- src/speaking.rt:124:1
 same-length-3 : tie.Need-same-length-3
 same-length-3 c = search needs
 
--- src/speaking.rt:124:1
 same-length-4 : tie.Need-same-length-4
 same-length-4 c = search needs
 
--- src/speaking.rt:124:1
 returns-2 : tie.Need-returns-2
 returns-2 c = search needs
 

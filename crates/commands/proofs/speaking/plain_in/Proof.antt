@@ -1,42 +1,33 @@
+-- `commands::speaking::plain_in` meets its contract: the parts that were lent come back in front of what lies past them.
+-- Assumes nothing.
 use Rattle.commands.proofs.Lent.{said-back}
 use mathlib.Core.Path.{sym}
 use lib.Seq.{length-take-le}
 use borrow.Author.Needs.{needs}
 use Rattle.commands.proofs.speaking.plain_in.Statement.{statement}
 use Rattle.commands.proofs.speaking.plain_in.Tie as tie
-use Rattle.commands.proofs.speaking.plain_in.Reads as reads
-use Rattle.commands.proofs.speaking.plain_in.Lts as lts
-use Rattle.reading.proofs.read_name.Reads as read-name-reads
 
--- src/speaking.rt:72:37
 slice-relend-prefix-read-name : tie.Need-slice-relend-prefix-read-name
 slice-relend-prefix-read-name c = search needs
 
--- src/speaking.rt:72:37
 slice-aggregate-read-name : tie.Need-slice-aggregate-read-name
 slice-aggregate-read-name c = sym (length-take-le (c .before .before .before .before .before .args .n) (c .before .before .before .before .before .args .phones .now) (c .before .before .before .before .before .pre .0))
 
--- src/speaking.rt:72:55
 slice-relend-prefix-read-name-2 : tie.Need-slice-relend-prefix-read-name-2
 slice-relend-prefix-read-name-2 c = search needs
 
--- src/speaking.rt:72:55
 slice-aggregate-read-name-2 : tie.Need-slice-aggregate-read-name-2
 slice-aggregate-read-name-2 c = sym (length-take-le (c .before .before .before .before .before .before .args .m) (c .before .before .before .before .before .before .args .numbers .now) (c .before .before .before .before .before .before .pre .1))
 
--- src/speaking.rt:72:5
 read-name-requires : tie.Need-read-name-requires
 read-name-requires c κs = search needs
 
--- src/speaking.rt:68:1
 same-length : tie.Need-same-length
 same-length c = search needs
 
--- src/speaking.rt:68:1
 same-length-2 : tie.Need-same-length-2
 same-length-2 c = search needs
 
--- src/speaking.rt:68:1
 returns : tie.Need-returns
 returns c = let a = c .before .before .before .before .before .before .before .before .before .before .before .args in said-back _ (a .n) (a .m) (a .image .now) (a .name .now) (a .phones .now) (a .numbers .now) _ _ (c .before .before .before .before .read-name .ensures)
 

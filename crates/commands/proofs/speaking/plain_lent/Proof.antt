@@ -1,56 +1,42 @@
+-- `commands::speaking::plain_lent` meets its contract: both counts are the smaller of what is asked for and what there is.
+-- Assumes nothing.
 use Rattle.rules.proofs.Memory.{tail-is}
 use Rattle.commands.proofs.Lent.{plain-told}
 use Rattle.reading.specs.Speech.{toldOf}
 use borrow.Author.Needs.{needs}
 use Rattle.commands.proofs.speaking.plain_lent.Statement.{statement}
 use Rattle.commands.proofs.speaking.plain_lent.Tie as tie
-use Rattle.commands.proofs.speaking.plain_lent.Reads as reads
-use Rattle.commands.proofs.speaking.plain_lent.Lts as lts
-use Rattle.commands.proofs.fields.two_at.Reads as two-at-reads
-use Rattle.commands.proofs.speaking.lent.Reads as lent-reads
-use Rattle.commands.proofs.speaking.plain_in.Reads as plain-in-reads
 
--- src/speaking.rt:81:18
 two-at-requires : tie.Need-two-at-requires
 two-at-requires c κs = search needs
 
--- src/speaking.rt:81:9
 lent-requires : tie.Need-lent-requires
 lent-requires c κs = search needs
 
--- src/speaking.rt:82:18
 two-at-requires-2 : tie.Need-two-at-requires-2
 two-at-requires-2 c κs = search needs
 
--- src/speaking.rt:82:9
 lent-requires-2 : tie.Need-lent-requires-2
 lent-requires-2 c κs = search needs
 
--- src/speaking.rt:83:21
 sub-plain-in : tie.Need-sub-plain-in
 sub-plain-in c = search needs
 
--- src/speaking.rt:83:21
 part-plain-in-start : tie.Need-part-plain-in-start
 part-plain-in-start c = search needs
 
--- src/speaking.rt:83:21
 part-plain-in-end : tie.Need-part-plain-in-end
 part-plain-in-end c = search needs
 
--- src/speaking.rt:83:5
 plain-in-requires : tie.Need-plain-in-requires
 plain-in-requires c κs = search needs
 
--- src/speaking.rt:76:1
 same-length : tie.Need-same-length
 same-length c = search needs
 
--- src/speaking.rt:76:1
 same-length-2 : tie.Need-same-length-2
 same-length-2 c = search needs
 
--- src/speaking.rt:76:1
 returns : tie.Need-returns
 returns c = let a = c .before .before .before .before .before .before .before .before .before .before .before .before .before .before .before .before .args in (cc (c .before .before .before .before .plain-in .ensures, c .before .before .before .before .before .before .before .before .before .before .lent .ensures .0, c .before .before .before .before .before .before .before .before .before .before .before .two-at .ensures .0, c .before .before .before .before .before .before .before .before .lent2 .ensures .0, c .before .before .before .before .before .before .before .before .before .two-at2 .ensures .0, tail-is 5 (a .f .now)), plain-told (toldOf (c .before .before .before .before .plain-in .result)) _ _ _ _ (a .phones .now) (a .numbers .now) _ _ (c .before .before .before .before .plain-in .ensures))
 

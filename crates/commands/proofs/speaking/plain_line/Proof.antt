@@ -1,3 +1,5 @@
+-- `commands::speaking::plain_line` meets its contract: a plain reading is answered as a walk of no steps.
+-- Assumes nothing.
 use borrow.Author.Needs.{needs}
 use Rattle.reading.specs.Speech.{toldOf}
 use Rattle.commands.proofs.Lent.{told-short}

@@ -1,3 +1,5 @@
+-- `commands::speaking::walk_lent` meets its contract: all four counts are the smaller of what is asked for and what there is.
+-- Assumes nothing.
 use Rattle.rules.proofs.Memory.{tail-is}
 use Rattle.commands.proofs.Lent.{walk-by}
 use Rattle.commands.proofs.Lent.{walk-told}
@@ -7,78 +9,55 @@ use lib.Seq.{length-take-le}
 use borrow.Author.Needs.{needs}
 use Rattle.commands.proofs.speaking.walk_lent.Statement.{statement}
 use Rattle.commands.proofs.speaking.walk_lent.Tie as tie
-use Rattle.commands.proofs.speaking.walk_lent.Reads as reads
-use Rattle.commands.proofs.speaking.walk_lent.Lts as lts
-use Rattle.commands.proofs.fields.four_at.Reads as four-at-reads
-use Rattle.commands.proofs.fields.two_at.Reads as two-at-reads
-use Rattle.commands.proofs.speaking.lent.Reads as lent-reads
-use Rattle.commands.proofs.speaking.walk_in.Reads as walk-in-reads
 
--- src/speaking.rt:116:18
 four-at-requires : tie.Need-four-at-requires
 four-at-requires c κs = search needs
 
--- src/speaking.rt:116:9
 lent-requires : tie.Need-lent-requires
 lent-requires c κs = search needs
 
--- src/speaking.rt:117:18
 four-at-requires-2 : tie.Need-four-at-requires-2
 four-at-requires-2 c κs = search needs
 
--- src/speaking.rt:117:9
 lent-requires-2 : tie.Need-lent-requires-2
 lent-requires-2 c κs = search needs
 
--- src/speaking.rt:118:18
 two-at-requires : tie.Need-two-at-requires
 two-at-requires c κs = search needs
 
--- src/speaking.rt:118:9
 lent-requires-3 : tie.Need-lent-requires-3
 lent-requires-3 c κs = search needs
 
--- src/speaking.rt:119:18
 two-at-requires-2 : tie.Need-two-at-requires-2
 two-at-requires-2 c κs = search needs
 
--- src/speaking.rt:119:9
 lent-requires-4 : tie.Need-lent-requires-4
 lent-requires-4 c κs = search needs
 
--- src/speaking.rt:120:20
 slice-aggregate-walk-in : tie.Need-slice-aggregate-walk-in
 slice-aggregate-walk-in c = sym (length-take-le (c .before .before .before .before .before .before .before .lent .result) (c .before .before .before .before .before .before .before .before .before .before .before .before .before .before .before .args .words .now) (c .before .before .before .before .before .before .before .lent .ensures .1 .1))
 
--- src/speaking.rt:120:33
 slice-aggregate-walk-in-2 : tie.Need-slice-aggregate-walk-in-2
 slice-aggregate-walk-in-2 c = sym (length-take-le (c .before .before .before .before .before .before .lent2 .result) (c .before .before .before .before .before .before .before .before .before .before .before .before .before .before .before .before .args .sets .now) (c .before .before .before .before .before .before .lent2 .ensures .1 .1))
 
--- src/speaking.rt:120:45
 sub-walk-in : tie.Need-sub-walk-in
 sub-walk-in c = search needs
 
--- src/speaking.rt:120:45
 part-walk-in-start : tie.Need-part-walk-in-start
 part-walk-in-start c = search needs
 
--- src/speaking.rt:120:45
 part-walk-in-end : tie.Need-part-walk-in-end
 part-walk-in-end c = search needs
 
--- src/speaking.rt:120:5
 walk-in-requires : tie.Need-walk-in-requires
 walk-in-requires c κs = search needs
 
--- src/speaking.rt:104:1
 same-length : tie.Need-same-length
 same-length c = search needs
 
--- src/speaking.rt:104:1
 same-length-2 : tie.Need-same-length-2
 same-length-2 c = search needs
 
--- src/speaking.rt:104:1
 returns : tie.Need-returns
 returns c = let a = c .before .before .before .before .before .before .before .before .before .before .before .before .before .before .before .before .before .before .before .before .before .before .before .before .args in (walk-by _ (a .f .now) (a .image .now) (a .words .now) (a .sets .now) (a .phones .now) (a .numbers .now) _ _ _ _ _ _ _ _ _ (c .before .before .before .before .before .before .before .before .before .before .before .before .before .before .before .before .lent .ensures .0) (c .before .before .before .before .before .before .before .before .before .before .before .before .before .before .before .before .before .four-at .ensures .0) (c .before .before .before .before .before .before .before .before .before .before .before .before .before .before .lent2 .ensures .0) (c .before .before .before .before .before .before .before .before .before .before .before .before .before .before .before .four-at2 .ensures .0) (c .before .before .before .before .before .before .before .before .before .before .before .before .lent3 .ensures .0) (c .before .before .before .before .before .before .before .before .before .before .before .before .before .two-at .ensures .0) (c .before .before .before .before .before .before .before .before .before .before .lent4 .ensures .0) (c .before .before .before .before .before .before .before .before .before .before .before .two-at2 .ensures .0) (tail-is 13 (a .f .now)) (c .before .before .before .before .walk-in .ensures), walk-told (toldOf (c .before .before .before .before .walk-in .result .speech)) _ _ _ _ _ _ _ (a .phones .now) (a .numbers .now) _ _ (c .before .before .before .before .walk-in .ensures))
 
