@@ -5,8 +5,7 @@ use mathlib.Core.Path.{_≡_, sym, ap, _∙_, subst}
 use mathlib.Core.List.{List, _++_}
 use native.Mathlib.Omega.{arith}
 use lib.ListN.{length, take, drop, length-take}
-use borrow.Author.Tests.{le-leb, lt-leb, leb-true}
-use lib.Dec.{leb}
+use borrow.Author.Tests.{le-leb, lt-leb}
 use Rattle.rules.proofs.Cases.{byBool}
 use Rattle.rules.specs.Refusals.{Reply, declined}
 use Rattle.image.specs.Image.{two, Edited, outcome, valid, entriesOf}
@@ -15,13 +14,7 @@ use Rattle.reading.specs.Reading.{plain}
 use Rattle.reading.specs.Speech.{Told, spoken, refused, Said, saying, judgedName, plainSaid}
 use Rattle.tables.specs.Words.{building, built}
 use Rattle.tables.specs.Walk.{Walked, walkSaid}
-use Rattle.file.specs.Loading.{Report, reportOf, Filed, filing, filed, loaded, wrote, listingOf}
-use Rattle.file.specs.declared.Written.{Written}
-use Rattle.file.specs.declared.Written.the-variants.{Bytes}
-use Rattle.transcript.specs.Answers.{printed, toldBody, spokenBody, refusedBody}
-use Rattle.transcript.proofs.Printed.{length-printed}
-use Rattle.transcript.proofs.Fields.{length-spoken}
-use Rattle.file.specs.File.{encode}
+use Rattle.file.specs.Loading.{Report, filing, filed, loaded}
 use Rattle.transcript.specs.Names.{ToldWithin}
 use Rattle.transcript.proofs.Spoken.{delivered-within, walk-within}
 use Rattle.commands.specs.Lent.{lentOf, builtBack, builtIn, saidBack, plainIn, walkedBack, walkIn}
@@ -89,38 +82,11 @@ pub loaded-file : (file image : List ℕ) (e : Edited) → length file ≤ 32768
 unfolding loadedFrom
 loaded-file file image e h p = rw (le-leb (length file) 32768 h) p
 
--- as many bytes as are said to be written had room
-abbrev Wrote : Report → ℕ → Type 0
-Wrote (wrote k) n = k ≤ n
-Wrote (Report.refused a b) n = Unit {0}
-
-filed-within : (image out : List ℕ) → Wrote (filed image out .report) (length out)
-unfolding filed
-filed-within image out =
-    byBool (valid image)
-    (λ e. rw e (byBool (leb (length (encode (listingOf image))) (length out)) (λ h. rw h (leb-true _ _ h)) (λ h. rw h tt)))
-    (λ e. rw e tt)
-
-pub wrote-within : (k n : ℕ) (image out x : List ℕ) → filing (wrote k) x ≡ filedIn n image out → k ≤ n
-unfolding filedIn
-wrote-within k n image out x e =
-    let w = subst (λ (b : Filed). Wrote (b .report) (length (take n out))) (sym (ap (λ (b : Filed). filing (b .report) (take n out)) e)) (filed-within image (take n out)) in
-    omega (arith, w, length-take n out)
-
-pub wrote-by : (r : Written) (k n : ℕ) (image out x : List ℕ) → r ≡ Bytes k → filing (reportOf r) x ≡ filedIn n image out → k ≤ n
-wrote-by r k n image out x p e = wrote-within k n image out x (ap (λ (w : Written). filing (reportOf w) x) (sym p) ∙ e)
-
 -- ---- answers
 
 -- memory that is as long as before has room for as much
 pub same-room : (t : Told) (a b c d : ℕ) → c ≡ a → d ≡ b → ToldWithin t a b → ToldWithin t c d
 same-room t a b c d p q w = more-room t a b c d (omega arith) (omega arith) w
-
-pub told-short : (len : ℕ) (t : Told) (steps : ℕ) (phones numbers : List ℕ) → len ≡ length (printed (toldBody t steps phones numbers))
-    → length phones ≤ 256 → length numbers ≤ 64 → len ≤ 783
-told-short len (spoken p n) steps phones numbers e h k =
-    omega (arith, length-printed (spokenBody steps (take p phones) (take n numbers)), length-spoken steps (take p phones) (take n numbers), length-take p phones, length-take n numbers)
-told-short len (refused a b) steps phones numbers e h k = omega (arith, length-printed (refusedBody a b))
 
 -- the lent parts of a walk, by the fields of its command
 pub walk-by : (w : Walked) (f image words sets phones numbers name : List ℕ) (a b n m i j k l : ℕ)

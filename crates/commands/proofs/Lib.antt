@@ -3,3 +3,4 @@ pub mod Replies
 pub mod Shown
 pub mod Eights
 pub mod Lent
+pub mod Writing

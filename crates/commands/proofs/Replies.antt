@@ -1,21 +1,27 @@
 -- The lines of answers, as the functions lay them, and an edit's outcome with its answer.
 -- Assumes nothing.
 use Prim.Native.Nat.{ℕ, _/_, _%_, _≤_}
-use mathlib.Core.Path.{_≡_, refl, sym, _∙_}
+use mathlib.Core.Path.{_≡_, refl, sym, ap, _∙_, subst}
 use mathlib.Core.List.{List, [], _∷_, _++_}
 use mathlib.Core.Bool.{Bool, true, false}
 use native.Mathlib.Omega.{arith}
-use lib.ListN.{length}
+use lib.ListN.{length, getD, drop, length-append}
 use Rattle.rules.specs.Memory.{over, overAt}
-use Rattle.rules.specs.Refusals.{Reply, accepted, declined, replyOf, refusalNumber, refusalPlace}
+use Rattle.rules.specs.Refusals.{Reply, replyOf, refusalNumber, refusalPlace}
 use Rattle.rules.specs.declared.Refusal.{Refusal}
 use Rattle.rules.specs.declared.Answer.{Answer}
 use Rattle.rules.specs.declared.Answer.the-variants.{Accepted, Refused}
 use Rattle.image.specs.Image.{two, Edited, outcome}
+use Rattle.reading.specs.Speech.{Told, toldOf, Said, saying}
+use Rattle.reading.specs.declared.Speech.{Speech}
+use Rattle.reading.specs.declared.Speech.the-variants as speeches
+use Rattle.tables.specs.Words.{Built, building}
+use Rattle.tables.specs.Walk.{Walked}
 use Rattle.frames.specs.Lines.{lineOf, framed}
-use Rattle.transcript.specs.Answers.{refusedBody, refusalLine, two as field, four as place}
+use Rattle.transcript.specs.Answers.{printed, toldBody, refusedBody, refusalLine, two as field, four as place}
 use Rattle.transcript.proofs.Printed.{printed-is, length-printed}
-use Rattle.commands.specs.Answers.{doneLine, lastLine, statesLine, walkRefusal, malformedLine, replyLine, editLine, sizedTo, Answered}
+use Rattle.commands.specs.Answers.{doneLine, lastLine, statesLine, walkRefusal, malformedLine, replyLine, editLine, Effect, leaving, Effects, sizedTo, bothSized, ruled, Answered, BothAnswered}
+use Rattle.commands.specs.Lent.{buildLine, buildEffects, plainLine, plainEffects, walkLine, walkEffects}
 
 module _ (xs z : List ℕ) where
   pub done-is : z ≡ overAt 0 (lineOf (framed (6 ∷ []))) xs → z ≡ over doneLine xs
@@ -47,6 +53,10 @@ length-last n = length-printed (6 ∷ field n)
 abbrev pub Gives : List ℕ → ℕ → List ℕ → List ℕ → Type 0
 Gives line len out out′ = (len ≡ length line) × (out′ ≡ over line out)
 
+-- an answer that was written had room
+pub within : (line : List ℕ) (len : ℕ) (out out′ : List ℕ) → len ≡ length line → out′ ≡ over line out → len ≤ length out′
+within line len out out′ l h = omega (arith, l, ap length h, length-append line (drop (length line) out))
+
 module _ (a : Answer) (last len : ℕ) (out out′ : List ℕ) where
   pub gives-last : a ≡ Accepted → (n : ℕ) → n ≡ last → len ≡ 9 → out′ ≡ over (lastLine n) out → Gives (replyLine (replyOf a) last) len out out′
   gives-last p n e l h = rw (p, ← e) (l ∙ sym (length-last n), h)
@@ -54,22 +64,73 @@ module _ (a : Answer) (last len : ℕ) (out out′ : List ℕ) where
   pub gives-refusal : (x : Refusal) → a ≡ Refused x → len ≡ 15 → out′ ≡ over (refusalLine x) out → Gives (replyLine (replyOf a) last) len out out′
   gives-refusal x p l h = rw p (l ∙ sym (length-printed (refusedBody (refusalNumber x) (refusalPlace x))), h)
 
-module _ (b : Bool) (e : Edited) (image out out′ : List ℕ) (len : ℕ) where
-  pub answered-not : b ≡ false → len ≡ 15 → out′ ≡ over malformedLine out → Answered (sizedTo b e image) image len out out′
-  unfolding editLine
-  answered-not p l h = rw p (record { ruled = refl; many = l ∙ sym (length-printed (refusedBody 13 0)); bytes = h })
+length-states : (l r : ℕ) → length (statesLine l r) ≡ 13
+unfolding statesLine
+length-states l r = length-printed (6 ∷ field l ++ field r)
 
-  pub answered-edit : b ≡ true → (a : Answer) (image′ : List ℕ) → outcome (replyOf a) image′ ≡ e
-      → len ≡ length (replyLine (replyOf a) (two 2 image′)) → out′ ≡ over (replyLine (replyOf a) (two 2 image′)) out
-      → Answered (sizedTo b e image) image′ len out out′
-  unfolding editLine
-  answered-edit p a image′ q l h = rw (p, ← q) (record { ruled = refl; many = l; bytes = h })
+length-walk-refusal : (steps n p : ℕ) → length (walkRefusal steps n p) ≡ 19
+unfolding walkRefusal
+length-walk-refusal steps n p = length-printed (8 ∷ field steps ++ (n ∷ place p))
 
-edit-short : (a : Reply) (last : ℕ) → length (replyLine a last) ≤ 15
-edit-short accepted last = omega (arith, length-last last)
-edit-short (declined n p) last = omega (arith, length-printed (refusedBody n p))
+length-done : length doneLine ≡ 5
+unfolding doneLine
+length-done = length-printed (6 ∷ [])
 
--- an answer to an edit has 15 bytes at most
-pub short : {e : Edited} {image out out′ : List ℕ} {len : ℕ} → Answered e image len out out′ → len ≤ 15
+-- ---- a command's effect, carried out
+
+module _ (b : Bool) (e : Effect) (xs out out′ : List ℕ) (len : ℕ) where
+  pub answered-not : b ≡ false → len ≡ 15 → out′ ≡ over malformedLine out → Answered (sizedTo b e xs) xs len out out′
+  answered-not p l h = rw p (record { left = refl; many = l ∙ sym (length-printed (refusedBody 13 0)); bytes = h })
+
+  pub answered-so : b ≡ true → (xs′ : List ℕ) → xs′ ≡ e .after → len ≡ length (e .line) → out′ ≡ over (e .line) out
+      → Answered (sizedTo b e xs) xs′ len out out′
+  answered-so p xs′ x l h = rw p (record { left = x; many = l; bytes = h })
+
+pub answered-edit : (b : Bool) (e : Edited) (image out out′ : List ℕ) (len : ℕ) → b ≡ true → (a : Answer) (image′ : List ℕ)
+    → outcome (replyOf a) image′ ≡ e → len ≡ length (replyLine (replyOf a) (two 2 image′)) → out′ ≡ over (replyLine (replyOf a) (two 2 image′)) out
+    → Answered (sizedTo b (ruled e) image) image′ len out out′
 unfolding editLine
-short {e} w = omega (arith, w .many, edit-short (e .reply) (two 2 (e .image)))
+answered-edit b e image out out′ len p a image′ q l h = rw (p, ← q) (record { left = refl; many = l; bytes = h })
+
+pub answered-done : (b : Bool) (ys xs out out′ : List ℕ) (len : ℕ) → b ≡ true → (xs′ : List ℕ) → xs′ ≡ ys → len ≡ 5 → out′ ≡ over doneLine out
+    → Answered (sizedTo b (leaving doneLine ys) xs) xs′ len out out′
+answered-done b ys xs out out′ len p xs′ x l h = answered-so b (leaving doneLine ys) xs out out′ len p xs′ x (l ∙ sym length-done) h
+
+module _ (b : Bool) (e : Effects) (xs ys out out′ : List ℕ) (len : ℕ) where
+  pub both-not : b ≡ false → len ≡ 15 → out′ ≡ over malformedLine out → BothAnswered (bothSized b e xs ys) xs ys len out out′
+  both-not p l h = rw p (record { left = refl; right = refl; many = l ∙ sym (length-printed (refusedBody 13 0)); bytes = h })
+
+-- ---- tables and names
+
+module _ (a : Answer) (words : List ℕ) (len : ℕ) (out out′ : List ℕ) where
+  pub gives-states : a ≡ Accepted → (l r : ℕ) → l ≡ getD words 0 0 → r ≡ getD words 1 0 → len ≡ 13 → out′ ≡ over (statesLine l r) out
+      → Gives (buildLine (replyOf a) words) len out out′
+  gives-states p l r el er n h = rw (p, ← el, ← er) (n ∙ sym (length-states l r), h)
+
+  pub gives-unbuilt : (x : Refusal) → a ≡ Refused x → len ≡ 15 → out′ ≡ over (refusalLine x) out → Gives (buildLine (replyOf a) words) len out out′
+  gives-unbuilt x p l h = rw p (l ∙ sym (length-printed (refusedBody (refusalNumber x) (refusalPlace x))), h)
+
+module _ (b : Bool) (xs ys out out′ : List ℕ) (len : ℕ) (p : b ≡ true) (xs′ ys′ : List ℕ) where
+  pub both-built : (w : Built) (a : Reply) → building a xs′ ys′ ≡ w → Gives (buildLine a xs′) len out out′
+      → BothAnswered (bothSized b (buildEffects w) xs ys) xs′ ys′ len out out′
+  both-built w a q g = rw (p, ← q) (record { left = refl; right = refl; many = g .0; bytes = g .1 })
+
+  pub both-read : (s : Said) (t : Told) → saying t xs′ ys′ ≡ s → Gives (plainLine t xs′ ys′) len out out′
+      → BothAnswered (bothSized b (plainEffects s) xs ys) xs′ ys′ len out out′
+  both-read s t q g = rw (p, ← q) (record { left = refl; right = refl; many = g .0; bytes = g .1 })
+
+  pub both-walked : (w : Walked) (t : Told) (steps : ℕ) → record { said = saying t xs′ ys′; steps = steps } ≡ w
+      → Gives (walkLine t steps xs′ ys′) len out out′ → BothAnswered (bothSized b (walkEffects w) xs ys) xs′ ys′ len out out′
+  both-walked w t steps q g = rw (p, ← q) (record { left = refl; right = refl; many = g .0; bytes = g .1 })
+
+-- a walk that is refused is answered by 08, any other as it is told
+module _ (speech : Speech) (steps : ℕ) (phones numbers : List ℕ) (len : ℕ) (out out′ : List ℕ) where
+  pub walk-refused : (x : Refusal) → speech ≡ speeches.Refused x → len ≡ 19 → out′ ≡ over (walkRefusal steps (refusalNumber x) (refusalPlace x)) out
+      → Gives (walkLine (toldOf speech) steps phones numbers) len out out′
+  walk-refused x p l h = rw p (l ∙ sym (length-walk-refusal steps (refusalNumber x) (refusalPlace x)), h)
+
+  pub walk-spoken : (p n : ℕ) → speech ≡ speeches.Spoken p n → Gives (printed (toldBody (toldOf speech) steps phones numbers)) len out out′
+      → Gives (walkLine (toldOf speech) steps phones numbers) len out out′
+  walk-spoken p n e g =
+      subst (λ (s : Speech). Gives (printed (toldBody (toldOf s) steps phones numbers)) len out out′ → Gives (walkLine (toldOf s) steps phones numbers) len out out′)
+      (sym e) (λ h. h) g

@@ -1,37 +1,42 @@
 -- Laws of the commands that store and show: a stored element, a shown part, and a body that starts with 0A.
 -- Assumes nothing.
-use Prim.Native.Nat.{ℕ, zero, suc, _+_, _-_, _≤_, _<_}
-use mathlib.Core.Path.{_≡_, refl, ap, _∙_}
+use Prim.Native.Nat.{ℕ, _+_, _-_, _≤_, _<_}
+use mathlib.Core.Path.{_≡_, sym, ap, _∙_}
 use mathlib.Core.List.{List, [], _∷_, _++_}
 use native.Mathlib.Omega.{arith}
-use borrow.Author.Tests.{le-leb, lt-leb, eq-eqb, ne-eqb}
+use borrow.Author.Tests.{le-leb, lt-leb, le-ltb, lt-ltb, eq-eqb, ne-eqb}
 use lib.ListN.{length, getD, take, drop, set}
 use lib.Seq.{take-at}
-use lib.Dec.{eqb}
+use lib.Dec.{eqb, ltb}
 use Rattle.rules.specs.Memory.{over, overAt}
-use Rattle.rules.specs.Shape.{pick}
-use Rattle.transcript.specs.Answers.{printed}
+use Rattle.transcript.specs.Answers.{printed, refusedBody}
+use Rattle.transcript.proofs.Printed.{length-printed}
 use Rattle.commands.specs.Fields.{four}
-use Rattle.commands.specs.Answers.{malformedLine}
-use Rattle.commands.specs.Memory.{shown}
+use Rattle.commands.specs.Answers.{malformedLine, doneLine, leaving, sizedTo, Answered}
+use Rattle.commands.specs.Memory.{storedAt, shownIf, shown}
+use Rattle.commands.proofs.Replies.{Gives, answered-not, answered-done}
 
--- a frame of another length changes nothing
-pub kept-short {ℓ} : {A : Type ℓ} (n k : ℕ) (x y : A) → (n ≡ k → ⊥) → x ≡ pick (eqb n k) y x
-kept-short n k x y h = rw (ne-eqb n k h)
+module _ (n k i j v : ℕ) (xs out out′ : List ℕ) (len : ℕ) (h : n ≡ k) (e : j ≡ i) where
+  pub stored-out : length xs ≤ j → len ≡ 15 → out′ ≡ over malformedLine out → Answered (sizedTo (eqb n k) (storedAt i v xs) xs) xs len out out′
+  stored-out l m b = rw (eq-eqb n k h) (answered-not (ltb i (length xs)) (leaving doneLine (set xs i v)) xs out out′ len (le-ltb i (length xs) (omega arith)) m b)
 
-pub done-sized {ℓ} : {A : Type ℓ} (n k : ℕ) (x y : A) → n ≡ k → y ≡ pick (eqb n k) y x
-done-sized n k x y h = rw (eq-eqb n k h)
+  pub stored-in : (w : ℕ) → j < length xs → w ≡ v → len ≡ 5 → out′ ≡ over doneLine out
+      → Answered (sizedTo (eqb n k) (storedAt i v xs) xs) (set xs j w) len out out′
+  stored-in w l d m b =
+      rw (eq-eqb n k h) (answered-done (ltb i (length xs)) (set xs i v) xs out out′ len (lt-ltb i (length xs) (omega arith)) (set xs j w) (rw (e, d)) m b)
 
-set-past : (xs : List ℕ) (i v : ℕ) → length xs ≤ i → xs ≡ set xs i v
-set-past [] i v h = refl
-set-past (x ∷ xs) zero v h = absurd (omega arith)
-set-past (x ∷ xs) (suc i) v h = ap (λ (l : List ℕ). x ∷ l) (set-past xs i v (omega arith))
+-- what is answered where the line is one that is asked for
+pub gives-same : (line line′ : List ℕ) (len : ℕ) (out out′ : List ℕ) → line ≡ line′ → len ≡ length line → out′ ≡ over line out → Gives line′ len out out′
+gives-same line line′ len out out′ e l h = rw (← e) (l, h)
 
-pub stored-out : (n k i j v : ℕ) (xs : List ℕ) → n ≡ k → j ≡ i → length xs ≤ j → xs ≡ pick (eqb n k) (set xs i v) xs
-stored-out n k i j v xs h e l = rw (eq-eqb n k h) (set-past xs i v (omega arith))
+pub gives-malformed : (line : List ℕ) (len : ℕ) (out out′ : List ℕ) → malformedLine ≡ line → len ≡ 15 → out′ ≡ over malformedLine out → Gives line len out out′
+gives-malformed line len out out′ e l h = gives-same malformedLine line len out out′ e (l ∙ sym (length-printed (refusedBody 13 0))) h
 
-pub stored-in : (n k i j v w : ℕ) (xs : List ℕ) → n ≡ k → j ≡ i → w ≡ v → set xs j w ≡ pick (eqb n k) (set xs i v) xs
-stored-in n k i j v w xs h e d = rw (eq-eqb n k h, e, d)
+pub unshown : (n k : ℕ) (bytes : List ℕ) → (n ≡ k → ⊥) → malformedLine ≡ shownIf (eqb n k) bytes
+unshown n k bytes h = rw (ne-eqb n k h)
+
+pub shown-so : (n k : ℕ) (bytes : List ℕ) → n ≡ k → printed (10 ∷ bytes) ≡ shownIf (eqb n k) bytes
+shown-so n k bytes h = rw (eq-eqb n k h)
 
 module _ (bytes : List ℕ → List ℕ) (f xs : List ℕ) where
   pub shown-short : (length f ≡ 6 → ⊥) → malformedLine ≡ shown bytes f xs

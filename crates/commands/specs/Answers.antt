@@ -9,7 +9,7 @@ use lib.Dec.{eqb}
 use Rattle.rules.specs.Memory.{over}
 use Rattle.rules.specs.Shape.{pick}
 use Rattle.rules.specs.Refusals.{Reply, accepted, declined}
-use Rattle.image.specs.Image.{two, Edited, outcome}
+use Rattle.image.specs.Image.{two, Edited}
 use Rattle.edits.specs.Ledger.Edit.{Add, Drop, Move}
 use Rattle.edits.specs.Edits.{edited}
 use Rattle.transcript.specs.Answers.{two as field, four as place, printed, refusedBody}
@@ -43,21 +43,54 @@ replyLine (declined n p) last = printed (refusedBody n p)
 unfoldable pub editLine : Edited → List ℕ
 editLine e = replyLine (e .reply) (two 2 (e .image))
 
--- a command's outcome: what it comes to where its frame is as long as its fields
-abbrev pub sizedTo : Bool → Edited → List ℕ → Edited
-sizedTo b e image = pick b e (outcome (declined 13 0) image)
+-- what a command comes to: the line of its answer, and the memory that it was lent to change as it is after it
+pub record Effect : Type 0 where
+  pub line : List ℕ
+  pub after : List ℕ
 
-unfoldable pub added : List ℕ → List ℕ → Edited
-added f image = sizedTo (addSized f) (edited image (Add (ruleOf f) (two 1 f))) image
+abbrev pub leaving : List ℕ → List ℕ → Effect
+leaving line after = record { line = line; after = after }
 
-unfoldable pub dropped : List ℕ → List ℕ → Edited
-dropped f image = sizedTo (eqb (length f) 3) (edited image (Drop (two 1 f))) image
+-- the same of a command that was lent two memories
+pub record Effects : Type 0 where
+  pub line : List ℕ
+  pub first : List ℕ
+  pub second : List ℕ
 
-unfoldable pub moved : List ℕ → List ℕ → Edited
-moved f image = sizedTo (eqb (length f) 5) (edited image (Move (two 1 f) (two 3 f))) image
+abbrev pub leavingBoth : List ℕ → List ℕ → List ℕ → Effects
+leavingBoth line first second = record { line = line; first = first; second = second }
 
--- an outcome that was carried out: the ruleset after it, and the answer at the front of the lent bytes
-pub record Answered (e : Edited) (image : List ℕ) (len : ℕ) (out out′ : List ℕ) : Type 0 where
-  pub ruled : image ≡ e .image
-  pub many : len ≡ length (editLine e)
-  pub bytes : out′ ≡ over (editLine e) out
+-- what a frame as long as its fields comes to; any other changes nothing
+abbrev pub sizedTo : Bool → Effect → List ℕ → Effect
+sizedTo b e xs = pick b e (leaving malformedLine xs)
+
+abbrev pub bothSized : Bool → Effects → List ℕ → List ℕ → Effects
+bothSized b e xs ys = pick b e (leavingBoth malformedLine xs ys)
+
+-- the ruleset after an edit
+abbrev pub ruled : Edited → Effect
+ruled e = leaving (editLine e) (e .image)
+
+-- 10: add
+unfoldable pub added : List ℕ → List ℕ → Effect
+added f image = sizedTo (addSized f) (ruled (edited image (Add (ruleOf f) (two 1 f)))) image
+
+-- 11: drop
+unfoldable pub dropped : List ℕ → List ℕ → Effect
+dropped f image = sizedTo (eqb (length f) 3) (ruled (edited image (Drop (two 1 f)))) image
+
+-- 12: move
+unfoldable pub moved : List ℕ → List ℕ → Effect
+moved f image = sizedTo (eqb (length f) 5) (ruled (edited image (Move (two 1 f) (two 3 f)))) image
+
+-- a command was carried out: the memory after it, and the answer at the front of the lent bytes
+pub record Answered (e : Effect) (memory : List ℕ) (len : ℕ) (out out′ : List ℕ) : Type 0 where
+  pub left : memory ≡ e .after
+  pub many : len ≡ length (e .line)
+  pub bytes : out′ ≡ over (e .line) out
+
+pub record BothAnswered (e : Effects) (one other : List ℕ) (len : ℕ) (out out′ : List ℕ) : Type 0 where
+  pub left : one ≡ e .first
+  pub right : other ≡ e .second
+  pub many : len ≡ length (e .line)
+  pub bytes : out′ ≡ over (e .line) out

@@ -1,21 +1,25 @@
 -- The commands that read and write the rule file.
 use Prim.Native.Nat.{ℕ}
 use mathlib.Core.List.{List}
-use lib.ListN.{length, take}
+use lib.ListN.{length, take, replicate}
 use lib.Dec.{leb, eqb}
 use Rattle.rules.specs.Shape.{pick}
 use Rattle.rules.specs.Refusals.{declined}
 use Rattle.image.specs.Image.{Edited, outcome}
-use Rattle.file.specs.Loading.{loaded, Filed, filing, filed}
-use Rattle.commands.specs.Answers.{sizedTo}
-use Rattle.commands.specs.Lent.{back}
+use Rattle.file.specs.Loading.{loaded, Report, wrote, refused, Filed, filing, filed, listingOf}
+use Rattle.file.specs.File.{encode}
+use Rattle.transcript.specs.Answers.{printed, refusedBody}
+use Rattle.commands.specs.Fields.{four}
+use Rattle.commands.specs.Answers.{Effect, ruled, sizedTo, malformedLine}
+use Rattle.commands.specs.Lent.{lentOf, back}
 
 -- rules.hex read into the ruleset; over 32,768 bytes are refused
 unfoldable pub loadedFrom : List ℕ → List ℕ → Edited
 loadedFrom file image = pick (leb (length file) 32768) (loaded file image) (outcome (declined 13 32768) image)
 
-unfoldable pub loadedBy : List ℕ → List ℕ → List ℕ → Edited
-loadedBy f file image = sizedTo (eqb (length f) 1) (loadedFrom file image) image
+-- 13
+unfoldable pub loadedBy : List ℕ → List ℕ → List ℕ → Effect
+loadedBy f file image = sizedTo (eqb (length f) 1) (ruled (loadedFrom file image)) image
 
 abbrev pub filedBack : ℕ → List ℕ → Filed → Filed
 filedBack n out b = filing (b .report) (back n (b .bytes) out)
@@ -23,3 +27,16 @@ filedBack n out b = filing (b .report) (back n (b .bytes) out)
 -- the file written into the first n bytes
 unfoldable pub filedIn : ℕ → List ℕ → List ℕ → Filed
 filedIn n image out = filedBack n out (filed image (take n out))
+
+-- what is answered: the file as it is, or the refusal
+abbrev pub reportLine : Report → List ℕ → List ℕ
+reportLine (wrote n) text = text
+reportLine (refused n p) text = printed (refusedBody n p)
+
+-- the file where so many bytes are lent
+unfoldable pub fileLine : ℕ → List ℕ → List ℕ
+fileLine room image = reportLine (filed image (replicate room 0) .report) (encode (listingOf image))
+
+-- 14, lent bytes (4); more than 29,199 count as that
+unfoldable pub writeLine : List ℕ → List ℕ → List ℕ
+writeLine f image = pick (eqb (length f) 5) (fileLine (lentOf (four 1 f) 29199) image) malformedLine

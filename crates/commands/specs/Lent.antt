@@ -1,10 +1,16 @@
 -- Calls over the first so many of what the monitor holds: the rest keeps its contents.
 use Prim.Native.Nat.{ℕ, min}
 use mathlib.Core.List.{List, _++_}
-use lib.ListN.{take, drop}
-use Rattle.reading.specs.Speech.{Said, saying, plainSaid}
+use lib.Dec.{leb, eqb}
+use lib.ListN.{length, getD, take, drop}
+use Rattle.reading.specs.Speech.{Told, spoken, refused, Said, saying, plainSaid}
 use Rattle.tables.specs.Words.{Built, building, built}
 use Rattle.tables.specs.Walk.{Walked, walkSaid}
+use Rattle.rules.specs.Refusals.{Reply, accepted, declined}
+use Rattle.image.specs.Image.{two}
+use Rattle.transcript.specs.Answers.{printed, refusedBody, spokenBody, toldBody}
+use Rattle.commands.specs.Fields.{four}
+use Rattle.commands.specs.Answers.{Effects, leavingBoth, bothSized, statesLine, walkRefusal}
 
 -- so many as are asked for; more than there are counts as all
 abbrev pub lentOf : ℕ → ℕ → ℕ
@@ -34,3 +40,47 @@ walkedBack n m phones numbers w = record { said = saidBack n m phones numbers (w
 -- the walk, likewise
 unfoldable pub walkIn : ℕ → ℕ → List ℕ → List ℕ → List ℕ → List ℕ → List ℕ → List ℕ → Walked
 walkIn n m image ws ss name phones numbers = walkedBack n m phones numbers (walkSaid image ws ss name (take n phones) (take m numbers))
+
+-- ---- the commands
+
+-- what a build answers: the two state counts, which are the first words
+abbrev pub buildLine : Reply → List ℕ → List ℕ
+buildLine accepted words = statesLine (getD words 0 0) (getD words 1 0)
+buildLine (declined n p) words = printed (refusedBody n p)
+
+abbrev pub buildEffects : Built → Effects
+buildEffects b = leavingBoth (buildLine (b .reply) (b .words)) (b .words) (b .sets)
+
+-- 15, lent words (4), lent set words (4)
+unfoldable pub builtBy : List ℕ → List ℕ → List ℕ → List ℕ → Effects
+builtBy f image words sets =
+    bothSized (eqb (length f) 9)
+    (buildEffects (builtIn (lentOf (four 1 f) (length words)) (lentOf (four 5 f) (length sets)) image words sets)) words sets
+
+-- what a walk answers: 04, or 08 with the steps
+abbrev pub walkLine : Told → ℕ → List ℕ → List ℕ → List ℕ
+walkLine (spoken p n) steps phones numbers = printed (spokenBody steps (take p phones) (take n numbers))
+walkLine (refused n p) steps phones numbers = walkRefusal steps n p
+
+abbrev pub walkEffects : Walked → Effects
+walkEffects w = leavingBoth (walkLine (w .said .told) (w .steps) (w .said .phones) (w .said .numbers)) (w .said .phones) (w .said .numbers)
+
+-- 16, lent words (4), lent set words (4), lent phones (2), lent numbers (2), letters
+unfoldable pub walkedBy : List ℕ → List ℕ → List ℕ → List ℕ → List ℕ → List ℕ → Effects
+walkedBy f image words sets phones numbers =
+    bothSized (leb 13 (length f))
+    (walkEffects (walkIn (lentOf (two 9 f) (length phones)) (lentOf (two 11 f) (length numbers)) image (take (lentOf (four 1 f) (length words)) words) (take (lentOf (four 5 f) (length sets)) sets) (drop 13 f) phones numbers))
+    phones numbers
+
+-- what a plain reading answers: 04 with steps 0, or 05
+abbrev pub plainLine : Told → List ℕ → List ℕ → List ℕ
+plainLine t phones numbers = printed (toldBody t 0 phones numbers)
+
+abbrev pub plainEffects : Said → Effects
+plainEffects s = leavingBoth (plainLine (s .told) (s .phones) (s .numbers)) (s .phones) (s .numbers)
+
+-- 17, lent phones (2), lent numbers (2), letters
+unfoldable pub plainBy : List ℕ → List ℕ → List ℕ → List ℕ → Effects
+plainBy f image phones numbers =
+    bothSized (leb 5 (length f))
+    (plainEffects (plainIn (lentOf (two 1 f) (length phones)) (lentOf (two 3 f) (length numbers)) image (drop 5 f) phones numbers)) phones numbers

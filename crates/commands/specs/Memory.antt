@@ -1,13 +1,14 @@
 -- What the commands that reach into the monitor's memory leave there.
 use Prim.Native.Nat.{ℕ, _+_, _/_, _%_, _≤_}
+use mathlib.Core.Bool.{Bool}
 use mathlib.Core.List.{List, [], _∷_, _++_}
 use lib.ListN.{length, getD, take, drop, set}
 use lib.Dec.{leb, ltb, eqb}
 use Rattle.rules.specs.Shape.{pick}
-use Rattle.image.specs.Image.{two, slotStart}
+use Rattle.image.specs.Image.{two, slotStart, cleared}
 use Rattle.transcript.specs.Answers.{twos, printed}
-use Rattle.commands.specs.Fields.{four}
-use Rattle.commands.specs.Answers.{malformedLine}
+use Rattle.commands.specs.Fields.{four, eight}
+use Rattle.commands.specs.Answers.{Effect, leaving, sizedTo, doneLine, malformedLine}
 
 -- the number at a place of an image, overwritten; a place above 511 is none
 abbrev pub renumbered : ℕ → ℕ → ℕ → List ℕ → List ℕ
@@ -18,6 +19,25 @@ renumbered place high low image =
 abbrev pub forced : List ℕ → List ℕ → List ℕ
 forced f image =
     set (set (set (set (renumbered (two 1 f) (getD f 3 0) (getD f 4 0) image) 0 (getD f 5 0)) 1 (getD f 6 0)) 2 (getD f 7 0)) 3 (getD f 8 0)
+
+unfoldable pub forcedBy : List ℕ → List ℕ → Effect
+forcedBy f image = sizedTo (eqb (length f) 9) (leaving doneLine (forced f image)) image
+
+-- 1F
+unfoldable pub clearedBy : List ℕ → List ℕ → Effect
+clearedBy f image = sizedTo (eqb (length f) 1) (leaving doneLine (cleared image .image)) image
+
+-- one element stored, where its index is inside
+abbrev pub storedAt : ℕ → ℕ → List ℕ → Effect
+storedAt i v xs = sizedTo (ltb i (length xs)) (leaving doneLine (set xs i v)) xs
+
+-- 18, index (4), value (2)
+unfoldable pub storedWord : List ℕ → List ℕ → Effect
+storedWord f words = sizedTo (eqb (length f) 7) (storedAt (four 1 f) (two 5 f) words) words
+
+-- 19, index (4), value (8)
+unfoldable pub storedSet : List ℕ → List ℕ → Effect
+storedSet f sets = sizedTo (eqb (length f) 13) (storedAt (four 1 f) (eight 5 f) sets) sets
 
 -- a set word as eight bytes, high first
 abbrev pub bytes8 : ℕ → List ℕ
@@ -36,18 +56,30 @@ abbrev pub eights : List ℕ → List ℕ
 eights [] = []
 eights (w ∷ l) = bytes8 w ++ eights l
 
--- 1A or 1B, index (4), count (1): so many of the elements from there on, where all of them are inside
+-- what is shown: 0A and the bytes, where the frame asks for what there is
+abbrev pub shownIf : Bool → List ℕ → List ℕ
+shownIf b bytes = pick b (printed (10 ∷ bytes)) malformedLine
+
+-- index (4), count (1): so many of the elements from there on, where all of them are inside
 abbrev pub shown : (List ℕ → List ℕ) → List ℕ → List ℕ → List ℕ
 shown bytes f xs =
-    pick (eqb (length f) 6)
-    (pick (leb (four 1 f + getD f 5 0) (length xs)) (printed (10 ∷ bytes (take (getD f 5 0) (drop (four 1 f) xs)))) malformedLine)
-    malformedLine
+    pick (eqb (length f) 6) (shownIf (leb (four 1 f + getD f 5 0) (length xs)) (bytes (take (getD f 5 0) (drop (four 1 f) xs)))) malformedLine
 
+-- 1A
 unfoldable pub shownWords : List ℕ → List ℕ → List ℕ
 shownWords = shown twos
 
+-- 1B
 unfoldable pub shownSets : List ℕ → List ℕ → List ℕ
 shownSets = shown eights
+
+-- 1C
+unfoldable pub shownPhones : List ℕ → List ℕ → List ℕ
+shownPhones f phones = shownIf (eqb (length f) 1) phones
+
+-- 1D
+unfoldable pub shownNumbers : List ℕ → List ℕ → List ℕ
+shownNumbers f numbers = shownIf (eqb (length f) 1) (twos numbers)
 
 -- what the monitor holds is large enough: a ruleset's image, phones and numbers that an answer has room for, and the longest answer's bytes
 pub record Held (image phones numbers out : ℕ) : Type 0 where

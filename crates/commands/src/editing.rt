@@ -4,16 +4,14 @@ use crate::fields;
 use rules::Answer;
 ghost use mathlib.Core.Path.{_≡_};
 ghost use Prim.Native.Nat.{ℕ, _+_, _*_, _<_, _≤_};
-ghost use lib.ListN.{length, getD};
+ghost use lib.ListN.{length};
 ghost use Rattle.rules.specs.Refusals.{replyOf};
-ghost use Rattle.image.specs.Image.{two, outcome, cleared};
+ghost use Rattle.image.specs.Image.{two, outcome};
 ghost use Rattle.edits.specs.Ledger.{Edit};
 ghost use Rattle.edits.specs.Edits.{edited};
-ghost use lib.Dec.{eqb};
-ghost use Rattle.rules.specs.Shape.{pick};
 ghost use Rattle.commands.specs.Answers.{Answered, added, dropped, moved};
 ghost use Rattle.commands.specs.Fields.{AddSized, ruleOf};
-ghost use Rattle.commands.specs.Memory.{renumbered, forced};
+ghost use Rattle.commands.specs.Memory.{renumbered, forced, forcedBy, clearedBy};
 
 // 10, p (2), four lengths, their bytes.
 pub fn add(f: &[u8], image: &mut [u8]) -> Answer
@@ -103,8 +101,7 @@ pub fn move_command(f: &[u8], image: &mut [u8], out: &mut [u8]) -> usize
 // 1E: an impossible ruleset.
 pub fn force_command(f: &[u8], image: &mut [u8], out: &mut [u8]) -> usize
     requires { ⌜ (13316 ≤ length (now image)) × (15 ≤ length (now out)) ⌝ }
-    ensures len { λ r. ⌜ r ≤ 15 ⌝ }
-    ensures image { λ _. ⌜ now (image .exit) ≡ pick (eqb (length (now (f .entry))) 9) (forced (now (f .entry)) (now (image .entry))) (now (image .entry)) ⌝ }
+    ensures { λ r. ⌜ Answered (forcedBy (now (f .entry)) (now (image .entry))) (now (image .exit)) r (now (out .entry)) (now (out .exit)) ⌝ }
 {
     if f.len() != 9 {
         return answers::malformed(out);
@@ -116,8 +113,7 @@ pub fn force_command(f: &[u8], image: &mut [u8], out: &mut [u8]) -> usize
 // 1F: the empty ruleset again.
 pub fn clear_command(f: &[u8], image: &mut [u8], out: &mut [u8]) -> usize
     requires { ⌜ (13316 ≤ length (now image)) × (15 ≤ length (now out)) ⌝ }
-    ensures len { λ r. ⌜ r ≤ 15 ⌝ }
-    ensures image { λ _. ⌜ now (image .exit) ≡ pick (eqb (length (now (f .entry))) 1) (cleared (now (image .entry)) .image) (now (image .entry)) ⌝ }
+    ensures { λ r. ⌜ Answered (clearedBy (now (f .entry)) (now (image .entry))) (now (image .exit)) r (now (out .entry)) (now (out .exit)) ⌝ }
 {
     if f.len() != 1 {
         return answers::malformed(out);

@@ -8,11 +8,12 @@ use rules::Refusal;
 ghost use mathlib.Core.Path.{_≡_};
 ghost use Prim.Native.Nat.{ℕ, _≤_};
 ghost use lib.ListN.{length};
+ghost use Rattle.rules.specs.Memory.{over};
 ghost use Rattle.rules.specs.Refusals.{replyOf};
 ghost use Rattle.image.specs.Image.{outcome};
 ghost use Rattle.file.specs.Loading.{reportOf, filing};
 ghost use Rattle.commands.specs.Answers.{Answered};
-ghost use Rattle.commands.specs.Filing.{loadedFrom, loadedBy, filedIn};
+ghost use Rattle.commands.specs.Filing.{loadedFrom, loadedBy, filedIn, writeLine};
 
 // The bytes of rules.hex become the ruleset; over 32,768 of them are refused.
 pub fn load(file: &[u8], image: &mut [u8]) -> Answer
@@ -47,7 +48,8 @@ fn write_in(image: &[u8], out: &mut [u8], n: usize) -> Written
 // 14, lent bytes (4, of which more than 29,199 count as that): write.
 pub fn write_command(f: &[u8], image: &[u8], out: &mut [u8]) -> usize
     requires { ⌜ 29199 ≤ length (now out) ⌝ }
-    ensures { λ r. ⌜ r ≤ 29199 ⌝ }
+    ensures len { λ r. ⌜ r ≡ length (writeLine (now (f .entry)) (now (image .entry))) ⌝ }
+    ensures bytes { λ _. ⌜ now (out .exit) ≡ over (writeLine (now (f .entry)) (now (image .entry))) (now (out .entry)) ⌝ }
 {
     if f.len() != 5 {
         return answers::malformed(out);

@@ -3,17 +3,12 @@ use crate::answers;
 use crate::fields;
 ghost use mathlib.Core.Path.{_≡_};
 ghost use mathlib.Core.List.{_∷_};
-ghost use mathlib.Core.Bool.{Bool};
 ghost use Prim.Native.Nat.{ℕ, _+_, _*_, _<_, _≤_};
-ghost use lib.Dec.{eqb};
-ghost use lib.ListN.{length, getD, take, drop, set};
+ghost use lib.ListN.{length};
 ghost use Rattle.rules.specs.Memory.{over, overAt};
-ghost use Rattle.rules.specs.Shape.{pick};
-ghost use Rattle.image.specs.Image.{two};
 ghost use Rattle.transcript.specs.Answers.{twos, printed};
-ghost use Rattle.commands.specs.Answers.{malformedLine};
-ghost use Rattle.commands.specs.Fields.{four, eight};
-ghost use Rattle.commands.specs.Memory.{eights, bytes8, shownWords, shownSets};
+ghost use Rattle.commands.specs.Answers.{Answered};
+ghost use Rattle.commands.specs.Memory.{eights, bytes8, storedWord, storedSet, shownWords, shownSets, shownPhones, shownNumbers};
 
 fn wide(x: u8) -> usize
     ensures { λ r. ⌜ (r ≡ x) × (r < 256) ⌝ }
@@ -24,8 +19,7 @@ fn wide(x: u8) -> usize
 // 18, index (4), value (2): one word is stored.
 pub fn store_word(f: &[u8], words: &mut [u16], out: &mut [u8]) -> usize
     requires { ⌜ 15 ≤ length (now out) ⌝ }
-    ensures len { λ r. ⌜ r ≤ 15 ⌝ }
-    ensures words { λ _. ⌜ now (words .exit) ≡ pick (eqb (length (now (f .entry))) 7) (set (now (words .entry)) (four 1 (now (f .entry))) (two 5 (now (f .entry)))) (now (words .entry)) ⌝ }
+    ensures { λ r. ⌜ Answered (storedWord (now (f .entry)) (now (words .entry))) (now (words .exit)) r (now (out .entry)) (now (out .exit)) ⌝ }
 {
     if f.len() != 7 {
         return answers::malformed(out);
@@ -41,8 +35,7 @@ pub fn store_word(f: &[u8], words: &mut [u16], out: &mut [u8]) -> usize
 // 19, index (4), value (8): one set word is stored.
 pub fn store_set(f: &[u8], sets: &mut [u64], out: &mut [u8]) -> usize
     requires { ⌜ 15 ≤ length (now out) ⌝ }
-    ensures len { λ r. ⌜ r ≤ 15 ⌝ }
-    ensures sets { λ _. ⌜ now (sets .exit) ≡ pick (eqb (length (now (f .entry))) 13) (set (now (sets .entry)) (four 1 (now (f .entry))) (eight 5 (now (f .entry)))) (now (sets .entry)) ⌝ }
+    ensures { λ r. ⌜ Answered (storedSet (now (f .entry)) (now (sets .entry))) (now (sets .exit)) r (now (out .entry)) (now (out .exit)) ⌝ }
 {
     if f.len() != 13 {
         return answers::malformed(out);
@@ -58,7 +51,7 @@ pub fn store_set(f: &[u8], sets: &mut [u64], out: &mut [u8]) -> usize
 // 0A and words, two bytes each.
 fn words_line(words: &[u16], out: &mut [u8]) -> usize
     requires { ⌜ (length (now words) ≤ 255) × (4085 ≤ length (now out)) ⌝ }
-    ensures len { λ r. ⌜ r ≤ 4085 ⌝ }
+    ensures len { λ r. ⌜ r ≡ length (printed (10 ∷ twos (now (words .entry)))) ⌝ }
     ensures bytes { λ _. ⌜ now (out .exit) ≡ over (printed (10 ∷ twos (now (words .entry)))) (now (out .entry)) ⌝ }
 {
     let mut body = [10u8; 511];
@@ -69,7 +62,7 @@ fn words_line(words: &[u16], out: &mut [u8]) -> usize
 // 1A, index (4), count (1): so many words are shown.
 pub fn show_words(f: &[u8], words: &[u16], out: &mut [u8]) -> usize
     requires { ⌜ 4085 ≤ length (now out) ⌝ }
-    ensures len { λ r. ⌜ r ≤ 4085 ⌝ }
+    ensures len { λ r. ⌜ r ≡ length (shownWords (now (f .entry)) (now (words .entry))) ⌝ }
     ensures bytes { λ _. ⌜ now (out .exit) ≡ over (shownWords (now (f .entry)) (now (words .entry))) (now (out .entry)) ⌝ }
 {
     if f.len() != 6 {
@@ -119,7 +112,7 @@ fn put_sets(body: &mut [u8], sets: &[u64]) -> usize
 // 0A and set words, eight bytes each.
 fn sets_line(sets: &[u64], out: &mut [u8]) -> usize
     requires { ⌜ (length (now sets) ≤ 255) × (4085 ≤ length (now out)) ⌝ }
-    ensures len { λ r. ⌜ r ≤ 4085 ⌝ }
+    ensures len { λ r. ⌜ r ≡ length (printed (10 ∷ eights (now (sets .entry)))) ⌝ }
     ensures bytes { λ _. ⌜ now (out .exit) ≡ over (printed (10 ∷ eights (now (sets .entry)))) (now (out .entry)) ⌝ }
 {
     let mut body = [10u8; 2041];
@@ -130,7 +123,7 @@ fn sets_line(sets: &[u64], out: &mut [u8]) -> usize
 // 1B, index (4), count (1): so many set words are shown.
 pub fn show_sets(f: &[u8], sets: &[u64], out: &mut [u8]) -> usize
     requires { ⌜ 4085 ≤ length (now out) ⌝ }
-    ensures len { λ r. ⌜ r ≤ 4085 ⌝ }
+    ensures len { λ r. ⌜ r ≡ length (shownSets (now (f .entry)) (now (sets .entry))) ⌝ }
     ensures bytes { λ _. ⌜ now (out .exit) ≡ over (shownSets (now (f .entry)) (now (sets .entry))) (now (out .entry)) ⌝ }
 {
     if f.len() != 6 {
@@ -148,8 +141,8 @@ pub fn show_sets(f: &[u8], sets: &[u64], out: &mut [u8]) -> usize
 // 1C: the phone bytes are shown.
 pub fn show_phones(f: &[u8], phones: &[u8], out: &mut [u8]) -> usize
     requires { ⌜ (length (now phones) ≤ 256) × (4085 ≤ length (now out)) ⌝ }
-    ensures len { λ r. ⌜ r ≤ 4085 ⌝ }
-    ensures bytes { λ _. ⌜ now (out .exit) ≡ over (pick (eqb (length (now (f .entry))) 1) (printed (10 ∷ now (phones .entry))) malformedLine) (now (out .entry)) ⌝ }
+    ensures len { λ r. ⌜ r ≡ length (shownPhones (now (f .entry)) (now (phones .entry))) ⌝ }
+    ensures bytes { λ _. ⌜ now (out .exit) ≡ over (shownPhones (now (f .entry)) (now (phones .entry))) (now (out .entry)) ⌝ }
 {
     if f.len() != 1 {
         return answers::malformed(out);
@@ -162,8 +155,8 @@ pub fn show_phones(f: &[u8], phones: &[u8], out: &mut [u8]) -> usize
 // 1D: the numbers are shown.
 pub fn show_numbers(f: &[u8], numbers: &[u16], out: &mut [u8]) -> usize
     requires { ⌜ (length (now numbers) ≤ 64) × (4085 ≤ length (now out)) ⌝ }
-    ensures len { λ r. ⌜ r ≤ 4085 ⌝ }
-    ensures bytes { λ _. ⌜ now (out .exit) ≡ over (pick (eqb (length (now (f .entry))) 1) (printed (10 ∷ twos (now (numbers .entry)))) malformedLine) (now (out .entry)) ⌝ }
+    ensures len { λ r. ⌜ r ≡ length (shownNumbers (now (f .entry)) (now (numbers .entry))) ⌝ }
+    ensures bytes { λ _. ⌜ now (out .exit) ≡ over (shownNumbers (now (f .entry)) (now (numbers .entry))) (now (out .entry)) ⌝ }
 {
     if f.len() != 1 {
         return answers::malformed(out);

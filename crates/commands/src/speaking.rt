@@ -5,16 +5,18 @@ use reading::Speech;
 use rules::Answer;
 use walk::WalkAnswer;
 ghost use mathlib.Core.Path.{_≡_};
-ghost use Prim.Native.Nat.{ℕ, _+_, _*_, _<_, _≤_, min};
-ghost use lib.ListN.{length, take, drop};
+ghost use Prim.Native.Nat.{ℕ, _+_, _*_, _<_, _≤_};
+ghost use lib.ListN.{length, getD, take, drop};
+ghost use Rattle.rules.specs.Memory.{over};
 ghost use Rattle.rules.specs.Refusals.{replyOf};
 ghost use Rattle.image.specs.Image.{two};
 ghost use Rattle.reading.specs.Speech.{toldOf, saying};
 ghost use Rattle.tables.specs.Words.{building};
 ghost use Rattle.walk.specs.Walked.{walkedOf};
 ghost use Rattle.transcript.specs.Names.{ToldWithin};
+ghost use Rattle.commands.specs.Answers.{BothAnswered};
 ghost use Rattle.commands.specs.Fields.{four};
-ghost use Rattle.commands.specs.Lent.{lentOf, builtIn, plainIn, walkIn};
+ghost use Rattle.commands.specs.Lent.{lentOf, builtIn, plainIn, walkIn, builtBy, plainLine, plainBy, walkLine, walkedBy};
 
 // So many as are asked for; more than there are counts as all.
 pub fn lent(asked: usize, there: usize) -> usize
@@ -42,7 +44,9 @@ pub fn build_lent(f: &[u8], image: &[u8], words: &mut [u16], sets: &mut [u64]) -
 }
 
 // The word at a place; 0 where there is none.
-fn word_at(words: &[u16], at: usize) -> usize {
+fn word_at(words: &[u16], at: usize) -> usize
+    ensures { λ r. ⌜ r ≡ getD (now (words .entry)) at 0 ⌝ }
+{
     if words.len() <= at {
         return 0;
     }
@@ -58,7 +62,7 @@ pub fn build_command(
     out: &mut [u8],
 ) -> usize
     requires { ⌜ 15 ≤ length (now out) ⌝ }
-    ensures { λ r. ⌜ r ≤ 15 ⌝ }
+    ensures { λ r. ⌜ BothAnswered (builtBy (now (f .entry)) (now (image .entry)) (now (words .entry)) (now (sets .entry))) (now (words .exit)) (now (sets .exit)) r (now (out .entry)) (now (out .exit)) ⌝ }
 {
     if f.len() != 9 {
         return answers::malformed(out);
@@ -152,7 +156,8 @@ pub fn walk_lent<'a>(
 // The answer of a plain reading: 04 with no steps, or 05.
 fn plain_line(speech: Speech, phones: &[u8], numbers: &[u16], out: &mut [u8]) -> usize
     requires { ⌜ (length (now phones) ≤ 256) × ((length (now numbers) ≤ 64) × ((783 ≤ length (now out)) × ToldWithin (toldOf speech) (length (now phones)) (length (now numbers)))) ⌝ }
-    ensures { λ r. ⌜ r ≤ 783 ⌝ }
+    ensures len { λ r. ⌜ r ≡ length (plainLine (toldOf speech) (now (phones .entry)) (now (numbers .entry))) ⌝ }
+    ensures bytes { λ _. ⌜ now (out .exit) ≡ over (plainLine (toldOf speech) (now (phones .entry)) (now (numbers .entry))) (now (out .entry)) ⌝ }
 {
     let answer = WalkAnswer { steps: 0, speech };
     transcript::answer_line(answer, phones, numbers, out)
@@ -167,7 +172,7 @@ pub fn plain_command(
     out: &mut [u8],
 ) -> usize
     requires { ⌜ (length (now phones) ≤ 256) × ((length (now numbers) ≤ 64) × (783 ≤ length (now out))) ⌝ }
-    ensures { λ r. ⌜ r ≤ 783 ⌝ }
+    ensures { λ r. ⌜ BothAnswered (plainBy (now (f .entry)) (now (image .entry)) (now (phones .entry)) (now (numbers .entry))) (now (phones .exit)) (now (numbers .exit)) r (now (out .entry)) (now (out .exit)) ⌝ }
 {
     if f.len() < 5 {
         return answers::malformed(out);
@@ -179,7 +184,8 @@ pub fn plain_command(
 // The answer of a walk: 04, or 08 with the steps.
 fn walk_line(answer: WalkAnswer, phones: &[u8], numbers: &[u16], out: &mut [u8]) -> usize
     requires { ⌜ (length (now phones) ≤ 256) × ((length (now numbers) ≤ 64) × ((783 ≤ length (now out)) × ToldWithin (toldOf (answer .speech)) (length (now phones)) (length (now numbers)))) ⌝ }
-    ensures { λ r. ⌜ r ≤ 783 ⌝ }
+    ensures len { λ r. ⌜ r ≡ length (walkLine (toldOf (answer .speech)) (answer .steps) (now (phones .entry)) (now (numbers .entry))) ⌝ }
+    ensures bytes { λ _. ⌜ now (out .exit) ≡ over (walkLine (toldOf (answer .speech)) (answer .steps) (now (phones .entry)) (now (numbers .entry))) (now (out .entry)) ⌝ }
 {
     let speech = answer.speech;
     if let Speech::Refused(x) = speech {
@@ -199,7 +205,7 @@ pub fn walk_command<'a>(
     out: &mut [u8],
 ) -> usize
     requires { ⌜ (length (now phones) ≤ 256) × ((length (now numbers) ≤ 64) × (783 ≤ length (now out))) ⌝ }
-    ensures { λ r. ⌜ r ≤ 783 ⌝ }
+    ensures { λ r. ⌜ BothAnswered (walkedBy (now (f .entry)) (now (image .entry)) (now (words .entry)) (now (sets .entry)) (now (phones .entry)) (now (numbers .entry))) (now (phones .exit)) (now (numbers .exit)) r (now (out .entry)) (now (out .exit)) ⌝ }
 {
     if f.len() < 13 {
         return answers::malformed(out);

@@ -1,8 +1,11 @@
 -- `commands::answer` meets its contract: each command is answered by its own function.
 -- Assumes nothing.
-use Rattle.commands.proofs.Replies.{short}
-use native.Mathlib.Omega.{arith}
 use borrow.Author.Needs.{needs}
+use Rattle.commands.proofs.Replies.{within}
+use Rattle.commands.specs.Answers.{added, dropped, moved}
+use Rattle.commands.specs.Filing.{loadedBy, writeLine}
+use Rattle.commands.specs.Lent.{builtBy, walkedBy, plainBy}
+use Rattle.commands.specs.Memory.{forcedBy, clearedBy, storedWord, storedSet, shownWords, shownSets, shownPhones, shownNumbers}
 use Rattle.commands.proofs.answer.Statement.{statement}
 use Rattle.commands.proofs.answer.Tie as tie
 
@@ -76,7 +79,10 @@ same-length-3 : tie.Need-same-length-3
 same-length-3 c = search needs
 
 returns-2 : tie.Need-returns-2
-returns-2 c = omega (arith, short (c .before .before .before .before .add-command .ensures), c .before .before .before .before .before .before .before .before .before .before .before .before .before .before .before .before .before .before .pre .room)
+returns-2 c =
+    let a = c .before .before .before .before .before .before .before .before .before .before .before .before .before .before .before .before .before .before .args in
+    let x = c .before .before .before .before .add-command .ensures in
+    within (added (a .f .now) (a .image .now) .line) _ (a .out .now) _ (x .many) (x .bytes)
 
 same-length-4 : tie.Need-same-length-4
 same-length-4 c = search needs
@@ -85,7 +91,10 @@ same-length-5 : tie.Need-same-length-5
 same-length-5 c = search needs
 
 returns-3 : tie.Need-returns-3
-returns-3 c = omega (arith, short (c .before .before .before .before .drop-command .ensures), c .before .before .before .before .before .before .before .before .before .before .before .before .before .before .before .before .before .before .pre .room)
+returns-3 c =
+    let a = c .before .before .before .before .before .before .before .before .before .before .before .before .before .before .before .before .before .before .args in
+    let x = c .before .before .before .before .drop-command .ensures in
+    within (dropped (a .f .now) (a .image .now) .line) _ (a .out .now) _ (x .many) (x .bytes)
 
 same-length-6 : tie.Need-same-length-6
 same-length-6 c = search needs
@@ -94,7 +103,10 @@ same-length-7 : tie.Need-same-length-7
 same-length-7 c = search needs
 
 returns-4 : tie.Need-returns-4
-returns-4 c = omega (arith, short (c .before .before .before .before .move-command .ensures), c .before .before .before .before .before .before .before .before .before .before .before .before .before .before .before .before .before .before .pre .room)
+returns-4 c =
+    let a = c .before .before .before .before .before .before .before .before .before .before .before .before .before .before .before .before .before .before .args in
+    let x = c .before .before .before .before .move-command .ensures in
+    within (moved (a .f .now) (a .image .now) .line) _ (a .out .now) _ (x .many) (x .bytes)
 
 same-length-8 : tie.Need-same-length-8
 same-length-8 c = search needs
@@ -103,7 +115,10 @@ same-length-9 : tie.Need-same-length-9
 same-length-9 c = search needs
 
 returns-5 : tie.Need-returns-5
-returns-5 c = omega (arith, short (c .before .before .before .before .read-command .ensures), c .before .before .before .before .before .before .before .before .before .before .before .before .before .before .before .before .before .before .pre .room)
+returns-5 c =
+    let a = c .before .before .before .before .before .before .before .before .before .before .before .before .before .before .before .before .before .before .args in
+    let x = c .before .before .before .before .read-command .ensures in
+    within (loadedBy (a .f .now) (a .file .now) (a .image .now) .line) _ (a .out .now) _ (x .many) (x .bytes)
 
 same-length-10 : tie.Need-same-length-10
 same-length-10 c = search needs
@@ -112,7 +127,10 @@ same-length-11 : tie.Need-same-length-11
 same-length-11 c = search needs
 
 returns-6 : tie.Need-returns-6
-returns-6 c = search needs
+returns-6 c =
+    let a = c .before .before .before .before .before .before .before .before .before .before .before .before .before .before .before .before .args in
+    let x = c .before .before .write-command .ensures in
+    within (writeLine (a .f .now) (a .image .now)) _ (a .out .now) _ (x .0) (x .1)
 
 same-length-12 : tie.Need-same-length-12
 same-length-12 c = search needs
@@ -127,7 +145,10 @@ same-length-15 : tie.Need-same-length-15
 same-length-15 c = search needs
 
 returns-7 : tie.Need-returns-7
-returns-7 c = search needs
+returns-7 c =
+    let a = c .before .before .before .before .before .before .before .before .before .before .before .before .before .before .before .before .before .before .before .before .before .before .args in
+    let x = c .before .before .before .before .before .before .build-command .ensures in
+    within (builtBy (a .f .now) (a .image .now) (a .words .now) (a .sets .now) .line) _ (a .out .now) _ (x .many) (x .bytes)
 
 same-length-16 : tie.Need-same-length-16
 same-length-16 c = search needs
@@ -148,7 +169,10 @@ same-length-21 : tie.Need-same-length-21
 same-length-21 c = search needs
 
 returns-8 : tie.Need-returns-8
-returns-8 c = search needs
+returns-8 c =
+    let a = c .before .before .before .before .before .before .before .before .before .before .before .before .before .before .before .before .before .before .before .before .before .before .before .before .args in
+    let x = c .before .before .before .before .before .before .walk-command .ensures in
+    within (walkedBy (a .f .now) (a .image .now) (a .words .now) (a .sets .now) (a .phones .now) (a .numbers .now) .line) _ (a .out .now) _ (x .many) (x .bytes)
 
 same-length-22 : tie.Need-same-length-22
 same-length-22 c = search needs
@@ -163,7 +187,10 @@ same-length-25 : tie.Need-same-length-25
 same-length-25 c = search needs
 
 returns-9 : tie.Need-returns-9
-returns-9 c = search needs
+returns-9 c =
+    let a = c .before .before .before .before .before .before .before .before .before .before .before .before .before .before .before .before .before .before .before .before .before .before .args in
+    let x = c .before .before .before .before .before .before .plain-command .ensures in
+    within (plainBy (a .f .now) (a .image .now) (a .phones .now) (a .numbers .now) .line) _ (a .out .now) _ (x .many) (x .bytes)
 
 same-length-26 : tie.Need-same-length-26
 same-length-26 c = search needs
@@ -172,7 +199,10 @@ same-length-27 : tie.Need-same-length-27
 same-length-27 c = search needs
 
 returns-10 : tie.Need-returns-10
-returns-10 c = search needs
+returns-10 c =
+    let a = c .before .before .before .before .before .before .before .before .before .before .before .before .before .before .before .before .before .before .args in
+    let x = c .before .before .before .before .store-word .ensures in
+    within (storedWord (a .f .now) (a .words .now) .line) _ (a .out .now) _ (x .many) (x .bytes)
 
 same-length-28 : tie.Need-same-length-28
 same-length-28 c = search needs
@@ -181,7 +211,10 @@ same-length-29 : tie.Need-same-length-29
 same-length-29 c = search needs
 
 returns-11 : tie.Need-returns-11
-returns-11 c = search needs
+returns-11 c =
+    let a = c .before .before .before .before .before .before .before .before .before .before .before .before .before .before .before .before .before .before .args in
+    let x = c .before .before .before .before .store-set .ensures in
+    within (storedSet (a .f .now) (a .sets .now) .line) _ (a .out .now) _ (x .many) (x .bytes)
 
 same-length-30 : tie.Need-same-length-30
 same-length-30 c = search needs
@@ -190,7 +223,10 @@ same-length-31 : tie.Need-same-length-31
 same-length-31 c = search needs
 
 returns-12 : tie.Need-returns-12
-returns-12 c = search needs
+returns-12 c =
+    let a = c .before .before .before .before .before .before .before .before .before .before .before .before .before .before .before .before .args in
+    let x = c .before .before .show-words .ensures in
+    within (shownWords (a .f .now) (a .words .now)) _ (a .out .now) _ (x .0) (x .1)
 
 same-length-32 : tie.Need-same-length-32
 same-length-32 c = search needs
@@ -199,7 +235,10 @@ same-length-33 : tie.Need-same-length-33
 same-length-33 c = search needs
 
 returns-13 : tie.Need-returns-13
-returns-13 c = search needs
+returns-13 c =
+    let a = c .before .before .before .before .before .before .before .before .before .before .before .before .before .before .before .before .args in
+    let x = c .before .before .show-sets .ensures in
+    within (shownSets (a .f .now) (a .sets .now)) _ (a .out .now) _ (x .0) (x .1)
 
 same-length-34 : tie.Need-same-length-34
 same-length-34 c = search needs
@@ -208,7 +247,10 @@ same-length-35 : tie.Need-same-length-35
 same-length-35 c = search needs
 
 returns-14 : tie.Need-returns-14
-returns-14 c = search needs
+returns-14 c =
+    let a = c .before .before .before .before .before .before .before .before .before .before .before .before .before .before .before .before .args in
+    let x = c .before .before .show-phones .ensures in
+    within (shownPhones (a .f .now) (a .phones .now)) _ (a .out .now) _ (x .0) (x .1)
 
 same-length-36 : tie.Need-same-length-36
 same-length-36 c = search needs
@@ -217,7 +259,10 @@ same-length-37 : tie.Need-same-length-37
 same-length-37 c = search needs
 
 returns-15 : tie.Need-returns-15
-returns-15 c = search needs
+returns-15 c =
+    let a = c .before .before .before .before .before .before .before .before .before .before .before .before .before .before .before .before .args in
+    let x = c .before .before .show-numbers .ensures in
+    within (shownNumbers (a .f .now) (a .numbers .now)) _ (a .out .now) _ (x .0) (x .1)
 
 same-length-38 : tie.Need-same-length-38
 same-length-38 c = search needs
@@ -226,7 +271,10 @@ same-length-39 : tie.Need-same-length-39
 same-length-39 c = search needs
 
 returns-16 : tie.Need-returns-16
-returns-16 c = search needs
+returns-16 c =
+    let a = c .before .before .before .before .before .before .before .before .before .before .before .before .before .before .before .before .before .before .args in
+    let x = c .before .before .before .before .force-command .ensures in
+    within (forcedBy (a .f .now) (a .image .now) .line) _ (a .out .now) _ (x .many) (x .bytes)
 
 same-length-40 : tie.Need-same-length-40
 same-length-40 c = search needs
@@ -235,7 +283,10 @@ same-length-41 : tie.Need-same-length-41
 same-length-41 c = search needs
 
 returns-17 : tie.Need-returns-17
-returns-17 c = search needs
+returns-17 c =
+    let a = c .before .before .before .before .before .before .before .before .before .before .before .before .before .before .before .before .before .before .args in
+    let x = c .before .before .before .before .clear-command .ensures in
+    within (clearedBy (a .f .now) (a .image .now) .line) _ (a .out .now) _ (x .many) (x .bytes)
 
 same-length-42 : tie.Need-same-length-42
 same-length-42 c = search needs

@@ -5,7 +5,7 @@ use borrow.Author.Tests.{not-true, not-false}
 use Rattle.image.specs.Image.{two}
 use Rattle.edits.specs.Ledger.{Edit}
 use Rattle.edits.specs.Edits.{edited}
-use Rattle.commands.specs.Answers.{added}
+use Rattle.commands.specs.Answers.{ruled, added}
 use Rattle.commands.specs.Fields.{addSized, ruleOf}
 use Rattle.commands.proofs.Bytes.{sized}
 use Rattle.commands.proofs.Replies.{answered-not, answered-edit}
@@ -24,7 +24,7 @@ same-length c = search needs
 
 returns : tie.Need-returns
 unfolding added
-returns c = let a = c .before .before .before .before .before .before .before .before .before .args in answered-not (addSized (a .f .now)) (edited (a .image .now) (Edit.Add (ruleOf (a .f .now)) (two 1 (a .f .now)))) (a .image .now) (a .out .now) _ _ (sym (c .before .before .before .before .before .add-sized .ensures) ∙ not-true _ (c .before .before .before .before .if1 .taken)) (c .before .before .malformed .ensures .0) (c .before .before .malformed .ensures .1)
+returns c = let a = c .before .before .before .before .before .before .before .before .before .args in answered-not (addSized (a .f .now)) (ruled (edited (a .image .now) (Edit.Add (ruleOf (a .f .now)) (two 1 (a .f .now))))) (a .image .now) (a .out .now) _ _ (sym (c .before .before .before .before .before .add-sized .ensures) ∙ not-true _ (c .before .before .before .before .if1 .taken)) (c .before .before .malformed .ensures .0) (c .before .before .malformed .ensures .1)
 
 add-requires : tie.Need-add-requires
 add-requires c κs = sized (c .before .before .before .before .before .before .args .f .now) (sym (c .before .before .add-sized .ensures) ∙ not-false _ (c .before .if1 .left))

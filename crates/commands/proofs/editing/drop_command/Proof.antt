@@ -6,7 +6,7 @@ use borrow.Author.Tests.{eq-eqb, ne-eqb}
 use Rattle.image.specs.Image.{two}
 use Rattle.edits.specs.Ledger.{Edit}
 use Rattle.edits.specs.Edits.{edited}
-use Rattle.commands.specs.Answers.{dropped}
+use Rattle.commands.specs.Answers.{ruled, dropped}
 use Rattle.commands.proofs.Replies.{answered-not, answered-edit}
 use borrow.Author.Needs.{needs}
 use Rattle.commands.proofs.editing.drop_command.Statement.{statement}
@@ -20,7 +20,7 @@ same-length c = search needs
 
 returns : tie.Need-returns
 unfolding dropped
-returns c = let a = c .before .before .before .before .before .before .before .before .args in answered-not (eqb (length (a .f .now)) 3) (edited (a .image .now) (Edit.Drop (two 1 (a .f .now)))) (a .image .now) (a .out .now) _ _ (ne-eqb (length (a .f .now)) 3 (c .before .before .before .before .if1 .taken)) (c .before .before .malformed .ensures .0) (c .before .before .malformed .ensures .1)
+returns c = let a = c .before .before .before .before .before .before .before .before .args in answered-not (eqb (length (a .f .now)) 3) (ruled (edited (a .image .now) (Edit.Drop (two 1 (a .f .now))))) (a .image .now) (a .out .now) _ _ (ne-eqb (length (a .f .now)) 3 (c .before .before .before .before .if1 .taken)) (c .before .before .malformed .ensures .0) (c .before .before .malformed .ensures .1)
 
 drop-requires : tie.Need-drop-requires
 drop-requires c κs = search needs

@@ -1,11 +1,12 @@
 -- `commands::editing::force_command` meets its contract: a frame of 9 bytes overwrites, any other is malformed.
 -- Assumes nothing.
 use lib.ListN.{length}
-use native.Mathlib.Omega.{arith}
-use mathlib.Core.Path.{_∙_}
-use Rattle.commands.specs.Memory.{forced}
-use Rattle.commands.proofs.Shown.{kept-short, done-sized}
 use borrow.Author.Needs.{needs}
+use lib.Dec.{eqb}
+use borrow.Author.Tests.{eq-eqb, ne-eqb}
+use Rattle.commands.specs.Answers.{leaving, doneLine}
+use Rattle.commands.specs.Memory.{forced, forcedBy}
+use Rattle.commands.proofs.Replies.{answered-not, answered-done}
 use Rattle.commands.proofs.editing.force_command.Statement.{statement}
 use Rattle.commands.proofs.editing.force_command.Tie as tie
 
@@ -16,7 +17,11 @@ same-length : tie.Need-same-length
 same-length c = search needs
 
 returns : tie.Need-returns
-returns c = let a = c .before .before .before .before .before .before .before .before .args in (omega (arith, c .before .before .malformed .ensures .0), kept-short (length (a .f .now)) 9 (a .image .now) (forced (a .f .now) (a .image .now)) (c .before .before .before .before .if1 .taken))
+unfolding forcedBy
+returns c =
+    let a = c .before .before .before .before .before .before .before .before .args in
+    answered-not (eqb (length (a .f .now)) 9) (leaving doneLine (forced (a .f .now) (a .image .now))) (a .image .now) (a .out .now) _ _
+    (ne-eqb (length (a .f .now)) 9 (c .before .before .before .before .if1 .taken)) (c .before .before .malformed .ensures .0) (c .before .before .malformed .ensures .1)
 
 force-requires : tie.Need-force-requires
 force-requires c κs = search needs
@@ -31,7 +36,11 @@ same-length-3 : tie.Need-same-length-3
 same-length-3 c = search needs
 
 returns-2 : tie.Need-returns-2
-returns-2 c = let a = c .before .before .before .before .before .before .before .before .before .before .before .before .args in (omega (arith, c .before .before .done-line .ensures .0), c .before .before .before .before .before .before .force .ensures ∙ done-sized (length (a .f .now)) 9 (a .image .now) (forced (a .f .now) (a .image .now)) (c .before .before .before .before .before .before .before .before .if1 .left))
+unfolding forcedBy
+returns-2 c =
+    let a = c .before .before .before .before .before .before .before .before .before .before .before .before .args in
+    answered-done (eqb (length (a .f .now)) 9) (forced (a .f .now) (a .image .now)) (a .image .now) (a .out .now) _ _
+    (eq-eqb (length (a .f .now)) 9 (c .before .before .before .before .before .before .before .before .if1 .left)) _ (c .before .before .before .before .before .before .force .ensures) (c .before .before .done-line .ensures .0) (c .before .before .done-line .ensures .1)
 
 pub force-command-spec : {M : Type 1} → statement M
 force-command-spec =

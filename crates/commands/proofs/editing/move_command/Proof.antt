@@ -6,7 +6,7 @@ use borrow.Author.Tests.{eq-eqb, ne-eqb}
 use Rattle.image.specs.Image.{two}
 use Rattle.edits.specs.Ledger.{Edit}
 use Rattle.edits.specs.Edits.{edited}
-use Rattle.commands.specs.Answers.{moved}
+use Rattle.commands.specs.Answers.{ruled, moved}
 use Rattle.commands.proofs.Replies.{answered-not, answered-edit}
 use borrow.Author.Needs.{needs}
 use Rattle.commands.proofs.editing.move_command.Statement.{statement}
@@ -20,7 +20,7 @@ same-length c = search needs
 
 returns : tie.Need-returns
 unfolding moved
-returns c = let a = c .before .before .before .before .before .before .before .before .args in answered-not (eqb (length (a .f .now)) 5) (edited (a .image .now) (Edit.Move (two 1 (a .f .now)) (two 3 (a .f .now)))) (a .image .now) (a .out .now) _ _ (ne-eqb (length (a .f .now)) 5 (c .before .before .before .before .if1 .taken)) (c .before .before .malformed .ensures .0) (c .before .before .malformed .ensures .1)
+returns c = let a = c .before .before .before .before .before .before .before .before .args in answered-not (eqb (length (a .f .now)) 5) (ruled (edited (a .image .now) (Edit.Move (two 1 (a .f .now)) (two 3 (a .f .now))))) (a .image .now) (a .out .now) _ _ (ne-eqb (length (a .f .now)) 5 (c .before .before .before .before .if1 .taken)) (c .before .before .malformed .ensures .0) (c .before .before .malformed .ensures .1)
 
 relocate-requires : tie.Need-relocate-requires
 relocate-requires c κs = search needs

@@ -6,6 +6,7 @@ use borrow.Author.Tests.{eq-eqb, ne-eqb}
 use Rattle.commands.specs.Filing.{loadedFrom, loadedBy}
 use Rattle.commands.proofs.Replies.{answered-not, answered-edit}
 use borrow.Author.Needs.{needs}
+use Rattle.commands.specs.Answers.{ruled}
 use Rattle.commands.proofs.filing.read_command.Statement.{statement}
 use Rattle.commands.proofs.filing.read_command.Tie as tie
 
@@ -17,7 +18,7 @@ same-length c = search needs
 
 returns : tie.Need-returns
 unfolding loadedBy
-returns c = let a = c .before .before .before .before .before .before .before .before .before .args in answered-not (eqb (length (a .f .now)) 1) (loadedFrom (a .file .now) (a .image .now)) (a .image .now) (a .out .now) _ _ (ne-eqb (length (a .f .now)) 1 (c .before .before .before .before .if1 .taken)) (c .before .before .malformed .ensures .0) (c .before .before .malformed .ensures .1)
+returns c = let a = c .before .before .before .before .before .before .before .before .before .args in answered-not (eqb (length (a .f .now)) 1) (ruled (loadedFrom (a .file .now) (a .image .now))) (a .image .now) (a .out .now) _ _ (ne-eqb (length (a .f .now)) 1 (c .before .before .before .before .if1 .taken)) (c .before .before .malformed .ensures .0) (c .before .before .malformed .ensures .1)
 
 load-requires : tie.Need-load-requires
 load-requires c κs = search needs

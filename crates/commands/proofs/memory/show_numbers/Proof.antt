@@ -1,15 +1,10 @@
 -- `commands::memory::show_numbers` meets its contract: 0A and the numbers as a line.
 -- Assumes nothing.
 use lib.ListN.{length}
-use native.Mathlib.Omega.{arith}
-use Prim.Native.Nat.{ℕ}
-use mathlib.Core.Path.{ap, _∙_}
-use mathlib.Core.List.{List, _∷_}
-use Rattle.rules.specs.Memory.{over}
-use Rattle.transcript.specs.Answers.{twos, printed}
-use Rattle.commands.specs.Answers.{malformedLine}
-use Rattle.commands.proofs.Shown.{kept-short, done-sized}
+use Rattle.transcript.specs.Answers.{twos}
 use borrow.Author.Needs.{needs}
+use Rattle.commands.proofs.Shown.{gives-same, gives-malformed, unshown, shown-so}
+use Rattle.commands.specs.Memory.{shownNumbers}
 use Rattle.commands.proofs.memory.show_numbers.Statement.{statement}
 use Rattle.commands.proofs.memory.show_numbers.Tie as tie
 
@@ -20,7 +15,10 @@ same-length : tie.Need-same-length
 same-length c = search needs
 
 returns : tie.Need-returns
-returns c = let a = c .before .before .before .before .before .before .before .before .args in (omega (arith, c .before .before .malformed .ensures .0), c .before .before .malformed .ensures .1 ∙ ap (λ (l : List ℕ). over l (a .out .now)) (kept-short (length (a .f .now)) 1 malformedLine (printed (10 ∷ twos (a .numbers .now))) (c .before .before .before .before .if1 .taken)))
+unfolding shownNumbers
+returns c =
+    let a = c .before .before .before .before .before .before .before .before .args in
+    gives-malformed (shownNumbers (a .f .now) (a .numbers .now)) _ (a .out .now) _ (unshown (length (a .f .now)) 1 (twos (a .numbers .now)) (c .before .before .before .before .if1 .taken)) (c .before .before .malformed .ensures .0) (c .before .before .malformed .ensures .1)
 
 words-line-requires : tie.Need-words-line-requires
 words-line-requires c κs = search needs
@@ -29,7 +27,11 @@ same-length-2 : tie.Need-same-length-2
 same-length-2 c = search needs
 
 returns-2 : tie.Need-returns-2
-returns-2 c = let a = c .before .before .before .before .before .before .before .before .args in (c .before .before .words-line .ensures .0, c .before .before .words-line .ensures .1 ∙ ap (λ (l : List ℕ). over l (a .out .now)) (done-sized (length (a .f .now)) 1 malformedLine (printed (10 ∷ twos (a .numbers .now))) (c .before .before .before .before .if1 .left)))
+unfolding shownNumbers
+returns-2 c =
+    let a = c .before .before .before .before .before .before .before .before .args in
+    gives-same _ (shownNumbers (a .f .now) (a .numbers .now)) _ (a .out .now) _ (shown-so (length (a .f .now)) 1 (twos (a .numbers .now)) (c .before .before .before .before .if1 .left))
+    (c .before .before .words-line .ensures .0) (c .before .before .words-line .ensures .1)
 
 pub show-numbers-spec : {M : Type 1} → statement M
 show-numbers-spec =

@@ -1,17 +1,14 @@
 -- `commands::memory::show_phones` meets its contract: 0A and the phones as a line.
 -- Assumes nothing.
-use lib.ListN.{replicate}
-use lib.ListN.{length}
+use lib.ListN.{length, replicate}
 use native.Mathlib.Omega.{arith}
-use Prim.Native.Nat.{ℕ}
-use mathlib.Core.Path.{refl, ap, _∙_}
-use mathlib.Core.List.{List, _∷_}
-use Rattle.rules.specs.Memory.{over}
-use Rattle.transcript.proofs.Printed.{printed-is}
+use mathlib.Core.Path.{refl, ap}
+use mathlib.Core.List.{_∷_}
+use Rattle.transcript.proofs.Printed.{printed-is, length-printed}
 use Rattle.transcript.specs.Answers.{printed}
-use Rattle.commands.specs.Answers.{malformedLine}
-use Rattle.commands.proofs.Shown.{front-ten, kept-short, done-sized}
 use borrow.Author.Needs.{needs}
+use Rattle.commands.proofs.Shown.{gives-same, gives-malformed, unshown, shown-so, front-ten}
+use Rattle.commands.specs.Memory.{shownPhones}
 use Rattle.commands.proofs.memory.show_phones.Statement.{statement}
 use Rattle.commands.proofs.memory.show_phones.Tie as tie
 
@@ -22,7 +19,10 @@ same-length : tie.Need-same-length
 same-length c = search needs
 
 returns : tie.Need-returns
-returns c = let a = c .before .before .before .before .before .before .before .before .args in (omega (arith, c .before .before .malformed .ensures .0), c .before .before .malformed .ensures .1 ∙ ap (λ (l : List ℕ). over l (a .out .now)) (kept-short (length (a .f .now)) 1 malformedLine (printed (10 ∷ a .phones .now)) (c .before .before .before .before .if1 .taken)))
+unfolding shownPhones
+returns c =
+    let a = c .before .before .before .before .before .before .before .before .args in
+    gives-malformed (shownPhones (a .f .now) (a .phones .now)) _ (a .out .now) _ (unshown (length (a .f .now)) 1 (a .phones .now) (c .before .before .before .before .if1 .taken)) (c .before .before .malformed .ensures .0) (c .before .before .malformed .ensures .1)
 
 slice-aggregate-put-field : tie.Need-slice-aggregate-put-field
 slice-aggregate-put-field c = search needs
@@ -43,7 +43,15 @@ same-length-2 : tie.Need-same-length-2
 same-length-2 c = search needs
 
 returns-2 : tie.Need-returns-2
-returns-2 c = let a = c .before .before .before .before .before .before .before .before .before .before .before .before .args in let p = c .before .before .before .before .before .before .put-field in let f = front-ten (a .phones .now) (replicate 257 10) _ _ refl (p .ensures .0) (p .ensures .1) in (omega (arith, c .before .before .before .before .before .before .before .before .before .before .before .before .pre .0, c .before .before .write-line .ensures .0, ap length f), printed-is (10 ∷ a .phones .now) _ (a .out .now) _ f (c .before .before .write-line .ensures .1) ∙ ap (λ (l : List ℕ). over l (a .out .now)) (done-sized (length (a .f .now)) 1 malformedLine (printed (10 ∷ a .phones .now)) (c .before .before .before .before .before .before .before .before .if1 .left)))
+unfolding shownPhones
+returns-2 c =
+    let a = c .before .before .before .before .before .before .before .before .before .before .before .before .args in
+    let p = c .before .before .before .before .before .before .put-field in
+    let f = front-ten (a .phones .now) (replicate 257 10) _ _ refl (p .ensures .0) (p .ensures .1) in
+    gives-same (printed (10 ∷ a .phones .now)) (shownPhones (a .f .now) (a .phones .now)) _ (a .out .now) _
+    (shown-so (length (a .f .now)) 1 (a .phones .now) (c .before .before .before .before .before .before .before .before .if1 .left))
+    (omega (arith, c .before .before .write-line .ensures .0, ap length f, length-printed (10 ∷ a .phones .now)))
+    (printed-is (10 ∷ a .phones .now) _ (a .out .now) _ f (c .before .before .write-line .ensures .1))
 
 pub show-phones-spec : {M : Type 1} → statement M
 show-phones-spec =

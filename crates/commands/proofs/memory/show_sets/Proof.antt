@@ -1,13 +1,8 @@
 -- `commands::memory::show_sets` meets its contract: the part that is asked for, where it is inside.
 -- Assumes nothing.
-use native.Mathlib.Omega.{arith}
-use Prim.Native.Nat.{ℕ}
-use mathlib.Core.Path.{ap, _∙_}
-use mathlib.Core.List.{List}
-use Rattle.rules.specs.Memory.{over}
 use Rattle.commands.specs.Memory.{eights, shownSets}
-use Rattle.commands.proofs.Shown.{shown-short, shown-out, shown-in}
 use borrow.Author.Needs.{needs}
+use Rattle.commands.proofs.Shown.{gives-same, gives-malformed, shown-short, shown-out, shown-in}
 use Rattle.commands.proofs.memory.show_sets.Statement.{statement}
 use Rattle.commands.proofs.memory.show_sets.Tie as tie
 
@@ -19,7 +14,9 @@ same-length c = search needs
 
 returns : tie.Need-returns
 unfolding shownSets
-returns c = let a = c .before .before .before .before .before .before .before .before .args in (omega (arith, c .before .before .malformed .ensures .0), c .before .before .malformed .ensures .1 ∙ ap (λ (l : List ℕ). over l (a .out .now)) (shown-short eights (a .f .now) (a .sets .now) (c .before .before .before .before .if1 .taken)))
+returns c =
+    let a = c .before .before .before .before .before .before .before .before .args in
+    gives-malformed (shownSets (a .f .now) (a .sets .now)) _ (a .out .now) _ (shown-short eights (a .f .now) (a .sets .now) (c .before .before .before .before .if1 .taken)) (c .before .before .malformed .ensures .0) (c .before .before .malformed .ensures .1)
 
 four-at-requires : tie.Need-four-at-requires
 four-at-requires c κs = search needs
@@ -41,7 +38,10 @@ same-length-2 c = search needs
 
 returns-2 : tie.Need-returns-2
 unfolding shownSets
-returns-2 c = let a = c .before .before .before .before .before .before .before .before .before .before .before .before .args in (omega (arith, c .before .before .malformed2 .ensures .0), c .before .before .malformed2 .ensures .1 ∙ ap (λ (l : List ℕ). over l (a .out .now)) (shown-out eights (a .f .now) (a .sets .now) _ _ (c .before .before .before .before .before .before .before .before .if1 .left) (c .before .before .before .before .before .before .before .four-at .ensures .0) (c .before .before .before .before .before .wide .ensures .0) (c .before .before .before .before .if2 .taken)))
+returns-2 c =
+    let a = c .before .before .before .before .before .before .before .before .before .before .before .before .args in
+    gives-malformed (shownSets (a .f .now) (a .sets .now)) _ (a .out .now) _
+    (shown-out eights (a .f .now) (a .sets .now) _ _ (c .before .before .before .before .before .before .before .before .if1 .left) (c .before .before .before .before .before .before .before .four-at .ensures .0) (c .before .before .before .before .before .wide .ensures .0) (c .before .before .before .before .if2 .taken)) (c .before .before .malformed2 .ensures .0) (c .before .before .malformed2 .ensures .1)
 
 mul-sets-line : tie.Need-mul-sets-line
 mul-sets-line c = search needs
@@ -63,7 +63,10 @@ same-length-3 c = search needs
 
 returns-3 : tie.Need-returns-3
 unfolding shownSets
-returns-3 c = let a = c .before .before .before .before .before .before .before .before .before .before .before .before .before .args in (c .before .before .sets-line .ensures .0, c .before .before .sets-line .ensures .1 ∙ ap (λ (l : List ℕ). over l (a .out .now)) (shown-in eights (a .f .now) (a .sets .now) _ _ (c .before .before .before .before .before .before .before .before .before .if1 .left) (c .before .before .before .before .before .before .before .before .four-at .ensures .0) (c .before .before .before .before .before .before .wide .ensures .0) (c .before .before .before .before .before .if2 .left)))
+returns-3 c =
+    let a = c .before .before .before .before .before .before .before .before .before .before .before .before .before .args in
+    gives-same _ (shownSets (a .f .now) (a .sets .now)) _ (a .out .now) _
+    (shown-in eights (a .f .now) (a .sets .now) _ _ (c .before .before .before .before .before .before .before .before .before .if1 .left) (c .before .before .before .before .before .before .before .before .four-at .ensures .0) (c .before .before .before .before .before .before .wide .ensures .0) (c .before .before .before .before .before .if2 .left)) (c .before .before .sets-line .ensures .0) (c .before .before .sets-line .ensures .1)
 
 pub show-sets-spec : {M : Type 1} → statement M
 show-sets-spec =

@@ -1,14 +1,9 @@
 -- `commands::memory::show_words` meets its contract: the part that is asked for, where it is inside.
 -- Assumes nothing.
-use native.Mathlib.Omega.{arith}
-use Prim.Native.Nat.{ℕ}
-use mathlib.Core.Path.{ap, _∙_}
-use mathlib.Core.List.{List}
-use Rattle.rules.specs.Memory.{over}
 use Rattle.transcript.specs.Answers.{twos}
 use Rattle.commands.specs.Memory.{shownWords}
-use Rattle.commands.proofs.Shown.{shown-short, shown-out, shown-in}
 use borrow.Author.Needs.{needs}
+use Rattle.commands.proofs.Shown.{gives-same, gives-malformed, shown-short, shown-out, shown-in}
 use Rattle.commands.proofs.memory.show_words.Statement.{statement}
 use Rattle.commands.proofs.memory.show_words.Tie as tie
 
@@ -20,7 +15,9 @@ same-length c = search needs
 
 returns : tie.Need-returns
 unfolding shownWords
-returns c = let a = c .before .before .before .before .before .before .before .before .args in (omega (arith, c .before .before .malformed .ensures .0), c .before .before .malformed .ensures .1 ∙ ap (λ (l : List ℕ). over l (a .out .now)) (shown-short twos (a .f .now) (a .words .now) (c .before .before .before .before .if1 .taken)))
+returns c =
+    let a = c .before .before .before .before .before .before .before .before .args in
+    gives-malformed (shownWords (a .f .now) (a .words .now)) _ (a .out .now) _ (shown-short twos (a .f .now) (a .words .now) (c .before .before .before .before .if1 .taken)) (c .before .before .malformed .ensures .0) (c .before .before .malformed .ensures .1)
 
 four-at-requires : tie.Need-four-at-requires
 four-at-requires c κs = search needs
@@ -42,7 +39,10 @@ same-length-2 c = search needs
 
 returns-2 : tie.Need-returns-2
 unfolding shownWords
-returns-2 c = let a = c .before .before .before .before .before .before .before .before .before .before .before .before .args in (omega (arith, c .before .before .malformed2 .ensures .0), c .before .before .malformed2 .ensures .1 ∙ ap (λ (l : List ℕ). over l (a .out .now)) (shown-out twos (a .f .now) (a .words .now) _ _ (c .before .before .before .before .before .before .before .before .if1 .left) (c .before .before .before .before .before .before .before .four-at .ensures .0) (c .before .before .before .before .before .wide .ensures .0) (c .before .before .before .before .if2 .taken)))
+returns-2 c =
+    let a = c .before .before .before .before .before .before .before .before .before .before .before .before .args in
+    gives-malformed (shownWords (a .f .now) (a .words .now)) _ (a .out .now) _
+    (shown-out twos (a .f .now) (a .words .now) _ _ (c .before .before .before .before .before .before .before .before .if1 .left) (c .before .before .before .before .before .before .before .four-at .ensures .0) (c .before .before .before .before .before .wide .ensures .0) (c .before .before .before .before .if2 .taken)) (c .before .before .malformed2 .ensures .0) (c .before .before .malformed2 .ensures .1)
 
 mul-words-line : tie.Need-mul-words-line
 mul-words-line c = search needs
@@ -64,7 +64,10 @@ same-length-3 c = search needs
 
 returns-3 : tie.Need-returns-3
 unfolding shownWords
-returns-3 c = let a = c .before .before .before .before .before .before .before .before .before .before .before .before .before .args in (c .before .before .words-line .ensures .0, c .before .before .words-line .ensures .1 ∙ ap (λ (l : List ℕ). over l (a .out .now)) (shown-in twos (a .f .now) (a .words .now) _ _ (c .before .before .before .before .before .before .before .before .before .if1 .left) (c .before .before .before .before .before .before .before .before .four-at .ensures .0) (c .before .before .before .before .before .before .wide .ensures .0) (c .before .before .before .before .before .if2 .left)))
+returns-3 c =
+    let a = c .before .before .before .before .before .before .before .before .before .before .before .before .before .args in
+    gives-same _ (shownWords (a .f .now) (a .words .now)) _ (a .out .now) _
+    (shown-in twos (a .f .now) (a .words .now) _ _ (c .before .before .before .before .before .before .before .before .before .if1 .left) (c .before .before .before .before .before .before .before .before .four-at .ensures .0) (c .before .before .before .before .before .before .wide .ensures .0) (c .before .before .before .before .before .if2 .left)) (c .before .before .words-line .ensures .0) (c .before .before .words-line .ensures .1)
 
 pub show-words-spec : {M : Type 1} → statement M
 show-words-spec =

@@ -1,10 +1,13 @@
 -- `commands::memory::store_set` meets its contract: one element is stored where its index is inside.
 -- Assumes nothing.
 use lib.ListN.{length}
-use native.Mathlib.Omega.{arith}
 use Rattle.commands.specs.Fields.{four, eight}
-use Rattle.commands.proofs.Shown.{kept-short, stored-out, stored-in}
 use borrow.Author.Needs.{needs}
+use lib.Dec.{eqb}
+use borrow.Author.Tests.{ne-eqb}
+use Rattle.commands.specs.Memory.{storedAt, storedSet}
+use Rattle.commands.proofs.Replies.{answered-not}
+use Rattle.commands.proofs.Shown.{stored-out, stored-in}
 use Rattle.commands.proofs.memory.store_set.Statement.{statement}
 use Rattle.commands.proofs.memory.store_set.Tie as tie
 
@@ -15,7 +18,11 @@ same-length : tie.Need-same-length
 same-length c = search needs
 
 returns : tie.Need-returns
-returns c = let a = c .before .before .before .before .before .before .before .before .args in (omega (arith, c .before .before .malformed .ensures .0), kept-short (length (a .f .now)) 13 (a .sets .now) _ (c .before .before .before .before .if1 .taken))
+unfolding storedSet
+returns c =
+    let a = c .before .before .before .before .before .before .before .before .args in
+    answered-not (eqb (length (a .f .now)) 13) (storedAt (four 1 (a .f .now)) (eight 5 (a .f .now)) (a .sets .now)) (a .sets .now) (a .out .now) _ _
+    (ne-eqb (length (a .f .now)) 13 (c .before .before .before .before .if1 .taken)) (c .before .before .malformed .ensures .0) (c .before .before .malformed .ensures .1)
 
 four-at-requires : tie.Need-four-at-requires
 four-at-requires c κs = search needs
@@ -27,7 +34,11 @@ same-length-2 : tie.Need-same-length-2
 same-length-2 c = search needs
 
 returns-2 : tie.Need-returns-2
-returns-2 c = let a = c .before .before .before .before .before .before .before .before .before .before .args in (omega (arith, c .before .before .malformed2 .ensures .0), stored-out (length (a .f .now)) 13 (four 1 (a .f .now)) _ (eight 5 (a .f .now)) (a .sets .now) (c .before .before .before .before .before .before .if1 .left) (c .before .before .before .before .before .four-at .ensures .0) (c .before .before .before .before .if2 .taken))
+unfolding storedSet
+returns-2 c =
+    let a = c .before .before .before .before .before .before .before .before .before .before .args in
+    stored-out (length (a .f .now)) 13 (four 1 (a .f .now)) _ (eight 5 (a .f .now)) (a .sets .now) (a .out .now) _ _
+    (c .before .before .before .before .before .before .if1 .left) (c .before .before .before .before .before .four-at .ensures .0) (c .before .before .before .before .if2 .taken) (c .before .before .malformed2 .ensures .0) (c .before .before .malformed2 .ensures .1)
 
 eight-at-requires : tie.Need-eight-at-requires
 eight-at-requires c κs = search needs
@@ -48,7 +59,11 @@ same-length-4 : tie.Need-same-length-4
 same-length-4 c = search needs
 
 returns-3 : tie.Need-returns-3
-returns-3 c = let a = c .before .before .before .before .before .before .before .before .before .before .before .args in (omega (arith, c .before .before .done-line .ensures .0), stored-in (length (a .f .now)) 13 (four 1 (a .f .now)) _ (eight 5 (a .f .now)) _ (a .sets .now) (c .before .before .before .before .before .before .before .if1 .left) (c .before .before .before .before .before .before .four-at .ensures .0) (c .before .before .before .before .eight-at .ensures))
+unfolding storedSet
+returns-3 c =
+    let a = c .before .before .before .before .before .before .before .before .before .before .before .args in
+    stored-in (length (a .f .now)) 13 (four 1 (a .f .now)) _ (eight 5 (a .f .now)) (a .sets .now) (a .out .now) _ _
+    (c .before .before .before .before .before .before .before .if1 .left) (c .before .before .before .before .before .before .four-at .ensures .0) _ (c .before .before .before .before .before .if2 .left) (c .before .before .before .before .eight-at .ensures) (c .before .before .done-line .ensures .0) (c .before .before .done-line .ensures .1)
 
 pub store-set-spec : {M : Type 1} → statement M
 store-set-spec =

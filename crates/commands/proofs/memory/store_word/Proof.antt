@@ -1,11 +1,14 @@
 -- `commands::memory::store_word` meets its contract: one element is stored where its index is inside.
 -- Assumes nothing.
 use lib.ListN.{length}
-use native.Mathlib.Omega.{arith}
 use Rattle.image.specs.Image.{two}
 use Rattle.commands.specs.Fields.{four}
-use Rattle.commands.proofs.Shown.{kept-short, stored-out, stored-in}
 use borrow.Author.Needs.{needs}
+use lib.Dec.{eqb}
+use borrow.Author.Tests.{ne-eqb}
+use Rattle.commands.specs.Memory.{storedAt, storedWord}
+use Rattle.commands.proofs.Replies.{answered-not}
+use Rattle.commands.proofs.Shown.{stored-out, stored-in}
 use Rattle.commands.proofs.memory.store_word.Statement.{statement}
 use Rattle.commands.proofs.memory.store_word.Tie as tie
 
@@ -16,7 +19,11 @@ same-length : tie.Need-same-length
 same-length c = search needs
 
 returns : tie.Need-returns
-returns c = let a = c .before .before .before .before .before .before .before .before .args in (omega (arith, c .before .before .malformed .ensures .0), kept-short (length (a .f .now)) 7 (a .words .now) _ (c .before .before .before .before .if1 .taken))
+unfolding storedWord
+returns c =
+    let a = c .before .before .before .before .before .before .before .before .args in
+    answered-not (eqb (length (a .f .now)) 7) (storedAt (four 1 (a .f .now)) (two 5 (a .f .now)) (a .words .now)) (a .words .now) (a .out .now) _ _
+    (ne-eqb (length (a .f .now)) 7 (c .before .before .before .before .if1 .taken)) (c .before .before .malformed .ensures .0) (c .before .before .malformed .ensures .1)
 
 four-at-requires : tie.Need-four-at-requires
 four-at-requires c κs = search needs
@@ -28,7 +35,11 @@ same-length-2 : tie.Need-same-length-2
 same-length-2 c = search needs
 
 returns-2 : tie.Need-returns-2
-returns-2 c = let a = c .before .before .before .before .before .before .before .before .before .before .args in (omega (arith, c .before .before .malformed2 .ensures .0), stored-out (length (a .f .now)) 7 (four 1 (a .f .now)) _ (two 5 (a .f .now)) (a .words .now) (c .before .before .before .before .before .before .if1 .left) (c .before .before .before .before .before .four-at .ensures .0) (c .before .before .before .before .if2 .taken))
+unfolding storedWord
+returns-2 c =
+    let a = c .before .before .before .before .before .before .before .before .before .before .args in
+    stored-out (length (a .f .now)) 7 (four 1 (a .f .now)) _ (two 5 (a .f .now)) (a .words .now) (a .out .now) _ _
+    (c .before .before .before .before .before .before .if1 .left) (c .before .before .before .before .before .four-at .ensures .0) (c .before .before .before .before .if2 .taken) (c .before .before .malformed2 .ensures .0) (c .before .before .malformed2 .ensures .1)
 
 two-at-requires : tie.Need-two-at-requires
 two-at-requires c κs = search needs
@@ -49,7 +60,11 @@ same-length-4 : tie.Need-same-length-4
 same-length-4 c = search needs
 
 returns-3 : tie.Need-returns-3
-returns-3 c = let a = c .before .before .before .before .before .before .before .before .before .before .before .args in (omega (arith, c .before .before .done-line .ensures .0), stored-in (length (a .f .now)) 7 (four 1 (a .f .now)) _ (two 5 (a .f .now)) _ (a .words .now) (c .before .before .before .before .before .before .before .if1 .left) (c .before .before .before .before .before .before .four-at .ensures .0) (c .before .before .before .before .two-at .ensures))
+unfolding storedWord
+returns-3 c =
+    let a = c .before .before .before .before .before .before .before .before .before .before .before .args in
+    stored-in (length (a .f .now)) 7 (four 1 (a .f .now)) _ (two 5 (a .f .now)) (a .words .now) (a .out .now) _ _
+    (c .before .before .before .before .before .before .before .if1 .left) (c .before .before .before .before .before .before .four-at .ensures .0) _ (c .before .before .before .before .before .if2 .left) (c .before .before .before .before .two-at .ensures) (c .before .before .done-line .ensures .0) (c .before .before .done-line .ensures .1)
 
 pub store-word-spec : {M : Type 1} → statement M
 store-word-spec =

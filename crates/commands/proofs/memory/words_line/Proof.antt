@@ -1,12 +1,11 @@
 -- `commands::memory::words_line` meets its contract: 0A and the words as a line.
 -- Assumes nothing.
-use lib.ListN.{replicate}
-use lib.ListN.{length}
+use lib.ListN.{length, replicate}
 use native.Mathlib.Omega.{arith}
 use Prim.Native.Nat.{_+_}
 use mathlib.Core.Path.{_≡_, refl, ap}
 use mathlib.Core.List.{_∷_}
-use Rattle.transcript.proofs.Printed.{printed-is}
+use Rattle.transcript.proofs.Printed.{printed-is, length-printed}
 use Rattle.transcript.proofs.Fields.{length-twos}
 use Rattle.transcript.specs.Answers.{twos}
 use Rattle.commands.proofs.Shown.{front-ten}
@@ -33,7 +32,14 @@ same-length : tie.Need-same-length
 same-length c = search needs
 
 returns : tie.Need-returns
-returns c = let a = c .before .before .before .before .before .before .before .before .before .before .args in let t = twos (a .words .now) in let l = length-twos (a .words .now) in let p = c .before .before .before .before .before .before .put-numbers in let e : p .result ≡ 1 + length t = omega (arith, l, p .ensures .0) in let f = front-ten t (replicate 511 10) _ _ refl e (p .ensures .1) in (omega (arith, l, c .before .before .before .before .before .before .before .before .before .before .pre .0, c .before .before .write-line .ensures .0, ap length f), printed-is (10 ∷ t) _ (a .out .now) _ f (c .before .before .write-line .ensures .1))
+returns c =
+    let a = c .before .before .before .before .before .before .before .before .before .before .args in
+    let t = twos (a .words .now) in
+    let l = length-twos (a .words .now) in
+    let p = c .before .before .before .before .before .before .put-numbers in
+    let e : p .result ≡ 1 + length t = omega (arith, l, p .ensures .0) in
+    let f = front-ten t (replicate 511 10) _ _ refl e (p .ensures .1) in
+    (omega (arith, c .before .before .write-line .ensures .0, ap length f, length-printed (10 ∷ t)), printed-is (10 ∷ t) _ (a .out .now) _ f (c .before .before .write-line .ensures .1))
 
 pub words-line-spec : {M : Type 1} → statement M
 words-line-spec =

@@ -4,6 +4,12 @@ use Rattle.commands.proofs.Lent.{same-room}
 use Rattle.reading.specs.Speech.{toldOf}
 use native.Mathlib.Omega.{arith}
 use borrow.Author.Needs.{needs}
+use lib.Dec.{leb}
+use lib.ListN.{length, drop}
+use borrow.Author.Tests.{le-leb, lt-leb}
+use Rattle.image.specs.Image.{two}
+use Rattle.commands.specs.Lent.{lentOf, plainIn, plainEffects, plainBy}
+use Rattle.commands.proofs.Replies.{both-not, both-read}
 use Rattle.commands.proofs.speaking.plain_command.Statement.{statement}
 use Rattle.commands.proofs.speaking.plain_command.Tie as tie
 
@@ -14,7 +20,11 @@ same-length : tie.Need-same-length
 same-length c = search needs
 
 returns : tie.Need-returns
-returns c = search needs
+unfolding plainBy
+returns c =
+    let a = c .before .before .before .before .before .before .before .before .before .before .args in
+    both-not (leb 5 (length (a .f .now))) (plainEffects (plainIn (lentOf (two 1 (a .f .now)) (length (a .phones .now))) (lentOf (two 3 (a .f .now)) (length (a .numbers .now))) (a .image .now) (drop 5 (a .f .now)) (a .phones .now) (a .numbers .now))) (a .phones .now) (a .numbers .now) (a .out .now) _ _
+    (lt-leb 5 (length (a .f .now)) (c .before .before .before .before .if1 .taken)) (c .before .before .malformed .ensures .0) (c .before .before .malformed .ensures .1)
 
 plain-lent-requires : tie.Need-plain-lent-requires
 plain-lent-requires c κs = search needs
@@ -32,7 +42,12 @@ same-length-4 : tie.Need-same-length-4
 same-length-4 c = search needs
 
 returns-2 : tie.Need-returns-2
-returns-2 c = search needs
+unfolding plainBy
+returns-2 c =
+    let a = c .before .before .before .before .before .before .before .before .before .before .before .before .before .before .before .before .before .before .before .args in
+    both-read (leb 5 (length (a .f .now))) (a .phones .now) (a .numbers .now) (a .out .now) _ _ (le-leb 5 (length (a .f .now)) (c .before .before .before .before .before .before .before .before .before .before .before .before .before .if1 .left)) _ _
+    (plainIn (lentOf (two 1 (a .f .now)) (length (a .phones .now))) (lentOf (two 3 (a .f .now)) (length (a .numbers .now))) (a .image .now) (drop 5 (a .f .now)) (a .phones .now) (a .numbers .now)) (toldOf (c .before .before .before .before .before .before .before .before .before .before .plain-lent .result))
+    (c .before .before .before .before .before .before .before .before .before .before .plain-lent .ensures .0) (c .before .before .plain-line .ensures)
 
 pub plain-command-spec : {M : Type 1} → statement M
 plain-command-spec =

@@ -1,8 +1,6 @@
 -- `commands::speaking::plain_line` meets its contract: a plain reading is answered as a walk of no steps.
 -- Assumes nothing.
 use borrow.Author.Needs.{needs}
-use Rattle.reading.specs.Speech.{toldOf}
-use Rattle.commands.proofs.Lent.{told-short}
 use Rattle.commands.proofs.speaking.plain_line.Statement.{statement}
 use Rattle.commands.proofs.speaking.plain_line.Tie as tie
 
@@ -13,7 +11,8 @@ same-length : tie.Need-same-length
 same-length c = search needs
 
 returns : tie.Need-returns
-returns c = let a = c .before .before .before .before .before .before .before .args in told-short _ (toldOf (a .speech)) 0 (a .phones .now) (a .numbers .now) (c .before .before .answer-line .ensures .0) (c .before .before .before .before .before .before .before .pre .0) (c .before .before .before .before .before .before .before .pre .1 .0)
+returns c =
+    (c .before .before .answer-line .ensures .0, c .before .before .answer-line .ensures .1)
 
 pub plain-line-spec : {M : Type 1} → statement M
 plain-line-spec = tie.close (tie.spec answer-line-requires same-length returns)

@@ -4,6 +4,13 @@ use Rattle.commands.proofs.Lent.{same-room}
 use Rattle.reading.specs.Speech.{toldOf}
 use native.Mathlib.Omega.{arith}
 use borrow.Author.Needs.{needs}
+use lib.Dec.{leb}
+use lib.ListN.{length, take, drop}
+use borrow.Author.Tests.{le-leb, lt-leb}
+use Rattle.image.specs.Image.{two}
+use Rattle.commands.specs.Fields.{four}
+use Rattle.commands.specs.Lent.{lentOf, walkIn, walkEffects, walkedBy}
+use Rattle.commands.proofs.Replies.{both-not, both-walked}
 use Rattle.commands.proofs.speaking.walk_command.Statement.{statement}
 use Rattle.commands.proofs.speaking.walk_command.Tie as tie
 
@@ -14,7 +21,11 @@ same-length : tie.Need-same-length
 same-length c = search needs
 
 returns : tie.Need-returns
-returns c = search needs
+unfolding walkedBy
+returns c =
+    let a = c .before .before .before .before .before .before .before .before .before .before .before .before .args in
+    both-not (leb 13 (length (a .f .now))) (walkEffects (walkIn (lentOf (two 9 (a .f .now)) (length (a .phones .now))) (lentOf (two 11 (a .f .now)) (length (a .numbers .now))) (a .image .now) (take (lentOf (four 1 (a .f .now)) (length (a .words .now))) (a .words .now)) (take (lentOf (four 5 (a .f .now)) (length (a .sets .now))) (a .sets .now)) (drop 13 (a .f .now)) (a .phones .now) (a .numbers .now))) (a .phones .now) (a .numbers .now) (a .out .now) _ _
+    (lt-leb 13 (length (a .f .now)) (c .before .before .before .before .if1 .taken)) (c .before .before .malformed .ensures .0) (c .before .before .malformed .ensures .1)
 
 walk-lent-requires : tie.Need-walk-lent-requires
 walk-lent-requires c κs = search needs
@@ -32,7 +43,12 @@ same-length-4 : tie.Need-same-length-4
 same-length-4 c = search needs
 
 returns-2 : tie.Need-returns-2
-returns-2 c = search needs
+unfolding walkedBy
+returns-2 c =
+    let a = c .before .before .before .before .before .before .before .before .before .before .before .before .before .before .before .before .before .before .before .before .before .args in
+    both-walked (leb 13 (length (a .f .now))) (a .phones .now) (a .numbers .now) (a .out .now) _ _ (le-leb 13 (length (a .f .now)) (c .before .before .before .before .before .before .before .before .before .before .before .before .before .if1 .left)) _ _
+    (walkIn (lentOf (two 9 (a .f .now)) (length (a .phones .now))) (lentOf (two 11 (a .f .now)) (length (a .numbers .now))) (a .image .now) (take (lentOf (four 1 (a .f .now)) (length (a .words .now))) (a .words .now)) (take (lentOf (four 5 (a .f .now)) (length (a .sets .now))) (a .sets .now)) (drop 13 (a .f .now)) (a .phones .now) (a .numbers .now)) (toldOf (c .before .before .before .before .before .before .before .before .before .before .walk-lent .result .speech)) (c .before .before .before .before .before .before .before .before .before .before .walk-lent .result .steps)
+    (c .before .before .before .before .before .before .before .before .before .before .walk-lent .ensures .0) (c .before .before .walk-line .ensures)
 
 pub walk-command-spec : {M : Type 1} → statement M
 walk-command-spec =

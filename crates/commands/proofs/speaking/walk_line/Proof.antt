@@ -1,8 +1,7 @@
 -- `commands::speaking::walk_line` meets its contract: a refusal has a line of its own, any other speech is answered as it is told.
 -- Assumes nothing.
-use Rattle.commands.proofs.Lent.{told-short}
-use Rattle.reading.specs.Speech.{toldOf}
 use borrow.Author.Needs.{needs}
+use Rattle.commands.proofs.Replies.{walk-refused, walk-spoken}
 use Rattle.commands.proofs.speaking.walk_line.Statement.{statement}
 use Rattle.commands.proofs.speaking.walk_line.Tie as tie
 
@@ -16,7 +15,9 @@ same-length : tie.Need-same-length
 same-length c = search needs
 
 returns : tie.Need-returns
-returns c = search needs
+returns c =
+    let a = c .before .before .before .before .before .before .before .before .before .before .args in
+    walk-refused (a .answer .speech) (a .answer .steps) (a .phones .now) (a .numbers .now) _ (a .out .now) _ _ (c .before .before .before .before .before .speech .given .1) (c .before .before .walk-refusal .ensures .0) (c .before .before .walk-refusal .ensures .1)
 
 enum-told : tie.Need-enum-told
 enum-told c = search needs
@@ -28,7 +29,9 @@ same-length-2 : tie.Need-same-length-2
 same-length-2 c = search needs
 
 returns-2 : tie.Need-returns-2
-returns-2 c = let a = c .before .before .before .before .before .before .before .before .before .args in told-short _ (toldOf (a .answer .speech)) (a .answer .steps) (a .phones .now) (a .numbers .now) (c .before .before .answer-line .ensures .0) (c .before .before .before .before .before .before .before .before .before .pre .0) (c .before .before .before .before .before .before .before .before .before .pre .1 .0)
+returns-2 c =
+    let a = c .before .before .before .before .before .before .before .before .before .args in
+    walk-spoken (a .answer .speech) (a .answer .steps) (a .phones .now) (a .numbers .now) _ (a .out .now) _ _ _ (c .before .before .before .before .enum-told .given .1) (c .before .before .answer-line .ensures)
 
 pub walk-line-spec : {M : Type 1} → statement M
 walk-line-spec =

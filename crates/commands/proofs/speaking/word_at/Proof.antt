@@ -2,11 +2,15 @@
 -- Assumes nothing.
 use native.Mathlib.Omega.{arith}
 use borrow.Author.Needs.{needs}
+use mathlib.Core.Path.{sym}
+use lib.ListN.{List·getD-eq-default}
 use Rattle.commands.proofs.speaking.word_at.Statement.{statement}
 use Rattle.commands.proofs.speaking.word_at.Tie as tie
 
 returns : tie.Need-returns
-returns c = search needs
+returns c =
+    let a = c .before .args in
+    sym (List·getD-eq-default (a .words .now) 0 (c .if1 .taken))
 
 mul-result : tie.Need-mul-result
 mul-result c = search needs
