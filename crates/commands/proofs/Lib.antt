@@ -4,3 +4,5 @@ pub mod Shown
 pub mod Eights
 pub mod Lent
 pub mod Writing
+pub mod Dispatch
+pub mod Hearing

@@ -71,15 +71,15 @@ bothSized b e xs ys = pick b e (leavingBoth malformedLine xs ys)
 abbrev pub ruled : Edited → Effect
 ruled e = leaving (editLine e) (e .image)
 
--- 10: add
+-- 10, p (2), four lengths (1 each), their bytes: add
 unfoldable pub added : List ℕ → List ℕ → Effect
 added f image = sizedTo (addSized f) (ruled (edited image (Add (ruleOf f) (two 1 f)))) image
 
--- 11: drop
+-- 11, number (2): drop
 unfoldable pub dropped : List ℕ → List ℕ → Effect
 dropped f image = sizedTo (eqb (length f) 3) (ruled (edited image (Drop (two 1 f)))) image
 
--- 12: move
+-- 12, number (2), p (2): move
 unfoldable pub moved : List ℕ → List ℕ → Effect
 moved f image = sizedTo (eqb (length f) 5) (ruled (edited image (Move (two 1 f) (two 3 f)))) image
 

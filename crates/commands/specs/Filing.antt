@@ -17,7 +17,7 @@ use Rattle.commands.specs.Lent.{lentOf, back}
 unfoldable pub loadedFrom : List ℕ → List ℕ → Edited
 loadedFrom file image = pick (leb (length file) 32768) (loaded file image) (outcome (declined 13 32768) image)
 
--- 13
+-- 13: read rules.hex; a refused file leaves the ruleset
 unfoldable pub loadedBy : List ℕ → List ℕ → List ℕ → Effect
 loadedBy f file image = sizedTo (eqb (length f) 1) (ruled (loadedFrom file image)) image
 
@@ -28,7 +28,7 @@ filedBack n out b = filing (b .report) (back n (b .bytes) out)
 unfoldable pub filedIn : ℕ → List ℕ → List ℕ → Filed
 filedIn n image out = filedBack n out (filed image (take n out))
 
--- what is answered: the file as it is, or the refusal
+-- the file's lines as they are, or the refusal
 abbrev pub reportLine : Report → List ℕ → List ℕ
 reportLine (wrote n) text = text
 reportLine (refused n p) text = printed (refusedBody n p)
@@ -37,6 +37,6 @@ reportLine (refused n p) text = printed (refusedBody n p)
 unfoldable pub fileLine : ℕ → List ℕ → List ℕ
 fileLine room image = reportLine (filed image (replicate room 0) .report) (encode (listingOf image))
 
--- 14, lent bytes (4); more than 29,199 count as that
+-- 14, lent bytes (4, at most 29,199: more counts as that): write
 unfoldable pub writeLine : List ℕ → List ℕ → List ℕ
 writeLine f image = pick (eqb (length f) 5) (fileLine (lentOf (four 1 f) 29199) image) malformedLine

@@ -51,7 +51,7 @@ buildLine (declined n p) words = printed (refusedBody n p)
 abbrev pub buildEffects : Built → Effects
 buildEffects b = leavingBoth (buildLine (b .reply) (b .words)) (b .words) (b .sets)
 
--- 15, lent words (4), lent set words (4)
+-- 15, lent words (4), lent set words (4): build into the first so many
 unfoldable pub builtBy : List ℕ → List ℕ → List ℕ → List ℕ → Effects
 builtBy f image words sets =
     bothSized (eqb (length f) 9)
@@ -65,7 +65,7 @@ walkLine (refused n p) steps phones numbers = walkRefusal steps n p
 abbrev pub walkEffects : Walked → Effects
 walkEffects w = leavingBoth (walkLine (w .said .told) (w .steps) (w .said .phones) (w .said .numbers)) (w .said .phones) (w .said .numbers)
 
--- 16, lent words (4), lent set words (4), lent phones (2), lent numbers (2), letters
+-- 16, lent words (4), lent set words (4), lent phones (2), lent numbers (2), letters: walk, over the first so many of each
 unfoldable pub walkedBy : List ℕ → List ℕ → List ℕ → List ℕ → List ℕ → List ℕ → Effects
 walkedBy f image words sets phones numbers =
     bothSized (leb 13 (length f))
@@ -79,7 +79,7 @@ plainLine t phones numbers = printed (toldBody t 0 phones numbers)
 abbrev pub plainEffects : Said → Effects
 plainEffects s = leavingBoth (plainLine (s .told) (s .phones) (s .numbers)) (s .phones) (s .numbers)
 
--- 17, lent phones (2), lent numbers (2), letters
+-- 17, lent phones (2), lent numbers (2), letters: plain reading
 unfoldable pub plainBy : List ℕ → List ℕ → List ℕ → List ℕ → Effects
 plainBy f image phones numbers =
     bothSized (leb 5 (length f))

@@ -3,3 +3,4 @@ pub mod Answers
 pub mod Memory
 pub mod Lent
 pub mod Filing
+pub mod Monitor

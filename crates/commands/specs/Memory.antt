@@ -15,7 +15,7 @@ abbrev pub renumbered : ℕ → ℕ → ℕ → List ℕ → List ℕ
 renumbered place high low image =
     pick (ltb place 512) (set (set image (slotStart place) high) (slotStart place + 1) low) image
 
--- 1E, place (2), number (2), count (2), last (2)
+-- 1E, place (2), number (2), count (2), last (2): overwritten with no check
 abbrev pub forced : List ℕ → List ℕ → List ℕ
 forced f image =
     set (set (set (set (renumbered (two 1 f) (getD f 3 0) (getD f 4 0) image) 0 (getD f 5 0)) 1 (getD f 6 0)) 2 (getD f 7 0)) 3 (getD f 8 0)
@@ -23,19 +23,19 @@ forced f image =
 unfoldable pub forcedBy : List ℕ → List ℕ → Effect
 forcedBy f image = sizedTo (eqb (length f) 9) (leaving doneLine (forced f image)) image
 
--- 1F
+-- 1F: the empty ruleset again
 unfoldable pub clearedBy : List ℕ → List ℕ → Effect
 clearedBy f image = sizedTo (eqb (length f) 1) (leaving doneLine (cleared image .image)) image
 
--- one element stored, where its index is inside
+-- one element stored; an index outside the memory is malformed
 abbrev pub storedAt : ℕ → ℕ → List ℕ → Effect
 storedAt i v xs = sizedTo (ltb i (length xs)) (leaving doneLine (set xs i v)) xs
 
--- 18, index (4), value (2)
+-- 18, index (4), value (2): store one word
 unfoldable pub storedWord : List ℕ → List ℕ → Effect
 storedWord f words = sizedTo (eqb (length f) 7) (storedAt (four 1 f) (two 5 f) words) words
 
--- 19, index (4), value (8)
+-- 19, index (4), value (8): store one set word
 unfoldable pub storedSet : List ℕ → List ℕ → Effect
 storedSet f sets = sizedTo (eqb (length f) 13) (storedAt (four 1 f) (eight 5 f) sets) sets
 
@@ -56,7 +56,7 @@ abbrev pub eights : List ℕ → List ℕ
 eights [] = []
 eights (w ∷ l) = bytes8 w ++ eights l
 
--- what is shown: 0A and the bytes, where the frame asks for what there is
+-- 0A and the bytes that are asked for, where they are there
 abbrev pub shownIf : Bool → List ℕ → List ℕ
 shownIf b bytes = pick b (printed (10 ∷ bytes)) malformedLine
 
@@ -65,19 +65,19 @@ abbrev pub shown : (List ℕ → List ℕ) → List ℕ → List ℕ → List �
 shown bytes f xs =
     pick (eqb (length f) 6) (shownIf (leb (four 1 f + getD f 5 0) (length xs)) (bytes (take (getD f 5 0) (drop (four 1 f) xs)))) malformedLine
 
--- 1A
+-- 1A: show words, 2 bytes each
 unfoldable pub shownWords : List ℕ → List ℕ → List ℕ
 shownWords = shown twos
 
--- 1B
+-- 1B: show set words, 8 bytes each
 unfoldable pub shownSets : List ℕ → List ℕ → List ℕ
 shownSets = shown eights
 
--- 1C
+-- 1C: show the phone bytes
 unfoldable pub shownPhones : List ℕ → List ℕ → List ℕ
 shownPhones f phones = shownIf (eqb (length f) 1) phones
 
--- 1D
+-- 1D: show the numbers, 2 bytes each
 unfoldable pub shownNumbers : List ℕ → List ℕ → List ℕ
 shownNumbers f numbers = shownIf (eqb (length f) 1) (twos numbers)
 

@@ -6,14 +6,20 @@ mod filing;
 mod memory;
 mod speaking;
 
+ghost use mathlib.Core.Path.{_≡_};
 ghost use Prim.Native.Nat.{ℕ, _≤_};
-ghost use lib.ListN.{length};
+ghost use lib.ListN.{length, take};
+ghost use Rattle.rules.specs.Memory.{over};
+ghost use Rattle.frames.specs.Lines.{soundLine, decoded};
 ghost use Rattle.commands.specs.Memory.{Held};
+ghost use Rattle.commands.specs.Monitor.{heardIn, readsFile, holding, answerTo, Replied};
 
 // The bytes of a line without their checksum, at the front of `frame`: how many there are, 0 for a line that is unsound or whose bytes have no
 // room. 2,048 bytes have room for each line of at most 4,096 digits.
 pub fn hear(text: &[u8], frame: &mut [u8]) -> usize
-    ensures { λ r. ⌜ r ≤ length (now (frame .exit)) ⌝ }
+    ensures heard { λ r. ⌜ take r (now (frame .exit)) ≡ heardIn (length (now (frame .entry))) (soundLine (now (text .entry))) ⌝ }
+    ensures within { λ r. ⌜ r ≤ length (now (frame .exit)) ⌝ }
+    ensures bytes { λ _. ⌜ now (frame .exit) ≡ over (take (length (now (frame .entry))) (decoded (now (text .entry)))) (now (frame .entry)) ⌝ }
 {
     let line = frames::read_line(text, 0, &mut *frame);
     let n = line.len;
@@ -30,7 +36,9 @@ pub fn hear(text: &[u8], frame: &mut [u8]) -> usize
 }
 
 // Whether a command reads rules.hex.
-pub fn asks_for_file(f: &[u8]) -> bool {
+pub fn asks_for_file(f: &[u8]) -> bool
+    ensures { λ r. ⌜ r ≡ readsFile (now (f .entry)) ⌝ }
+{
     if f.len() != 1 {
         return false;
     }
@@ -49,7 +57,8 @@ pub fn answer(
     out: &mut [u8],
 ) -> usize
     requires { ⌜ Held (length (now image)) (length (now phones)) (length (now numbers)) (length (now out)) ⌝ }
-    ensures { λ r. ⌜ r ≤ length (now (out .exit)) ⌝ }
+    ensures replied { λ r. ⌜ Replied (answerTo (now (f .entry)) (now (file .entry)) (holding (now (image .entry)) (now (words .entry)) (now (sets .entry)) (now (phones .entry)) (now (numbers .entry)))) (holding (now (image .exit)) (now (words .exit)) (now (sets .exit)) (now (phones .exit)) (now (numbers .exit))) r (now (out .entry)) (now (out .exit)) ⌝ }
+    ensures within { λ r. ⌜ r ≤ length (now (out .exit)) ⌝ }
 {
     if f.len() == 0 {
         return answers::malformed(out);

@@ -13,7 +13,7 @@ slice-reshare-prefix-fetch : tie.Need-slice-reshare-prefix-fetch
 slice-reshare-prefix-fetch c = search needs
 
 slice-aggregate-fetch : tie.Need-slice-aggregate-fetch
-slice-aggregate-fetch c = sym (length-take-le _ _ (c .before .before .before .hear .ensures))
+slice-aggregate-fetch c = sym (length-take-le _ _ (c .before .before .before .hear .ensures .1 .0))
 
 fetch-requires : tie.Need-fetch-requires
 fetch-requires c κs = search needs
@@ -22,7 +22,7 @@ slice-reshare-prefix-answer : tie.Need-slice-reshare-prefix-answer
 slice-reshare-prefix-answer c = search needs
 
 slice-aggregate-answer : tie.Need-slice-aggregate-answer
-slice-aggregate-answer c = sym (length-take-le _ _ (c .before .before .before .before .before .before .before .before .hear .ensures))
+slice-aggregate-answer c = sym (length-take-le _ _ (c .before .before .before .before .before .before .before .before .hear .ensures .1 .0))
 
 slice-reshare-prefix-answer-2 : tie.Need-slice-reshare-prefix-answer-2
 slice-reshare-prefix-answer-2 c = search needs

@@ -1,0 +1,91 @@
+-- A line heard and a command answered: what the monitor holds, and all that a command comes to by its first byte (docs/MONITOR.md).
+use Prim.Native.Nat.{ℕ, _-_}
+use mathlib.Core.Path.{_≡_}
+use mathlib.Core.List.{List, []}
+use mathlib.Core.Bool.{Bool, false}
+use lib.Dec.{leb, eqb}
+use lib.ListN.{length, getD, take}
+use Rattle.rules.specs.Memory.{over}
+use Rattle.rules.specs.Shape.{pick}
+use Rattle.frames.specs.Lines.{Parsed}
+use Rattle.frames.specs.Lines.Parsed.{Bad, Good}
+use Rattle.commands.specs.Answers.{Effect, Effects, malformedLine, added, dropped, moved}
+use Rattle.commands.specs.Memory.{forcedBy, clearedBy, storedWord, storedSet, shownWords, shownSets, shownPhones, shownNumbers}
+use Rattle.commands.specs.Lent.{builtBy, walkedBy, plainBy}
+use Rattle.commands.specs.Filing.{loadedBy, writeLine}
+
+-- the bytes of a sound line without their checksum, where all of them have room; of any other line none
+abbrev pub heardIn : ℕ → Parsed → List ℕ
+heardIn room Bad = []
+heardIn room (Good f rest) = pick (leb (length f) room) (take (length f - 1) f) []
+
+-- whether a command reads rules.hex
+unfoldable pub readsFile : List ℕ → Bool
+readsFile f = pick (eqb (length f) 1) (eqb (getD f 0 0) 19) false
+
+-- what the monitor holds
+pub record State : Type 0 where
+  pub image : List ℕ
+  pub words : List ℕ
+  pub sets : List ℕ
+  pub phones : List ℕ
+  pub numbers : List ℕ
+
+abbrev pub holding : List ℕ → List ℕ → List ℕ → List ℕ → List ℕ → State
+holding image words sets phones numbers = record { image = image; words = words; sets = sets; phones = phones; numbers = numbers }
+
+-- the line of an answer, and what is held after it
+pub record Outcome : Type 0 where
+  pub line : List ℕ
+  pub state : State
+
+-- ---- what is not lent to a command to change stays as it is
+
+abbrev pub onImage : State → Effect → Outcome
+onImage s e = record { line = e .line; state = holding (e .after) (s .words) (s .sets) (s .phones) (s .numbers) }
+
+abbrev pub onWords : State → Effect → Outcome
+onWords s e = record { line = e .line; state = holding (s .image) (e .after) (s .sets) (s .phones) (s .numbers) }
+
+abbrev pub onSets : State → Effect → Outcome
+onSets s e = record { line = e .line; state = holding (s .image) (s .words) (e .after) (s .phones) (s .numbers) }
+
+abbrev pub onTables : State → Effects → Outcome
+onTables s e = record { line = e .line; state = holding (s .image) (e .first) (e .second) (s .phones) (s .numbers) }
+
+abbrev pub onSpeech : State → Effects → Outcome
+onSpeech s e = record { line = e .line; state = holding (s .image) (s .words) (s .sets) (e .first) (e .second) }
+
+abbrev pub shows : State → List ℕ → Outcome
+shows s line = record { line = line; state = s }
+
+-- 10 to 1F; `file` is what rules.hex holds
+unfoldable pub byKind : ℕ → List ℕ → List ℕ → State → Outcome
+byKind kind f file s =
+    pick (eqb kind 16) (onImage s (added f (s .image)))
+    (pick (eqb kind 17) (onImage s (dropped f (s .image)))
+    (pick (eqb kind 18) (onImage s (moved f (s .image)))
+    (pick (eqb kind 19) (onImage s (loadedBy f file (s .image)))
+    (pick (eqb kind 20) (shows s (writeLine f (s .image)))
+    (pick (eqb kind 21) (onTables s (builtBy f (s .image) (s .words) (s .sets)))
+    (pick (eqb kind 22) (onSpeech s (walkedBy f (s .image) (s .words) (s .sets) (s .phones) (s .numbers)))
+    (pick (eqb kind 23) (onSpeech s (plainBy f (s .image) (s .phones) (s .numbers)))
+    (pick (eqb kind 24) (onWords s (storedWord f (s .words)))
+    (pick (eqb kind 25) (onSets s (storedSet f (s .sets)))
+    (pick (eqb kind 26) (shows s (shownWords f (s .words)))
+    (pick (eqb kind 27) (shows s (shownSets f (s .sets)))
+    (pick (eqb kind 28) (shows s (shownPhones f (s .phones)))
+    (pick (eqb kind 29) (shows s (shownNumbers f (s .numbers)))
+    (pick (eqb kind 30) (onImage s (forcedBy f (s .image)))
+    (pick (eqb kind 31) (onImage s (clearedBy f (s .image)))
+    (shows s malformedLine))))))))))))))))
+
+-- the answer to a command; a frame of no bytes is none
+unfoldable pub answerTo : List ℕ → List ℕ → State → Outcome
+answerTo f file s = byKind (getD f 0 0) f file s
+
+-- an answer that was given: what is held after it, and its line at the front of the lent bytes
+pub record Replied (o : Outcome) (held : State) (len : ℕ) (out out′ : List ℕ) : Type 0 where
+  pub kept : held ≡ o .state
+  pub many : len ≡ length (o .line)
+  pub bytes : out′ ≡ over (o .line) out
