@@ -1,7 +1,7 @@
 // The fields of a command's bytes.
 use rules::Rule;
 ghost use mathlib.Core.Path.{_≡_};
-ghost use Prim.Native.Nat.{ℕ, _+_, _*_, _<_, _≤_};
+ghost use Prim.Native.Nat.{ℕ, _+_, _<_, _≤_};
 ghost use lib.ListN.{length, getD, take, drop};
 ghost use Rattle.image.specs.Image.{two};
 ghost use Rattle.commands.specs.Fields.{four, eight, fieldOf, addSized, AddSized, ruleOf};

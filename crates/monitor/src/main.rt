@@ -1,7 +1,6 @@
 // The serial monitor: lines of commands on standard input, each answered before the next is read (docs/MONITOR.md).
 use libc::STDIN_FILENO;
 use libc::STDOUT_FILENO;
-ghost use mathlib.Core.Path.{_≡_};
 ghost use Prim.Native.Nat.{ℕ, _≤_};
 ghost use lib.ListN.{length};
 ghost use Rattle.commands.specs.Memory.{Held};
