@@ -13,8 +13,8 @@ use Rattle.frames.specs.declared.Line.{Line}
 use Rattle.frames.specs.Lines.{Parsed, soundLine, decoded, report}
 use Rattle.frames.specs.Lines.Parsed.{Bad, Good}
 use Rattle.frames.proofs.Report.{Found, found, not-found, frame-held}
-use Rattle.file.specs.declared.Head.{Head}
-use Rattle.file.specs.declared.HeadLine.{HeadLine}
+use Rattle.file.specs.declared.heading.Head.{Head}
+use Rattle.file.specs.declared.heading.HeadLine.{HeadLine}
 use Rattle.file.specs.File.{isHead, headCount, headLast, readRules, readFile}
 use Rattle.file.specs.Loading.{verdict, noHead, headIn, headAt}
 use Rattle.file.proofs.Numbers.{clash}

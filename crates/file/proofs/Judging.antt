@@ -16,8 +16,8 @@ use Rattle.rules.specs.declared.Numbered.{Numbered}
 use Rattle.image.specs.Bits.{bit, held}
 use Rattle.image.proofs.Bits.{bit-zero, put-in, held-put}
 use Rattle.frames.specs.Lines.{soundLine}
-use Rattle.file.specs.declared.Ruled.{Ruled}
-use Rattle.file.specs.declared.RuleLine.{RuleLine}
+use Rattle.file.specs.declared.parsing.Ruled.{Ruled}
+use Rattle.file.specs.declared.parsing.RuleLine.{RuleLine}
 use Rattle.file.specs.Listing.{entry, member}
 use Rattle.file.specs.File.{Read, isRule, ruleOf, ruleFits, ended, readRules}
 use Rattle.file.specs.File.Read.{Accepted, Malformed, Broken}

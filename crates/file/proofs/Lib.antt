@@ -7,7 +7,7 @@ pub mod NextLine
 pub mod Judging
 pub mod Storing
 pub mod RuleBytes
-pub mod Writing
+pub mod FileBytes
 pub mod Example
 pub mod Round
 pub mod Longest

@@ -11,8 +11,8 @@ use Rattle.frames.specs.declared.Line.{Line}
 use Rattle.frames.specs.Lines.{Parsed, soundLine, decoded, report}
 use Rattle.frames.specs.Lines.Parsed.{Bad, Good}
 use Rattle.frames.proofs.Report.{Found, found, not-found, frame-held}
-use Rattle.file.specs.declared.Ruled.{Ruled}
-use Rattle.file.specs.declared.RuleLine.{RuleLine}
+use Rattle.file.specs.declared.parsing.Ruled.{Ruled}
+use Rattle.file.specs.declared.parsing.RuleLine.{RuleLine}
 use Rattle.file.specs.Loading.{noneRuled, ruledIn, ruleAt}
 use Rattle.file.proofs.Parts.{ruled-long}
 

@@ -14,8 +14,8 @@ use Rattle.rules.proofs.Cases.{byBool}
 use Rattle.rules.specs.Shape.{pick, first, Production, view, shape}
 use Rattle.rules.specs.declared.Rule.{Rule}
 use Rattle.image.specs.Image.{two}
-use Rattle.file.specs.declared.Head.{Head}
-use Rattle.file.specs.declared.Ruled.{Ruled}
+use Rattle.file.specs.declared.heading.Head.{Head}
+use Rattle.file.specs.declared.parsing.Ruled.{Ruled}
 use Rattle.file.specs.Listing.{entry}
 use Rattle.file.specs.File.{isRule, ruleOf}
 use Rattle.file.specs.Loading.{ruleStruct, noHead, headIn, noneRuled, ruleFrame, ruledIn}

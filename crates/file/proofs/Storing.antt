@@ -17,8 +17,8 @@ use Rattle.image.proofs.Stored.{Each, length-flat}
 use Rattle.image.proofs.Stored.Each.{none, more}
 use Rattle.frames.specs.Lines.{Parsed, soundLine}
 use Rattle.frames.specs.Lines.Parsed.{Bad, Good}
-use Rattle.file.specs.declared.HeadLine.{HeadLine}
-use Rattle.file.specs.declared.RuleLine.{RuleLine}
+use Rattle.file.specs.declared.heading.HeadLine.{HeadLine}
+use Rattle.file.specs.declared.parsing.RuleLine.{RuleLine}
 use Rattle.file.specs.Listing.{Listing, entry}
 use Rattle.file.specs.File.{Read, isRule, ruleOf, ruleFits, ended, readRules, readFile}
 use Rattle.file.specs.File.Read.{Accepted, Malformed, Broken}

@@ -16,10 +16,10 @@ use Rattle.frames.specs.Lines.{Parsed}
 use Rattle.frames.specs.Lines.Parsed.{Bad, Good}
 use Rattle.file.specs.declared.Written.{Written}
 use Rattle.file.specs.declared.Written.the-variants.{Bytes, Refused}
-use Rattle.file.specs.declared.Head.{Head}
-use Rattle.file.specs.declared.HeadLine.{HeadLine}
-use Rattle.file.specs.declared.Ruled.{Ruled}
-use Rattle.file.specs.declared.RuleLine.{RuleLine}
+use Rattle.file.specs.declared.heading.Head.{Head}
+use Rattle.file.specs.declared.heading.HeadLine.{HeadLine}
+use Rattle.file.specs.declared.parsing.Ruled.{Ruled}
+use Rattle.file.specs.declared.parsing.RuleLine.{RuleLine}
 use Rattle.file.specs.Listing.{Listing, entry}
 use Rattle.file.specs.File.{encode, Read, isHead, headCount, headLast, isRule, ruleOf, readFile}
 use Rattle.file.specs.File.Read.{Accepted, Malformed, Broken}

@@ -3,7 +3,7 @@ use mathlib.Core.Path.{sym, _∙_}
 use native.Mathlib.Omega.{arith}
 use borrow.Author.Tests.{not-true, not-false}
 use Rattle.image.proofs.Tests.{valid-long, valid-count}
-use Rattle.file.proofs.Writing.{write-none, write-room, headed-length, write-done, valid-entries}
+use Rattle.file.proofs.FileBytes.{write-none, write-room, headed-length, write-done, valid-entries}
 use borrow.Author.Needs.{needs}
 use Rattle.file.proofs.write_file.Statement.{statement}
 use Rattle.file.proofs.write_file.Tie as tie

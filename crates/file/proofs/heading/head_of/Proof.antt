@@ -1,0 +1,50 @@
+-- `file::heading::head_of` meets its contract: the tests in turn. Assumes nothing.
+use Rattle.file.proofs.Parts.{head-length, head-first, head-edition, head-many, head-ok}
+use borrow.Author.Needs.{needs}
+use Rattle.file.proofs.heading.head_of.Statement.{statement}
+use Rattle.file.proofs.heading.head_of.Tie as tie
+
+returns : tie.Need-returns
+returns c = head-length (c .before .before .args .f .now) (c .if1 .taken)
+
+shared-slice-read-if2 : tie.Need-shared-slice-read-if2
+shared-slice-read-if2 c = search needs
+
+returns-2 : tie.Need-returns-2
+returns-2 c = head-first (c .before .before .before .before .args .f .now) (c .before .before .if1 .left) (c .if2 .taken)
+
+shared-slice-read-if3 : tie.Need-shared-slice-read-if3
+shared-slice-read-if3 c = search needs
+
+returns-3 : tie.Need-returns-3
+returns-3 c = head-edition (c .before .before .before .before .before .before .args .f .now) (c .before .before .before .before .if1 .left) (c .before .before .if2 .left) (c .if3 .taken)
+
+two-at-requires : tie.Need-two-at-requires
+two-at-requires c κs = search needs
+
+cast-count : tie.Need-cast-count
+cast-count c = search needs
+
+returns-4 : tie.Need-returns-4
+returns-4 c = head-many (c .before .before .before .before .before .before .before .before .args .f .now) (c .before .before .before .before .before .before .if1 .left) (c .before .before .before .before .if2 .left) (c .before .before .if3 .left) _ (c .before .two-at .ensures) (c .if4 .taken)
+
+two-at-requires-2 : tie.Need-two-at-requires-2
+two-at-requires-2 c κs = search needs
+
+returns-5 : tie.Need-returns-5
+returns-5 c = head-ok (c .before .before .before .before .before .before .before .before .before .args .f .now) (c .before .before .before .before .before .before .before .if1 .left) (c .before .before .before .before .before .if2 .left) (c .before .before .before .if3 .left) _ (c .before .before .two-at .ensures) (c .before .if4 .left) _ (c .two-at2 .ensures)
+
+pub head-of-spec : {M : Type 1} → statement M
+head-of-spec =
+    tie.close
+    (tie.spec
+    returns
+    shared-slice-read-if2
+    returns-2
+    shared-slice-read-if3
+    returns-3
+    two-at-requires
+    cast-count
+    returns-4
+    two-at-requires-2
+    returns-5)

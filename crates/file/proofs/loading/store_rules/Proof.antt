@@ -1,0 +1,52 @@
+-- `file::loading::store_rules` meets its contract. The loop's invariant: the rules so far stand in their slots. Assumes nothing.
+use Prim.Native.Nat.{_-_}
+use native.Mathlib.Omega.{arith}
+use borrow.Author.Needs.{needs}
+use Rattle.file.proofs.Storing.{Stored, stored-start, stored-length, stored-next, stored-end}
+use Rattle.file.proofs.loading.store_rules.Statement.{statement}
+use Rattle.file.proofs.loading.store_rules.Tie as tie
+
+abbrev Inv-loop : tie.InvT-loop
+Inv-loop file from count last image₀ at₀ i₀ image at i = Stored file from count last image₀ image at i
+
+abbrev μ-loop : tie.MeasureT-loop
+μ-loop file from count last image₀ at₀ i₀ image at i = count - i
+
+loop-holds : tie.Need-loop-holds Inv-loop μ-loop
+loop-holds c = stored-start (c .before .before .args .file .now) (c .before .before .args .from) (c .before .before .args .count) (c .before .before .args .last) (c .before .before .args .image .now) (c .before .before .pre .0) (c .before .before .pre .1 .1 .0) (c .before .before .pre .1 .1 .1) (c .before .before .pre .1 .0)
+
+read-rule-requires : tie.Need-read-rule-requires Inv-loop μ-loop
+read-rule-requires c κs = search needs
+
+put-rule-requires : tie.Need-put-rule-requires Inv-loop μ-loop
+put-rule-requires c κs = (omega (arith, stored-length (c .before .before .before .before .before .before .before .before .args .file .now) (c .before .before .before .before .before .before .before .before .args .from) (c .before .before .before .before .before .before .before .before .args .count) (c .before .before .before .before .before .before .before .before .args .last) (c .before .before .before .before .before .before .before .before .args .image .now) (c .before .before .before .before .before .before .before .before .pre .0) (c .before .before .before .before .before .before .before .before .pre .1 .1 .0) (c .before .before .before .before .before .before .before .before .pre .1 .1 .1) (c .before .before .before .before .before .loop .image) (c .before .before .before .before .before .loop .at) (c .before .before .before .before .before .loop .i) (c .before .before .before .before .before .loop .inv)), omega (arith, stored-length (c .before .before .before .before .before .before .before .before .args .file .now) (c .before .before .before .before .before .before .before .before .args .from) (c .before .before .before .before .before .before .before .before .args .count) (c .before .before .before .before .before .before .before .before .args .last) (c .before .before .before .before .before .before .before .before .args .image .now) (c .before .before .before .before .before .before .before .before .pre .0) (c .before .before .before .before .before .before .before .before .pre .1 .1 .0) (c .before .before .before .before .before .before .before .before .pre .1 .1 .1) (c .before .before .before .before .before .loop .image) (c .before .before .before .before .before .loop .at) (c .before .before .before .before .before .loop .i) (c .before .before .before .before .before .loop .inv)))
+
+add-i : tie.Need-add-i Inv-loop μ-loop
+add-i c = search needs
+
+loop-less : tie.Need-loop-less Inv-loop μ-loop
+loop-less c = search needs
+
+loop-again : tie.Need-loop-again Inv-loop μ-loop
+loop-again c = stored-next (c .before .before .before .before .before .before .before .before .before .before .before .args .file .now) (c .before .before .before .before .before .before .before .before .before .before .before .args .from) (c .before .before .before .before .before .before .before .before .before .before .before .args .count) (c .before .before .before .before .before .before .before .before .before .before .before .args .last) (c .before .before .before .before .before .before .before .before .before .before .before .args .image .now) (c .before .before .before .before .before .before .before .before .before .before .before .pre .0) (c .before .before .before .before .before .before .before .before .before .before .before .pre .1 .1 .0) (c .before .before .before .before .before .before .before .before .before .before .before .pre .1 .1 .1) (c .before .before .before .before .before .before .before .before .loop .image) (c .before .before .before .before .before .before .before .before .loop .at) (c .before .before .before .before .before .before .before .before .loop .i) (c .before .before .before .before .before .before .before .before .loop .inv) (c .before .before .before .before .before .before .before .loop-test .taken) (c .before .before .before .before .before .before .read-rule .result) (c .before .before .before .before .before .before .read-rule .ensures) _ (c .before .before .put-rule .ensures)
+
+same-length : tie.Need-same-length Inv-loop μ-loop
+same-length c = stored-length (c .before .before .before .before .args .file .now) (c .before .before .before .before .args .from) (c .before .before .before .before .args .count) (c .before .before .before .before .args .last) (c .before .before .before .before .args .image .now) (c .before .before .before .before .pre .0) (c .before .before .before .before .pre .1 .1 .0) (c .before .before .before .before .pre .1 .1 .1) (c .before .loop .image) (c .before .loop .at) (c .before .loop .i) (c .before .loop .inv)
+
+returns : tie.Need-returns Inv-loop μ-loop
+returns c = stored-end (c .before .before .before .before .args .file .now) (c .before .before .before .before .args .from) (c .before .before .before .before .args .count) (c .before .before .before .before .args .last) (c .before .before .before .before .args .image .now) (c .before .before .before .before .pre .0) (c .before .before .before .before .pre .1 .1 .0) (c .before .before .before .before .pre .1 .1 .1) (c .before .loop .image) (c .before .loop .at) (c .before .loop .i) (c .before .loop .inv) (c .loop-test .left)
+
+pub store-rules-spec : {M : Type 1} → statement M
+store-rules-spec =
+    tie.close
+    (tie.spec
+    Inv-loop
+    μ-loop
+    loop-holds
+    read-rule-requires
+    put-rule-requires
+    add-i
+    loop-less
+    loop-again
+    same-length
+    returns)

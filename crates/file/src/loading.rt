@@ -1,0 +1,103 @@
+// A rule file judged whole, then stored in lent memory.
+use crate::heading;
+use crate::parsing;
+use rules::Answer;
+use rules::Refusal;
+ghost use mathlib.Core.Path.{_≡_};
+ghost use mathlib.Core.List.{_++_, [], map};
+ghost use Prim.Native.Nat.{_/_, _%_, _^_, _≤_};
+ghost use lib.ListN.{length, getD, take, drop, set, replicate};
+ghost use lib.Bits.{bitOr};
+ghost use Rattle.rules.specs.Refusals.{replyOf, accepted};
+ghost use Rattle.image.specs.Bits.{held};
+ghost use Rattle.image.specs.Image.{slotStart, flat, laid};
+ghost use Rattle.file.specs.File.{readRules, readFile};
+ghost use Rattle.file.specs.Loading.{numberedOf, ledgerFor, verdict, described};
+
+// Whether a set of numbers, a bit for each, holds n; then it does.
+fn mark(seen: &mut [u64], n: u16) -> bool
+    requires { ⌜ length (now seen) ≡ 1024 ⌝ }
+    ensures was { λ r. ⌜ r ≡ held (now (seen .entry)) n ⌝ }
+    ensures now { λ _. ⌜ now (seen .exit) ≡ set (now (seen .entry)) (n / 64) (bitOr (getD (now (seen .entry)) (n / 64) 0) (2 ^ (n % 64))) ⌝ }
+{
+    let w = (n / 64) as usize;
+    let k = (n % 64) as u64;
+    let word = seen[w];
+    seen[w] = image::with_bit(word, k);
+    image::has_bit(word, k)
+}
+
+// The rule lines from a place on, judged.
+fn judge_rules(file: &[u8], from: usize, count: usize, last: u16, seen: &mut [u64]) -> Answer
+    requires { ⌜ (from ≤ length (now file)) × (now seen ≡ replicate 1024 0) ⌝ }
+    ensures { λ r. ⌜ replyOf r ≡ verdict (readRules (length (now (file .entry))) last count [] (drop from (now (file .entry)))) ⌝ }
+{
+    let mut at = from;
+    let mut i: usize = 0;
+    while i < count {
+        let line = parsing::read_rule(file, at, last);
+        if !line.sound {
+            return Answer::Refused(Refusal::BadLine(at));
+        }
+        let ruled = line.ruled;
+        if !ruled.ok {
+            return Answer::Refused(Refusal::BadText(at));
+        }
+        let entry = ruled.entry;
+        if mark(&mut *seen, entry.number) {
+            return Answer::Refused(Refusal::BadText(at)); // its later line
+        }
+        at = line.next;
+        i += 1;
+    }
+    if at < file.len() {
+        return Answer::Refused(Refusal::BadText(at));
+    }
+    Answer::Accepted
+}
+
+// The whole file, judged: refusals 13 and 14.
+pub fn judge(file: &[u8]) -> Answer
+    ensures { λ r. ⌜ replyOf r ≡ verdict (readFile (now (file .entry))) ⌝ }
+{
+    let line = heading::read_head(file);
+    if !line.sound {
+        return Answer::Refused(Refusal::BadLine(0));
+    }
+    let head = line.head;
+    if !head.ok {
+        return Answer::Refused(Refusal::BadText(0));
+    }
+    let from = line.next;
+    let mut seen = [0u64; 1024];
+    judge_rules(file, from, head.count, head.last, &mut seen)
+}
+
+// The rules of lines that were judged, put into their slots.
+fn store_rules(file: &[u8], from: usize, count: usize, last: u16, image: &mut [u8])
+    requires { ⌜ (count ≤ 512) × ((from ≤ length (now file)) × ((13316 ≤ length (now image)) × (verdict (readRules (length (now file)) last count [] (drop from (now file))) ≡ accepted))) ⌝ }
+    ensures { λ _. ⌜ now (image .exit) ≡ take 4 (now (image .entry)) ++ (flat (map numberedOf (described (readRules (length (now (file .entry))) last count [] (drop from (now (file .entry)))) .rules)) ++ drop (slotStart count) (now (image .entry))) ⌝ }
+{
+    let mut at = from;
+    let mut i: usize = 0;
+    while i < count {
+        let line = parsing::read_rule(file, at, last);
+        let ruled = line.ruled;
+        let entry = ruled.entry;
+        image::put_rule(&mut *image, i, entry);
+        at = line.next;
+        i += 1;
+    }
+}
+
+// A file that was judged, put into an image.
+pub fn store_file(file: &[u8], image: &mut [u8])
+    requires { ⌜ (13316 ≤ length (now image)) × (verdict (readFile (now file)) ≡ accepted) ⌝ }
+    ensures { λ _. ⌜ now (image .exit) ≡ laid (ledgerFor (described (readFile (now (file .entry))))) (now (image .entry)) ⌝ }
+{
+    let line = heading::read_head(file);
+    let head = line.head;
+    let from = line.next;
+    image::put_head(&mut *image, head.count, head.last);
+    store_rules(file, from, head.count, head.last, image);
+}
