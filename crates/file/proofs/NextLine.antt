@@ -6,14 +6,17 @@ use mathlib.Core.List.{List}
 use mathlib.Core.Bool.{true, false}
 use native.Mathlib.Omega.{arith}
 use lib.ListN.{length, take, drop}
+use lib.Seq.{take-all, take-at}
 use Rattle.rules.specs.Memory.{over}
+use Rattle.rules.specs.declared.Numbered.{Numbered}
 use Rattle.frames.specs.declared.Line.{Line}
 use Rattle.frames.specs.Lines.{Parsed, soundLine, decoded, report}
 use Rattle.frames.specs.Lines.Parsed.{Bad, Good}
 use Rattle.frames.proofs.Report.{Found, found, not-found, frame-held}
 use Rattle.file.specs.declared.parsing.Ruled.{Ruled}
 use Rattle.file.specs.declared.parsing.RuleLine.{RuleLine}
-use Rattle.file.specs.Loading.{noneRuled, ruledIn, ruleAt}
+use Rattle.file.specs.File.{ruleOf}
+use Rattle.file.specs.Loading.{numberedOf, noneRuled, ruledIn, ruleAt}
 use Rattle.file.proofs.Parts.{ruled-long}
 
 -- ---- a rule's line, read into 28 lent bytes
@@ -79,3 +82,14 @@ module _ (file : List ℕ) (at last : ℕ) (line : RuleLine) (e : line ≡ ruleA
 
     pub line-within : line .next ≤ length file
     line-within = rw same-next (line-found .within)
+
+-- ---- a line that was judged
+
+-- its frame, in lent bytes that hold it
+pub frame-whole : (d xs z : List ℕ) (n : ℕ) → n ≡ length d → z ≡ over (take n d) xs → take n z ≡ d
+frame-whole d xs z n l e =
+    let t : take n d ≡ d = take-all n d (omega arith) in
+    ap (take n) (e ∙ ap (λ (w : List ℕ). over w xs) t) ∙ take-at d (drop (length d) xs) n (sym l)
+
+pub frame-entry : (d xs z : List ℕ) (n : ℕ) → n ≡ length d → z ≡ over (take n d) xs → (x : Numbered) → x ≡ numberedOf (ruleOf (take n z)) → x ≡ numberedOf (ruleOf d)
+frame-entry d xs z n l e x w = w ∙ ap (λ (f : List ℕ). numberedOf (ruleOf f)) (frame-whole d xs z n l e)

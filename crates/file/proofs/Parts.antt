@@ -142,7 +142,7 @@ take-most : (n : ℕ) (l : List ℕ) (m : ℕ) → n ≤ m → length (take n l)
 take-most n l m h = omega (arith, length-take n l)
 
 -- a frame of a rule of the shape has lengths that a rule can have
-shape-frame : (last : ℕ) (w : List ℕ) → isRule w ≡ true → entry last (ruleOf w) ≡ true → ruleFrame w ≡ true
+pub shape-frame : (last : ℕ) (w : List ℕ) → isRule w ≡ true → entry last (ruleOf w) ≡ true → ruleFrame w ≡ true
 shape-frame last w i e =
     let a = both (eqb (getD w 0 0) 2) _ i in
     let n = eqb-true (length w) (whole w) (a .1) in

@@ -6,28 +6,28 @@ use mathlib.Core.Bool.{true, false}
 use native.Mathlib.Omega.{arith}
 use borrow.Author.Tests.{le-leb, lt-leb}
 use lib.ListN.{length, take, drop, length-append, length-drop, length-map, take-append-drop}
-use lib.Seq.{take-at, drop-append-add, drop-drop, length-take-le}
+use lib.Seq.{take-at, drop-append-add, drop-append-seam, drop-drop, length-take-le}
 use Rattle.rules.proofs.Cases.{byBool}
-use Rattle.rules.specs.Shape.{pick, Entry}
+use Rattle.rules.specs.Shape.{Entry}
 use Rattle.rules.specs.Refusals.{accepted, declined}
 use Rattle.rules.specs.declared.Numbered.{Numbered}
 use Rattle.rules.proofs.Laws.{length-first}
 use Rattle.image.specs.Image.{bytesOf, slotStart, flat, headOf, laid, outcome}
 use Rattle.image.proofs.Stored.{Each, length-flat}
 use Rattle.image.proofs.Stored.Each.{none, more}
-use Rattle.frames.specs.Lines.{Parsed, soundLine}
+use Rattle.frames.specs.Lines.{lineOf, Parsed, soundLine, decoded}
 use Rattle.frames.specs.Lines.Parsed.{Bad, Good}
+use Rattle.frames.proofs.Lines.{sound-was, length-line}
+use Rattle.frames.proofs.Report.{decoded-sound}
 use Rattle.file.specs.declared.heading.HeadLine.{HeadLine}
-use Rattle.file.specs.declared.parsing.RuleLine.{RuleLine}
 use Rattle.file.specs.Listing.{Listing, entry}
 use Rattle.file.specs.File.{Read, isRule, ruleOf, ruleFits, ended, readRules, readFile}
 use Rattle.file.specs.File.Read.{Accepted, Malformed, Broken}
-use Rattle.file.specs.Loading.{numberedOf, ledgerFor, verdict, described, stored, loaded, headAt, ruledIn, ruleAt}
+use Rattle.file.specs.Loading.{numberedOf, ledgerFor, verdict, described, stored, loaded, headAt, ruleFrame}
 use Rattle.file.proofs.Bodies.{both}
-use Rattle.file.proofs.Numbers.{and}
 use Rattle.file.proofs.Accepts.{listing, Were, rules-were, read-malformed, read-broken, read-on}
 use Rattle.file.proofs.FirstLine.{no-decline, head-sound, head-ok, head-few, head-within, head-on}
-use Rattle.file.proofs.NextLine.{line-found, line-onward, line-within}
+use Rattle.file.proofs.Parts.{shape-frame}
 
 -- ---- what an accepted reading tells
 
@@ -54,12 +54,11 @@ next-by len last n done s (Good f rest) p e =
     (λ t. record { f = f; rest = rest; is = p; fits = t })
     (λ t. no-decline 14 (len - length s) (sym (ap verdict (read-broken len last n done s f rest p t)) ∙ e))
 
-ruled-entry : (last : ℕ) (done : List Entry) (f : List ℕ) → ruleFits last done f ≡ true → ruledIn last f .entry ≡ numberedOf (ruleOf f)
-ruled-entry last done f t =
+-- the frame of such a rule, as it stands in the text
+frame-of : (last : ℕ) (done : List Entry) (f : List ℕ) → ruleFits last done f ≡ true → ruleFrame f ≡ true
+frame-of last done f t =
     let a = both (isRule f) _ t in
-    let b = both (entry last (ruleOf f)) _ (a .1) in
-    let c : pick (isRule f) (entry last (ruleOf f)) false ≡ true = and (a .0) (b .0) in
-    rw c
+    shape-frame last f (a .0) (both (entry last (ruleOf f)) _ (a .1) .0)
 
 -- ---- the slots
 
@@ -125,57 +124,63 @@ module _ (file : List ℕ) (from count last : ℕ) (xs : List ℕ) (few : count 
     stored-length =
         omega (arith, ap length split, length-append (take 4 xs ++ slots (p .done)) (drop (slotStart i) xs), front, length-drop (slotStart i) xs, p .upto)
 
-    module _ (h : i < count) (line : RuleLine) (e : line ≡ ruleAt last (length file) (soundLine (drop at file))) where
+    module _ (h : i < count) where
       ahead-one : whole ≡ readRules (length file) last (suc (count - (i + 1))) (p .done) (drop at file)
       ahead-one = let n : count - i ≡ suc (count - (i + 1)) = omega arith in p .ahead ∙ ap (λ (k : ℕ). readRules (length file) last k (p .done) (drop at file)) n
 
       next : Next last (p .done) (drop at file)
       next = next-by (length file) last (count - (i + 1)) (p .done) (drop at file) (soundLine (drop at file)) refl (sym (ap verdict ahead-one) ∙ ok)
 
-      line-is : line ≡ ruleAt last (length file) (Good (next .f) (next .rest))
-      line-is = e ∙ ap (ruleAt last (length file)) (next .is)
+      frame : decoded (drop at file) ≡ next .f
+      frame = decoded-sound (drop at file) (next .f) (next .rest) (next .is)
 
-      sound : line .sound ≡ true
-      sound = ap (λ (r : RuleLine). r .sound) line-is
+      pub stored-frame : ruleFrame (decoded (drop at file)) ≡ true
+      stored-frame = ap ruleFrame frame ∙ frame-of last (p .done) (next .f) (next .fits)
 
-      onward : drop (line .next) file ≡ next .rest
-      onward =
-          let k = line-found file at last line e sound in
-          let q : Good (k .f) (k .rest) ≡ Good (next .f) (next .rest) = sym (k .is) ∙ next .is in
-          let r : k .rest ≡ next .rest = cc in
-          line-onward file at last line e sound ∙ r
+      was : drop at file ≡ lineOf (next .f) ++ next .rest
+      was = sound-was (drop at file) (next .f) (next .rest) (next .is) .was
 
-      entry-is : line .ruled .entry ≡ numberedOf (ruleOf (next .f))
-      entry-is = ap (λ (r : RuleLine). r .ruled .entry) line-is ∙ ruled-entry last (p .done) (next .f) (next .fits)
+      module _ (n : ℕ) (en : n ≡ at + (2 * length (decoded (drop at file)) + 1)) where
+        past : n ≡ at + length (lineOf (next .f))
+        past = omega (arith, ap length frame, length-line (next .f))
 
-      pub stored-next : (z : List ℕ) → z ≡ take (slotStart i) image ++ (bytesOf (line .ruled .entry) ++ drop (slotStart i + 26) image)
-          → Stored file from count last xs z (line .next) (i + 1)
-      stored-next z w =
-          let x = ruleOf (next .f) in
-          let a : List ℕ = take 4 xs ++ slots (p .done) in
-          let d : List ℕ = drop (slotStart i) xs in
-          let t : take (slotStart i) image ≡ a = ap (take (slotStart i)) split ∙ take-at a d (slotStart i) front in
-          let m : slotStart i + 26 ≡ length a + 26 = ap (λ (k : ℕ). k + 26) (sym front) in
-          let n : slotStart i + 26 ≡ slotStart (i + 1) = omega arith in
-          let r : drop (slotStart i + 26) image ≡ drop (slotStart (i + 1)) xs =
-          ap₂ drop m split ∙ (drop-append-add a d 26 ∙ (drop-drop 26 (slotStart i) xs ∙ ap (λ (k : ℕ). drop k xs) n)) in
-          record {
-            done = p .done ++ (x ∷ []);
-            many = omega (arith, p .many, length-append (p .done) (x ∷ []));
-            upto = omega arith;
-            ahead =
-                ahead-one
-                ∙ (read-on (length file) last (count - (i + 1)) (p .done) (drop at file) (next .f) (next .rest) (next .is) (next .fits)
-                ∙ ap (readRules (length file) last (count - (i + 1)) (p .done ++ (x ∷ []))) (sym onward));
-            kept =
-                w ∙ (ap₂ (λ (u v : List ℕ). u ++ (bytesOf (line .ruled .entry) ++ v)) t r
-                ∙ (ap (λ (y : Numbered). a ++ (bytesOf y ++ drop (slotStart (i + 1)) xs)) entry-is
-                ∙ (append-assoc (take 4 xs) (slots (p .done)) (bytesOf (numberedOf x) ++ drop (slotStart (i + 1)) xs)
-                ∙ ap (λ (u : List ℕ). take 4 xs ++ u)
-                (sym (append-assoc (slots (p .done)) (bytesOf (numberedOf x)) (drop (slotStart (i + 1)) xs))
-                ∙ ap (λ (u : List ℕ). u ++ drop (slotStart (i + 1)) xs) (sym (slots-next (p .done) x))))));
-            within = line-within file at last line e sound;
-          }
+        onward : drop n file ≡ next .rest
+        onward =
+            ap (λ (k : ℕ). drop k file) past
+            ∙ (sym (drop-drop (length (lineOf (next .f))) at file)
+            ∙ (ap (drop (length (lineOf (next .f)))) was ∙ drop-append-seam (lineOf (next .f)) (next .rest)))
+
+        in-file : n ≤ length file
+        in-file = omega (arith, past, ap length was, length-append (lineOf (next .f)) (next .rest), length-drop at file, p .within)
+
+        pub stored-next : (z : List ℕ) → z ≡ take (slotStart i) image ++ (bytesOf (numberedOf (ruleOf (decoded (drop at file)))) ++ drop (slotStart i + 26) image)
+            → Stored file from count last xs z n (i + 1)
+        stored-next z w =
+            let x = ruleOf (next .f) in
+            let a : List ℕ = take 4 xs ++ slots (p .done) in
+            let d : List ℕ = drop (slotStart i) xs in
+            let t : take (slotStart i) image ≡ a = ap (take (slotStart i)) split ∙ take-at a d (slotStart i) front in
+            let m : slotStart i + 26 ≡ length a + 26 = ap (λ (k : ℕ). k + 26) (sym front) in
+            let s : slotStart i + 26 ≡ slotStart (i + 1) = omega arith in
+            let r : drop (slotStart i + 26) image ≡ drop (slotStart (i + 1)) xs =
+            ap₂ drop m split ∙ (drop-append-add a d 26 ∙ (drop-drop 26 (slotStart i) xs ∙ ap (λ (k : ℕ). drop k xs) s)) in
+            record {
+              done = p .done ++ (x ∷ []);
+              many = omega (arith, p .many, length-append (p .done) (x ∷ []));
+              upto = omega arith;
+              ahead =
+                  ahead-one
+                  ∙ (read-on (length file) last (count - (i + 1)) (p .done) (drop at file) (next .f) (next .rest) (next .is) (next .fits)
+                  ∙ ap (readRules (length file) last (count - (i + 1)) (p .done ++ (x ∷ []))) (sym onward));
+              kept =
+                  w ∙ (ap₂ (λ (u v : List ℕ). u ++ (bytesOf (numberedOf (ruleOf (decoded (drop at file)))) ++ v)) t r
+                  ∙ (ap (λ (g : List ℕ). a ++ (bytesOf (numberedOf (ruleOf g)) ++ drop (slotStart (i + 1)) xs)) frame
+                  ∙ (append-assoc (take 4 xs) (slots (p .done)) (bytesOf (numberedOf x) ++ drop (slotStart (i + 1)) xs)
+                  ∙ ap (λ (u : List ℕ). take 4 xs ++ u)
+                  (sym (append-assoc (slots (p .done)) (bytesOf (numberedOf x)) (drop (slotStart (i + 1)) xs))
+                  ∙ ap (λ (u : List ℕ). u ++ drop (slotStart (i + 1)) xs) (sym (slots-next (p .done) x))))));
+              within = in-file;
+            }
 
     pub stored-end : count ≤ i → image ≡ take 4 xs ++ (flat (map numberedOf (described whole .rules)) ++ drop (slotStart count) xs)
     stored-end h =

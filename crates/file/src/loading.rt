@@ -4,15 +4,17 @@ use crate::parsing;
 use rules::Answer;
 use rules::Refusal;
 ghost use mathlib.Core.Path.{_≡_};
+ghost use mathlib.Core.Bool.{true};
 ghost use mathlib.Core.List.{_++_, [], map};
-ghost use Prim.Native.Nat.{_/_, _%_, _^_, _≤_};
+ghost use Prim.Native.Nat.{_+_, _*_, _/_, _%_, _^_, _<_, _≤_};
 ghost use lib.ListN.{length, getD, take, drop, set, replicate};
 ghost use lib.Bits.{bitOr};
 ghost use Rattle.rules.specs.Refusals.{replyOf, accepted};
 ghost use Rattle.image.specs.Bits.{held};
-ghost use Rattle.image.specs.Image.{slotStart, flat, laid};
-ghost use Rattle.file.specs.File.{readRules, readFile};
-ghost use Rattle.file.specs.Loading.{numberedOf, ledgerFor, verdict, described};
+ghost use Rattle.image.specs.Image.{bytesOf, slotStart, flat, laid};
+ghost use Rattle.frames.specs.Lines.{decoded};
+ghost use Rattle.file.specs.File.{ruleOf, readRules, readFile};
+ghost use Rattle.file.specs.Loading.{numberedOf, ledgerFor, verdict, described, ruleFrame};
 
 // Whether a set of numbers, a bit for each, holds n; then it does.
 fn mark(seen: &mut [u64], n: u16) -> bool
@@ -73,6 +75,20 @@ pub fn judge(file: &[u8]) -> Answer
     judge_rules(file, from, head.count, head.last, &mut seen)
 }
 
+// The rule of a line that was judged, put into its slot without judging it again, and where the next line starts.
+fn store_rule(file: &[u8], at: usize, place: usize, image: &mut [u8]) -> usize
+    requires { ⌜ (ruleFrame (decoded (drop at (now file))) ≡ true) × ((place < 512) × (13316 ≤ length (now image))) ⌝ }
+    ensures next { λ r. ⌜ r ≡ at + (2 * length (decoded (drop at (now (file .entry)))) + 1) ⌝ }
+    ensures slot { λ _. ⌜ now (image .exit) ≡ take (slotStart place) (now (image .entry)) ++ (bytesOf (numberedOf (ruleOf (decoded (drop at (now (file .entry)))))) ++ drop (slotStart place + 26) (now (image .entry))) ⌝ }
+{
+    let n = parsing::frame_size(file, at);
+    let mut frame = [0u8; 28];
+    frames::decode(file, at, n, &mut frame);
+    let entry = parsing::entry_from(&frame[..n]);
+    image::put_rule(&mut *image, place, entry);
+    at + (2 * n + 1)
+}
+
 // The rules of lines that were judged, put into their slots.
 fn store_rules(file: &[u8], from: usize, count: usize, last: u16, image: &mut [u8])
     requires { ⌜ (count ≤ 512) × ((from ≤ length (now file)) × ((13316 ≤ length (now image)) × (verdict (readRules (length (now file)) last count [] (drop from (now file))) ≡ accepted))) ⌝ }
@@ -81,11 +97,7 @@ fn store_rules(file: &[u8], from: usize, count: usize, last: u16, image: &mut [u
     let mut at = from;
     let mut i: usize = 0;
     while i < count {
-        let line = parsing::read_rule(file, at, last);
-        let ruled = line.ruled;
-        let entry = ruled.entry;
-        image::put_rule(&mut *image, i, entry);
-        at = line.next;
+        at = store_rule(file, at, i, &mut *image);
         i += 1;
     }
 }

@@ -6,9 +6,9 @@ ghost use mathlib.Core.Bool.{true};
 ghost use Prim.Native.Nat.{_+_, _<_, _≤_};
 ghost use lib.ListN.{length, take, drop};
 ghost use Rattle.rules.specs.Shape.{first};
-ghost use Rattle.frames.specs.Lines.{soundLine};
+ghost use Rattle.frames.specs.Lines.{soundLine, decoded};
 ghost use Rattle.file.specs.File.{ruleOf};
-ghost use Rattle.file.specs.Loading.{ruleStruct, noneRuled, ruleFrame, ruledIn, ruleAt};
+ghost use Rattle.file.specs.Loading.{ruleStruct, numberedOf, noneRuled, ruleFrame, ruledIn, ruleAt};
 
 // A rule that was read from a frame.
 pub struct Ruled {
@@ -109,6 +109,28 @@ fn rule_from(f: &[u8]) -> Rule
         right,
         phones,
     }
+}
+
+// The same with its number.
+pub fn entry_from(f: &[u8]) -> Numbered
+    requires { ⌜ ruleFrame (now f) ≡ true ⌝ }
+    ensures { λ r. ⌜ r ≡ numberedOf (ruleOf (now (f .entry))) ⌝ }
+{
+    let number = image::two_at(f, 1);
+    let rule = rule_from(f);
+    Numbered { number, rule }
+}
+
+// The bytes of such a frame in the line that starts at a place, by its lengths.
+pub fn frame_size(file: &[u8], at: usize) -> usize
+    requires { ⌜ ruleFrame (decoded (drop at (now file))) ≡ true ⌝ }
+    ensures { λ r. ⌜ (r ≡ length (decoded (drop at (now (file .entry))))) × (r ≤ 28) ⌝ }
+{
+    let l = wide(frames::byte_at(file, at, 3));
+    let t = wide(frames::byte_at(file, at, 4));
+    let r = wide(frames::byte_at(file, at, 5));
+    let p = wide(frames::byte_at(file, at, 6));
+    8 + (l + (t + (r + p)))
 }
 
 fn no_rule() -> Ruled

@@ -3,7 +3,7 @@ ghost use mathlib.Core.Path.{_≡_};
 ghost use mathlib.Core.Bool.{Bool};
 ghost use Prim.Native.Nat.{_+_, _*_, _/_, _%_, _<_, _≤_};
 ghost use lib.Dec.{leb, eqb};
-ghost use lib.ListN.{length, take, drop, set};
+ghost use lib.ListN.{length, getD, take, drop, set};
 ghost use Rattle.rules.specs.Memory.{over, overAt};
 ghost use Rattle.rules.specs.Shape.{pick};
 ghost use Rattle.frames.specs.Lines.{digit, value, Parsed, lineOf, framed, soundLine, pairOf, decoded, report, lineAfter};
@@ -170,6 +170,39 @@ pub fn read_line(text: &[u8], at: usize, frame: &mut [u8]) -> Line
     }
     no_line()
 }
+
+// ---- a line whose digits were tested before
+
+// The number of a digit.
+fn digit_value(a: u8) -> u8
+    requires { ⌜ value a < 16 ⌝ }
+    ensures { λ r. ⌜ r ≡ value a ⌝ }
+{
+    a % 16 + 9 * (a / 64)
+}
+
+// Byte `k` of the line that starts at a place and has more.
+pub fn byte_at(text: &[u8], at: usize, k: usize) -> u8
+    requires { ⌜ k < length (decoded (drop at (now text))) ⌝ }
+    ensures { λ r. ⌜ r ≡ getD (decoded (drop at (now (text .entry)))) k 0 ⌝ }
+{
+    let i = at + 2 * k;
+    16 * digit_value(text[i]) + digit_value(text[i + 1])
+}
+
+// The first `n` bytes of the line that starts at a place and has as many, at the front of `frame`.
+pub fn decode(text: &[u8], at: usize, n: usize, frame: &mut [u8])
+    requires { ⌜ (n ≤ length (decoded (drop at (now text)))) × (n ≤ length (now frame)) ⌝ }
+    ensures { λ _. ⌜ now (frame .exit) ≡ over (take n (decoded (drop at (now (text .entry))))) (now (frame .entry)) ⌝ }
+{
+    let mut i: usize = 0;
+    while i < n {
+        frame[i] = byte_at(text, at, i);
+        i += 1;
+    }
+}
+
+// ---- the next line
 
 // Where the next line starts: after the first 0A from `at` on, or at the end.
 pub fn next_line(text: &[u8], at: usize) -> usize
