@@ -5,9 +5,8 @@ use mathlib.Core.Path.{_≡_, refl, sym, ap, ap₂, _∙_}
 use mathlib.Core.List.{List, [], _∷_, _++_, append-assoc}
 use native.Mathlib.Omega.{arith}
 use lib.ListN.{length, take, drop, length-append}
-use lib.Seq.{paste, take-length, take-at, drop-drop}
+use lib.Seq.{paste, take-length, take-at, take-append-add, take-append-le, length-take-le, drop-drop}
 use Rattle.rules.specs.Memory.{over, overAt}
-use Rattle.rules.proofs.Memory.{over-at}
 use Rattle.rules.specs.Shape.{first, entryOf}
 use Rattle.rules.specs.declared.Numbered.{Numbered}
 use Rattle.rules.proofs.Laws.{length-first, first-take}
@@ -24,11 +23,17 @@ pasted d b at =
     append-assoc (take at d) (take (length b) b) (drop (at + length b) d)
     ∙ ap₂ (λ (t r : List ℕ). take at d ++ (t ++ r)) (take-length b) (sym (drop-drop (length b) at d))
 
-pub pushed : (d z a : List ℕ) (at n e : ℕ) → e ≡ n → n ≤ length a → z ≡ paste d at (take e a) (length (take e a)) → z ≡ overAt at (first n a 0) d
-pushed d z a at n e q h p =
-    p ∙ (pasted d (take e a) at ∙ ap (λ (b : List ℕ). overAt at b d) (ap (λ (k : ℕ). take k a) q ∙ sym (first-take n a 0 h)))
+-- of the bytes a, stored from `at` on, the first n
+pub pushed : (d z a : List ℕ) (at n : ℕ) → n ≤ length a → at ≤ length d → z ≡ paste d at a (length a) → take (at + n) z ≡ take at d ++ first n a 0
+pushed d z a at n h l e =
+    let q = take at d in
+    let r = over a (drop at d) in
+    ap (take (at + n)) (e ∙ pasted d a at)
+    ∙ (ap (λ (k : ℕ). take (k + n) (q ++ r)) (sym (length-take-le at d l))
+    ∙ (take-append-add q r n
+    ∙ ap (λ (w : List ℕ). q ++ w) (take-append-le n a (drop (length a) (drop at d)) h ∙ sym (first-take n a 0 h))))
 
-module _ (x : Numbered) (xs w s₁ s₂ s₃ z : List ℕ) where
+module _ (x : Numbered) where
   abbrev front : List ℕ
   front = ruleFront (x .number) (x .rule .«left_len») (x .rule .«target_len») (x .rule .«right_len») (x .rule .«phone_len»)
 
@@ -60,21 +65,22 @@ module _ (x : Numbered) (xs w s₁ s₂ s₃ z : List ℕ) where
   body-size =
       omega (arith, sizes .0, sizes .1 .0, sizes .1 .1 .0, sizes .1 .1 .1, ap length lengths, length-append l (t ++ (r ++ p)), length-append t (r ++ p), length-append r p)
 
-  module _ (a b d : ℕ) (ea : a ≡ 7 + x .rule .«left_len») (eb : b ≡ a + x .rule .«target_len») (ed : d ≡ b + x .rule .«right_len») where
-    pub body-is : w ≡ over front xs → s₁ ≡ overAt 7 l w → s₂ ≡ overAt a t s₁ → s₃ ≡ overAt b r s₂ → z ≡ overAt d p s₃ → z ≡ over (ruleBody (entryOf x)) xs
+  module _ (xs w s₁ s₂ s₃ z : List ℕ) (a b d : ℕ) (ea : a ≡ 7 + x .rule .«left_len») (eb : b ≡ a + x .rule .«target_len») (ed : d ≡ b + x .rule .«right_len») where
+    pub body-is : w ≡ over front xs
+        → take (7 + x .rule .«left_len») s₁ ≡ take 7 w ++ l
+        → take (a + x .rule .«target_len») s₂ ≡ take a s₁ ++ t
+        → take (b + x .rule .«right_len») s₃ ≡ take b s₂ ++ r
+        → take (d + x .rule .«phone_len») z ≡ take d s₃ ++ p
+        → take (length (ruleBody (entryOf x))) z ≡ ruleBody (entryOf x)
     body-is e₀ e₁ e₂ e₃ e₄ =
-        let n₁ = sizes .0 in
-        let n₂ = sizes .1 .0 in
-        let n₃ = sizes .1 .1 .0 in
-        let g₁ : s₁ ≡ over (front ++ l) xs = e₁ ∙ over-at front xs l w 7 e₀ refl in
-        let m₁ : length (front ++ l) ≡ a = omega arith in
-        let g₂ : s₂ ≡ over ((front ++ l) ++ t) xs = e₂ ∙ over-at (front ++ l) xs t s₁ a g₁ m₁ in
-        let m₂ : length ((front ++ l) ++ t) ≡ b = omega (arith, length-append (front ++ l) t) in
-        let g₃ : s₃ ≡ over (((front ++ l) ++ t) ++ r) xs = e₃ ∙ over-at ((front ++ l) ++ t) xs r s₂ b g₂ m₂ in
-        let m₃ : length (((front ++ l) ++ t) ++ r) ≡ d = omega (arith, length-append ((front ++ l) ++ t) r) in
-        e₄ ∙ (over-at (((front ++ l) ++ t) ++ r) xs p s₃ d g₃ m₃
-        ∙ ap (λ (b : List ℕ). over b xs)
-        (append-assoc ((front ++ l) ++ t) r p ∙ (append-assoc (front ++ l) t (r ++ p) ∙ (append-assoc front l (t ++ (r ++ p)) ∙ lengths))))
+        let g₀ : take 7 w ≡ front = ap (take 7) e₀ ∙ take-at front (drop 7 xs) 7 refl in
+        let g₁ : take a s₁ ≡ front ++ l = ap (λ (k : ℕ). take k s₁) ea ∙ (e₁ ∙ ap (λ (v : List ℕ). v ++ l) g₀) in
+        let g₂ : take b s₂ ≡ (front ++ l) ++ t = ap (λ (k : ℕ). take k s₂) eb ∙ (e₂ ∙ ap (λ (v : List ℕ). v ++ t) g₁) in
+        let g₃ : take d s₃ ≡ ((front ++ l) ++ t) ++ r = ap (λ (k : ℕ). take k s₃) ed ∙ (e₃ ∙ ap (λ (v : List ℕ). v ++ r) g₂) in
+        let n : length (ruleBody (entryOf x)) ≡ d + x .rule .«phone_len» = omega (arith, body-size) in
+        ap (λ (k : ℕ). take k z) n
+        ∙ (e₄ ∙ (ap (λ (v : List ℕ). v ++ p) g₃
+        ∙ (append-assoc ((front ++ l) ++ t) r p ∙ (append-assoc (front ++ l) t (r ++ p) ∙ (append-assoc front l (t ++ (r ++ p)) ∙ lengths)))))
 
 pub size-is : (x : Numbered) → 17 + 2 * (x .rule .«left_len» + (x .rule .«target_len» + (x .rule .«right_len» + x .rule .«phone_len»))) ≡ length (ruleLine (entryOf x))
 size-is x =
@@ -91,10 +97,7 @@ size-is x =
 -- a rule's line from its body in lent bytes
 module _ (x : Numbered) (s : Short x) (n : ℕ) (e : n ≡ length (ruleBody (entryOf x))) where
   pub body-short : n ≤ 27
-  body-short = omega (arith, e, body-size x [] [] [] [] [] [], s .left, s .target, s .right, s .phones)
+  body-short = omega (arith, e, body-size x, s .left, s .target, s .right, s .phones)
 
   pub line-size : 2 * n + 3 ≡ length (ruleLine (entryOf x))
   line-size = omega (arith, e, length-line (framed (ruleBody (entryOf x))), length-append (ruleBody (entryOf x)) (sumByte (ruleBody (entryOf x)) ∷ []))
-
-  pub body-front : (xs z : List ℕ) → z ≡ over (ruleBody (entryOf x)) xs → take n z ≡ ruleBody (entryOf x)
-  body-front xs z f = ap (take n) f ∙ take-at (ruleBody (entryOf x)) (drop (length (ruleBody (entryOf x))) xs) n (sym e)

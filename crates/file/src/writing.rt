@@ -29,33 +29,31 @@ fn put_front(body: &mut [u8], number: u16, l: u8, t: u8, r: u8, p: u8)
     image::put(&mut *body, 0, &front);
 }
 
-// The first n of six bytes, from `at` on.
+// The first n of six bytes, from `at` on. All six are stored: a copy whose length is known takes no call and no test.
 fn push_six(body: &mut [u8], at: usize, a: [u8; 6], n: u8) -> usize
-    requires { ⌜ (n ≤ 6) × (at + n ≤ length (now body)) ⌝ }
+    requires { ⌜ (n ≤ 6) × (at + 6 ≤ length (now body)) ⌝ }
     ensures next { λ r. ⌜ r ≡ at + n ⌝ }
-    ensures bytes { λ _. ⌜ now (body .exit) ≡ overAt at (first n a 0) (now (body .entry)) ⌝ }
+    ensures bytes { λ _. ⌜ take (at + n) (now (body .exit)) ≡ take at (now (body .entry)) ++ first n a 0 ⌝ }
 {
-    let e = wide(n);
-    image::put(&mut *body, at, &a[..e]);
-    at + e
+    image::put(&mut *body, at, &a);
+    at + wide(n)
 }
 
 // The same of four.
 fn push_four(body: &mut [u8], at: usize, a: [u8; 4], n: u8) -> usize
-    requires { ⌜ (n ≤ 4) × (at + n ≤ length (now body)) ⌝ }
+    requires { ⌜ (n ≤ 4) × (at + 4 ≤ length (now body)) ⌝ }
     ensures next { λ r. ⌜ r ≡ at + n ⌝ }
-    ensures bytes { λ _. ⌜ now (body .exit) ≡ overAt at (first n a 0) (now (body .entry)) ⌝ }
+    ensures bytes { λ _. ⌜ take (at + n) (now (body .exit)) ≡ take at (now (body .entry)) ++ first n a 0 ⌝ }
 {
-    let e = wide(n);
-    image::put(&mut *body, at, &a[..e]);
-    at + e
+    image::put(&mut *body, at, &a);
+    at + wide(n)
 }
 
 // A rule's frame without its checksum, at the front of lent bytes, and its length.
 fn put_body(body: &mut [u8], x: Numbered) -> usize
     requires { ⌜ (Short x) × (27 ≤ length (now body)) ⌝ }
     ensures size { λ r. ⌜ r ≡ length (ruleBody (entryOf x)) ⌝ }
-    ensures bytes { λ _. ⌜ now (body .exit) ≡ over (ruleBody (entryOf x)) (now (body .entry)) ⌝ }
+    ensures bytes { λ _. ⌜ take (length (ruleBody (entryOf x))) (now (body .exit)) ≡ ruleBody (entryOf x) ⌝ }
 {
     let rule = x.rule;
     let left = rule.left;

@@ -1,7 +1,6 @@
 -- `frames::byte_at` meets its contract: both digits stand in the text. Assumes nothing.
 use native.Mathlib.Omega.{arith}
 use Rattle.frames.proofs.Decoding.{placed}
-use borrow.Author.Needs.{needs}
 use Rattle.frames.proofs.byte_at.Statement.{statement}
 use Rattle.frames.proofs.byte_at.Tie as tie
 

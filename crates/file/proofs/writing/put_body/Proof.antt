@@ -24,7 +24,7 @@ same-length : tie.Need-same-length
 same-length c = search needs
 
 returns : tie.Need-returns
-returns c = let a = c .before .before .before .before .before .before .before .before .before .before .before .before .before .before .before .before .before .before .before .before .before .before .before .before .before .before .args in (omega (arith, body-size (a .x) (a .body .now) (a .body .now) (a .body .now) (a .body .now) (a .body .now) (a .body .now)), body-is (a .x) (a .body .now) _ _ _ _ _ (c .before .before .before .before .before .before .before .before .before .before .before .before .before .before .push-six .result) (c .before .before .before .before .before .before .before .before .before .before .push-four .result) (c .before .before .before .before .before .before .push-six2 .result) (c .before .before .before .before .before .before .before .before .before .before .before .before .before .before .push-six .ensures .0) (c .before .before .before .before .before .before .before .before .before .before .push-four .ensures .0) (c .before .before .before .before .before .before .push-six2 .ensures .0) (c .before .before .before .before .before .before .before .before .before .before .before .before .before .before .before .before .before .before .put-front .ensures) (c .before .before .before .before .before .before .before .before .before .before .before .before .before .before .push-six .ensures .1) (c .before .before .before .before .before .before .before .before .before .before .push-four .ensures .1) (c .before .before .before .before .before .before .push-six2 .ensures .1) (c .before .before .push-four2 .ensures .1))
+returns c = (omega (arith, body-size (c .before .before .before .before .before .before .before .before .before .before .before .before .before .before .before .before .before .before .before .before .before .before .before .before .before .before .args .x)), body-is (c .before .before .before .before .before .before .before .before .before .before .before .before .before .before .before .before .before .before .before .before .before .before .before .before .before .before .args .x) (c .before .before .before .before .before .before .before .before .before .before .before .before .before .before .before .before .before .before .before .before .before .before .before .before .before .before .args .body .now) _ _ _ _ _ (c .before .before .before .before .before .before .before .before .before .before .before .before .before .before .push-six .result) (c .before .before .before .before .before .before .before .before .before .before .push-four .result) (c .before .before .before .before .before .before .push-six2 .result) (c .before .before .before .before .before .before .before .before .before .before .before .before .before .before .push-six .ensures .0) (c .before .before .before .before .before .before .before .before .before .before .push-four .ensures .0) (c .before .before .before .before .before .before .push-six2 .ensures .0) (c .before .before .before .before .before .before .before .before .before .before .before .before .before .before .before .before .before .before .put-front .ensures) (c .before .before .before .before .before .before .before .before .before .before .before .before .before .before .push-six .ensures .1) (c .before .before .before .before .before .before .before .before .before .before .push-four .ensures .1) (c .before .before .before .before .before .before .push-six2 .ensures .1) (c .before .before .push-four2 .ensures .1))
 
 pub put-body-spec : {M : Type 1} → statement M
 put-body-spec =

@@ -1,5 +1,5 @@
 -- `file::writing::write_rule` meets its contract: the line of the body that `put_body` gave. Assumes nothing.
-use lib.ListN.{length, replicate}
+use lib.ListN.{length, take}
 use Prim.Native.Nat.{ℕ}
 use mathlib.Core.List.{List}
 use mathlib.Core.Path.{_≡_, sym, ap, _∙_}
@@ -7,7 +7,7 @@ use native.Mathlib.Omega.{arith}
 use lib.Seq.{length-take-le}
 use Rattle.rules.specs.Memory.{overAt}
 use Rattle.frames.specs.Lines.{lineOf, framed}
-use Rattle.file.proofs.RuleBytes.{body-short, line-size, body-front}
+use Rattle.file.proofs.RuleBytes.{body-short, line-size}
 use borrow.Author.Needs.{needs}
 use Rattle.file.proofs.writing.write_rule.Statement.{statement}
 use Rattle.file.proofs.writing.write_rule.Tie as tie
@@ -31,7 +31,7 @@ same-length : tie.Need-same-length
 same-length c = search needs
 
 returns : tie.Need-returns
-returns c = let s = body-short (c .before .before .before .before .before .before .before .before .before .args .x) (c .before .before .before .before .before .before .before .before .before .pre .0) (c .before .before .before .before .before .before .put-body .result) (c .before .before .before .before .before .before .put-body .ensures .0) in let l : length (c .before .before .before .before .before .before .put-body .last .0) ≡ 27 = search needs in let b = body-front (c .before .before .before .before .before .before .before .before .before .args .x) (c .before .before .before .before .before .before .before .before .before .pre .0) (c .before .before .before .before .before .before .put-body .result) (c .before .before .before .before .before .before .put-body .ensures .0) (replicate 27 0) (c .before .before .before .before .before .before .put-body .last .0) (c .before .before .before .before .before .before .put-body .ensures .1) in (omega (arith, length-take-le (c .before .before .before .before .before .before .put-body .result) (c .before .before .before .before .before .before .put-body .last .0) (omega arith), line-size (c .before .before .before .before .before .before .before .before .before .args .x) (c .before .before .before .before .before .before .before .before .before .pre .0) (c .before .before .before .before .before .before .put-body .result) (c .before .before .before .before .before .before .put-body .ensures .0)), c .before .before .write-line .ensures .1 ∙ ap (λ (w : List ℕ). overAt (c .before .before .before .before .before .before .before .before .before .args .at) (lineOf (framed w)) (c .before .before .before .before .before .before .before .before .before .args .out .now)) b)
+returns c = let s = body-short (c .before .before .before .before .before .before .before .before .before .args .x) (c .before .before .before .before .before .before .before .before .before .pre .0) (c .before .before .before .before .before .before .put-body .result) (c .before .before .before .before .before .before .put-body .ensures .0) in let l : length (c .before .before .before .before .before .before .put-body .last .0) ≡ 27 = search needs in let b = ap (λ (k : ℕ). take k (c .before .before .before .before .before .before .put-body .last .0)) (c .before .before .before .before .before .before .put-body .ensures .0) ∙ c .before .before .before .before .before .before .put-body .ensures .1 in (omega (arith, length-take-le (c .before .before .before .before .before .before .put-body .result) (c .before .before .before .before .before .before .put-body .last .0) (omega arith), line-size (c .before .before .before .before .before .before .before .before .before .args .x) (c .before .before .before .before .before .before .before .before .before .pre .0) (c .before .before .before .before .before .before .put-body .result) (c .before .before .before .before .before .before .put-body .ensures .0)), c .before .before .write-line .ensures .1 ∙ ap (λ (w : List ℕ). overAt (c .before .before .before .before .before .before .before .before .before .args .at) (lineOf (framed w)) (c .before .before .before .before .before .before .before .before .before .args .out .now)) b)
 
 pub write-rule-spec : {M : Type 1} → statement M
 write-rule-spec =
