@@ -9,6 +9,7 @@ use borrow.Author.Tests.{ltb-true, ltb-false, leb-true, leb-false, eqb-true, lt-
 use lib.ListN.{length, length-append}
 use lib.Dec.{leb, ltb, eqb}
 use Rattle.rules.proofs.Cases.{byBool}
+use Rattle.rules.specs.Shape.{pick}
 use Rattle.frames.specs.Lines.{digit, value, lineOf, total, sumByte, framed, Parsed, after, guard, readLine, checked, soundLine}
 use Rattle.frames.specs.Lines.Parsed.{Bad, Good}
 
@@ -28,27 +29,29 @@ value-digit d h =
       rw (e, le-leb 48 (55 + d) (omega arith), lt-leb (55 + d) 57 (omega arith), le-leb 65 (55 + d) (omega arith), le-leb (55 + d) 70 (omega arith)) (omega arith),
     ))
 
--- the number of a character, as it is computed
-module _ (a : ℕ) where
-  pub value-low : a < 48 → 16 ≡ value a
-  unfolding value
-  value-low h = rw (lt-leb 48 a h)
+-- the number of a character, as it is computed: m is what lies between it and the first letter, or the first digit
+module _ (a m : ℕ) (b : m < 256) where
+  module _ (e : (m + 65) % 256 ≡ a) where
+    pub letter-in : m < 6 → 10 + m ≡ pick (leb 65 a) (pick (leb a 70) (a - 55) 16) 16
+    letter-in h = rw (le-leb 65 a (omega arith), le-leb a 70 (omega arith)) (omega arith)
 
-  pub value-high : 70 < a → 16 ≡ value a
-  unfolding value
-  value-high h = rw (le-leb 48 a (omega arith), lt-leb a 57 (omega arith), le-leb 65 a (omega arith), lt-leb a 70 h)
+    pub letter-out : 6 ≤ m → 16 ≡ pick (leb 65 a) (pick (leb a 70) (a - 55) 16) 16
+    letter-out h =
+        byBool (leb 65 a)
+        (λ t. let l = leb-true 65 a t in rw (t, lt-leb a 70 (omega arith)))
+        (λ t. rw t)
 
-  module _ (l : 48 ≤ a) (h : a ≤ 70) (m : ℕ) (b : m < 256) (e : (m + 58) % 256 ≡ a) where
-    pub value-between : m < 7 → 16 ≡ value a
+  module _ (e : (m + 48) % 256 ≡ a) where
+    pub value-digit-in : m < 10 → m ≡ value a
     unfolding value
-    value-between k = rw (le-leb 48 a l, lt-leb a 57 (omega arith), lt-leb 65 a (omega arith))
+    value-digit-in h = rw (le-leb 48 a (omega arith), le-leb a 57 (omega arith)) (omega arith)
 
-    pub value-formula : 7 ≤ m → a % 16 + 9 * (a / 64) ≡ value a
+    pub value-digit-out : 10 ≤ m → pick (leb 65 a) (pick (leb a 70) (a - 55) 16) 16 ≡ value a
     unfolding value
-    value-formula k =
-        byBool (leb a 57)
-        (λ t. let u = leb-true a 57 t in rw (le-leb 48 a l, t) (omega arith))
-        (λ t. let u = leb-false a 57 t in rw (le-leb 48 a l, t, le-leb 65 a (omega arith), le-leb a 70 h) (omega arith))
+    value-digit-out h =
+        byBool (leb 48 a)
+        (λ t. let l = leb-true 48 a t in rw (t, lt-leb a 57 (omega arith)))
+        (λ t. let l = leb-false 48 a t in rw (t, lt-leb 65 a (omega arith)))
 
 -- what has a number below 16 is its digit
 pub digit-value : (a : ℕ) → value a < 16 → digit (value a) ≡ a

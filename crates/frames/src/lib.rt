@@ -1,7 +1,7 @@
 // A frame as a line: upper-case hexadecimal with a checksum, ended by 0A (document 01, "The rule file").
 ghost use mathlib.Core.Path.{_≡_};
 ghost use mathlib.Core.Bool.{Bool};
-ghost use Prim.Native.Nat.{_+_, _*_, _/_, _%_, _<_, _≤_};
+ghost use Prim.Native.Nat.{_+_, _-_, _*_, _/_, _%_, _<_, _≤_};
 ghost use lib.Dec.{leb, eqb};
 ghost use lib.ListN.{length, getD, take, drop, set};
 ghost use Rattle.rules.specs.Memory.{over, overAt};
@@ -29,20 +29,21 @@ fn hex_digit(d: u8) -> u8
     if d < 10 { 48 + d } else { 55 + d }
 }
 
-// The number of a digit, 16 for what is none. Each test goes the same way for every digit, so that none is mispredicted.
+// The number of a letter from A to F, 16 for what is none.
+fn letter_value(a: u8) -> u8
+    ensures { λ r. ⌜ r ≡ pick (leb 65 a) (pick (leb a 70) (a - 55) 16) 16 ⌝ }
+{
+    let e = std::num::wrapping_sub_u8(a, 65);
+    if e < 6 { 10 + e } else { 16 }
+}
+
+// The number of a digit, 16 for what is none. Both tests choose between two numbers, so that none is mispredicted.
 fn hex_value(a: u8) -> u8
     ensures { λ r. ⌜ r ≡ value a ⌝ }
 {
-    if a < 48 {
-        return 16;
-    }
-    if 70 < a {
-        return 16;
-    }
-    if std::num::wrapping_sub_u8(a, 58) < 7 {
-        return 16;
-    }
-    a % 16 + 9 * (a / 64)
+    let d = std::num::wrapping_sub_u8(a, 48);
+    let e = letter_value(a);
+    if d < 10 { d } else { e }
 }
 
 // ---- writing
