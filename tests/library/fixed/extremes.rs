@@ -1,0 +1,117 @@
+//! The bounds: the longest file, the greatest tables, the most states that words can count, the longest
+//! name, and a history that issues every number.
+
+use super::{Loaded, Spoken};
+use crate::lent::{self, Compiled, Lent, Room};
+use crate::random::Random;
+use crate::reference::file;
+use crate::reference::image::{last, put, HEAD, IMAGE, SLOT};
+use crate::reference::rule::Rule;
+use crate::reference::ruleset::Ruleset;
+use crate::reference::tables::{sets_needed, words_needed};
+use crate::tally::Tally;
+
+pub fn extremes(tally: &mut Tally, random: &mut Random) {
+    greatest(tally, random);
+    too_many(tally, random);
+    most_states(tally, random);
+    longest_name(tally, random);
+    every_number(tally, random);
+}
+
+/// 512 rules of full length whose patterns share no more than they must. There are only 64 first symbols,
+/// so this is the most: the paper's bounds 3,073 and 5,121 hold, but no ruleset reaches them.
+fn greatest(tally: &mut Tally, random: &mut Random) {
+    let rules = (0..512).map(|k| {
+        let (first, second) = ((k / 8) as u8, 1 + (k % 8) as u8);
+        let (left, right) = ([first, second, 1, 2, 3, 4], [1, 2, 3, 4, second, first]);
+        let rule = Rule::new([&left, &[5, 6, 7, 0x3F], &right, &[255; 4]]);
+        (65_535 - k, rule.expect("the parts are short enough"))
+    });
+    let set = Ruleset { last: 65_535, rules: rules.collect() };
+    let text = file::write(&set);
+    tally.equal("the longest file", text.len(), 29_199);
+
+    let (left, right) = (1 + 64 + 512 * 5, 1 + 64 + 512 * 9);
+    let (words, sets) = (words_needed(left, right), sets_needed(left, right));
+    let loaded = Loaded::new(tally, &text, words, sets, random);
+    tally.equal("L and R", loaded.compiled.words.contents()[..2].to_vec(), vec![left as u16, right as u16]);
+    Loaded::new(tally, &text, words - 1, sets, random);
+    Loaded::new(tally, &text, words, sets - 1, random);
+    // As much as the header says to lend at most.
+    Loaded::new(tally, &text, 524_418, 65_552, random);
+    for room in [29_198, 29_199, 29_200] {
+        lent::write_file(tally, &loaded.image, &mut Lent::any(room, random));
+    }
+    let mut longer = text.clone();
+    longer.extend(file::line(&[2, 0, 1, 0, 1, 0, 0, 5]));
+    lent::read_file(tally, &Lent::new(&longer, random), &mut Lent::any(IMAGE, random));
+}
+
+/// A 513th rule is none, however sound it and the memory that holds it are.
+fn too_many(tally: &mut Tally, random: &mut Random) {
+    let rule = Rule::new([&[], &[5], &[], &[]]).expect("the parts are short enough");
+    for count in [512, 513, 600] {
+        let set = Ruleset { last: count, rules: (1..=count).map(|number| (number, rule)).collect() };
+        let mut image = random.bytes(HEAD + SLOT * 600);
+        put(&set, &mut image);
+        let mut image = Lent::new(&image, random);
+        lent::check(tally, &image);
+        lent::write_file(tally, &image, &mut Lent::any(29_199, random));
+        lent::shift(tally, &mut image, count, 0);
+        lent::drop(tally, &mut image, count);
+    }
+}
+
+/// L and R of 65,535 each: the words are judged by their lengths, and the last state can be used.
+fn most_states(tally: &mut Tally, random: &mut Random) {
+    let text = [file::line(&[1, 1, 0, 1, 0, 1]), file::line(&[2, 0, 1, 0, 1, 0, 1, 5, 0x65])].concat();
+    let image = Loaded::new(tally, &text, 200, 30, random).image;
+    let states = 65_535;
+    let mut words = vec![65_534; words_needed(states, states)];
+    (words[0], words[1]) = (65_535, 65_535);
+    let mut sets = vec![0; sets_needed(states, states)];
+    (sets[8 * 65_534], sets[8 * (states + 65_534)]) = (1, 1);
+    for (fewer_words, fewer_sets) in [(0, 0), (1, 0), (0, 1)] {
+        let (words, sets) = (&words[..words.len() - fewer_words], &sets[..sets.len() - fewer_sets]);
+        let compiled = Compiled::new(words, sets, random);
+        let name = Lent::new(&[5, 5], random);
+        let (heard, steps) = lent::speak(tally, &image, &compiled, &name, &mut Room::any(2, 2, random));
+        let wanted = if fewer_words + fewer_sets == 0 { (255, 2, 6) } else { (16, 0, 0) };
+        tally.equal("65,535 states", (heard.code, heard.given, steps), wanted);
+    }
+}
+
+/// 64 letters, four phones each: all that one name can give.
+fn longest_name(tally: &mut Tally, random: &mut Random) {
+    let text =
+        [file::line(&[1, 1, 0, 1, 0xFF, 0xFF]), file::line(&[2, 0xFF, 0xFF, 0, 1, 0, 4, 0x3F, 1, 2, 3, 255])];
+    let loaded = Loaded::new(tally, &text.concat(), 200, 30, random);
+    let said = loaded.speak(tally, &[0x3F; 64], 256, 64, random);
+    let (phones, numbers) = ([1, 2, 3, 255].repeat(64), vec![65_535; 64]);
+    tally.equal("the longest name", said, Spoken::Said { phones, numbers, steps: 130 });
+    let refused = |number, place| Spoken::Refused { number, place, steps: 130 };
+    let said = loaded.speak(tally, &[0x3F; 64], 255, 0, random);
+    tally.equal("255 phones lent", said, refused(4, 256));
+    let said = loaded.speak(tally, &[0x3F; 64], 256, 63, random);
+    tally.equal("63 numbers lent", said, refused(5, 64));
+}
+
+/// Rules added and dropped until `last` is 65,535, and then 512 of them held at once.
+fn every_number(tally: &mut Tally, random: &mut Random) {
+    let rule = Lent::new(&Rule::new([&[], &[5], &[], &[]]).expect("short enough").0, random);
+    let mut image = Lent::any(IMAGE, random);
+    lent::clear(tally, &mut image);
+    for number in 1..=65_535 - 512 {
+        lent::add(tally, &mut image, &rule, 0);
+        lent::drop(tally, &mut image, number);
+    }
+    for k in 0..512 {
+        lent::add(tally, &mut image, &rule, k / 2);
+    }
+    tally.equal("the last number", last(image.contents()), 65_535);
+    lent::add(tally, &mut image, &rule, 0);
+    lent::drop(tally, &mut image, 65_535);
+    lent::add(tally, &mut image, &rule, 0);
+    lent::check(tally, &image);
+}

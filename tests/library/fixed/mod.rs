@@ -1,0 +1,100 @@
+//! Cases that stand in document 01 or at the bounds it names.
+
+mod extremes;
+mod paper;
+mod refusals;
+mod threads;
+mod wrong;
+
+use crate::lent::{self, Compiled, Heard, Lent, Room};
+use crate::random::Random;
+use crate::reference::image::IMAGE;
+use crate::reference::ACCEPTED;
+use crate::tally::Tally;
+
+type Case = fn(&mut Tally, &mut Random);
+
+pub fn fixed(tally: &mut Tally) {
+    let random = &mut Random::new(1);
+    let cases: [(&str, Case); 5] = [
+        ("the paper's marks", paper::paper),
+        ("the paper's refusals", refusals::refusals),
+        ("the paper's ways to be wrong", wrong::wrong),
+        ("extremes", extremes::extremes),
+        ("threads", threads::threads),
+    ];
+    for (subject, case) in cases {
+        tally.trial = subject.to_string();
+        case(tally, random);
+    }
+}
+
+/// A ruleset loaded by the library from a rule file, with its tables.
+struct Loaded {
+    image: Lent<u8>,
+    compiled: Compiled,
+}
+
+/// What the library says of one name.
+#[derive(PartialEq, Debug)]
+enum Spoken {
+    Said { phones: Vec<u8>, numbers: Vec<u16>, steps: usize },
+    Refused { number: u8, place: usize, steps: usize },
+}
+
+impl Loaded {
+    fn new(tally: &mut Tally, text: &[u8], words: usize, sets: usize, random: &mut Random) -> Loaded {
+        let mut image = Lent::any(IMAGE, random);
+        let mut compiled = Compiled::any(words, sets, random);
+        lent::load(tally, &Lent::new(text, random), &mut image, &mut compiled);
+        Loaded { image, compiled }
+    }
+
+    /// Speaks a name by the tables; the plain reading must say the same.
+    fn speak(
+        &self,
+        tally: &mut Tally,
+        name: &[u8],
+        phones: usize,
+        numbers: usize,
+        random: &mut Random,
+    ) -> Spoken {
+        let name = Lent::new(name, random);
+        let mut room = Room::any(phones, numbers, random);
+        let (heard, steps) = lent::speak(tally, &self.image, &self.compiled, &name, &mut room);
+        let mut plain_room = Room::any(phones, numbers, random);
+        let plain = lent::read_name(tally, &self.image, &name, &mut plain_room);
+        tally.equal("walk and plain reading", heard, plain);
+        Spoken::new(heard, steps, &room)
+    }
+}
+
+impl Spoken {
+    fn new(heard: Heard, steps: usize, room: &Room) -> Spoken {
+        if heard.code != ACCEPTED {
+            return Spoken::Refused { number: heard.code, place: heard.given, steps };
+        }
+        let (phones, numbers) = room.contents();
+        let phones = phones.iter().copied().take(heard.given).collect();
+        let numbers = numbers.iter().copied().take(heard.applied).collect();
+        Spoken::Said { phones, numbers, steps }
+    }
+}
+
+/// "a is 01, b is 02, up to z, 1A."
+fn letters(name: &str) -> Vec<u8> {
+    name.bytes().map(|letter| letter - b'a' + 1).collect()
+}
+
+const SIX_RULES: &[u8] = b"010100060006F2
+02000101010100000B0EE1
+020002000100010B6B84
+020003000101000500F4
+0200040002000105056984
+0200050001000105658D
+020006000100010E6E7A
+";
+
+/// L = 2 and R = 8 for the six rules.
+const SIX_WORDS: usize = 642;
+const SIX_SETS: usize = 80;

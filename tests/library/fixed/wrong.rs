@@ -1,0 +1,83 @@
+//! "Ways to be wrong that pass a short trial", and the reviewer's trials that show from outside: each
+//! with the answer written out here, so that it holds without the reference.
+
+use super::{letters, Loaded, Spoken, SIX_RULES, SIX_SETS, SIX_WORDS};
+use crate::lent::{self, Compiled, Lent, Room};
+use crate::random::Random;
+use crate::reference::file::line;
+use crate::reference::image::{last, IMAGE};
+use crate::tally::Tally;
+
+pub fn wrong(tally: &mut Tally, random: &mut Random) {
+    first_not_longest(tally, random);
+    ends_inside(tally, random);
+    last_after_drop(tally, random);
+    words_decide(tally, random);
+    name_inside_image(tally, random);
+}
+
+/// Rule [e] before rule [ee]: the first fits everywhere, and reading stops only after the last letter.
+/// It moves on by its target alone although its right context is longer.
+fn first_not_longest(tally: &mut Tally, random: &mut Random) {
+    let text = [
+        line(&[1, 1, 0, 3, 0, 3]),
+        line(&[2, 0, 1, 0, 1, 2, 1, 5, 5, 5, 0x61]),
+        line(&[2, 0, 2, 0, 1, 0, 1, 5, 0x62]),
+        line(&[2, 0, 3, 0, 2, 0, 1, 5, 5, 0x63]),
+    ];
+    let loaded = Loaded::new(tally, &text.concat(), 2 + 64 * 5, 8 * 5, random);
+    let said = loaded.speak(tally, &letters("eeee"), 4, 4, random);
+    let (phones, numbers) = (vec![0x61, 0x61, 0x62, 0x62], vec![1, 1, 2, 2]);
+    tally.equal("the first rule, by its target", said, Spoken::Said { phones, numbers, steps: 10 });
+}
+
+/// "State nk also holds rule 2": in nkn the first k is not after #, so rule 2 speaks it.
+fn ends_inside(tally: &mut Tally, random: &mut Random) {
+    let six = Loaded::new(tally, SIX_RULES, SIX_WORDS, SIX_SETS, random);
+    let said = six.speak(tally, &letters("nkn"), 3, 3, random);
+    let (phones, numbers) = (vec![0x6E, 0x6B, 0x6E], vec![6, 2, 6]);
+    tally.equal("a pattern inside another", said, Spoken::Said { phones, numbers, steps: 8 });
+}
+
+fn last_after_drop(tally: &mut Tally, random: &mut Random) {
+    let mut image = Lent::any(IMAGE, random);
+    lent::clear(tally, &mut image);
+    let mut rule = [0; 24];
+    (rule[1], rule[10]) = (1, 5);
+    let rule = Lent::new(&rule, random);
+    lent::add(tally, &mut image, &rule, 0);
+    lent::drop(tally, &mut image, 1);
+    tally.equal("last after a drop", last(image.contents()), 1);
+    lent::add(tally, &mut image, &rule, 0);
+    tally.equal("the number after a drop", last(image.contents()), 2);
+}
+
+/// The walk is the function of the lent words: without rule 4's bit, ee is spoken by other rules; with
+/// every set empty, nothing is; and the plain reading sees none of it.
+fn words_decide(tally: &mut Tally, random: &mut Random) {
+    let six = Loaded::new(tally, SIX_RULES, SIX_WORDS, SIX_SETS, random);
+    let words = six.compiled.words.contents();
+    let cases: [(u64, Spoken); 2] = [
+        (!8, Spoken::Said { phones: vec![0x6E, 0x65], numbers: vec![1, 6, 5, 3], steps: 10 }),
+        (0, Spoken::Refused { number: 3, place: 1, steps: 10 }),
+    ];
+    for (mask, wanted) in cases {
+        let sets: Vec<u64> = six.compiled.sets.contents().iter().map(|word| word & mask).collect();
+        let compiled = Compiled::new(words, &sets, random);
+        let mut room = Room::any(256, 64, random);
+        let name = Lent::new(&letters("knee"), random);
+        let (heard, steps) = lent::speak(tally, &six.image, &compiled, &name, &mut room);
+        tally.equal("altered set words", Spoken::new(heard, steps, &room), wanted);
+    }
+}
+
+/// Slices that are only read may be the same memory: names that are bytes of the ruleset, its head and the
+/// targets of rules 2 and 4.
+fn name_inside_image(tally: &mut Tally, random: &mut Random) {
+    let six = Loaded::new(tally, SIX_RULES, SIX_WORDS, SIX_SETS, random);
+    for start in [0, 4 + 26 + 12, 4 + 26 * 3 + 12] {
+        for length in [0, 1, 2, 70] {
+            lent::read_own_bytes(tally, &six.image, start, length, &mut Room::any(256, 64, random));
+        }
+    }
+}

@@ -1,0 +1,44 @@
+//! Calls of the library on lent memory, each held against the reference: its answer, and every item of
+//! the memory that it was lent, with guards on both sides.
+
+mod binding;
+mod edits;
+mod files;
+mod memory;
+mod names;
+mod tables;
+
+pub use edits::{add, check, clear, drop, shift};
+pub use files::{load, read_file, write_file};
+pub use memory::Lent;
+pub use names::{read_name, read_own_bytes, speak, speak_many, Heard, Room};
+pub use tables::{build, Compiled};
+
+use crate::reference::{Answer, ACCEPTED};
+
+/// What stands in the numbers that a call gives before it is made: "written in every case".
+const UNWRITTEN: usize = 0x5EED_5EED;
+
+/// A code and a place, where an accepted call's place is the number given here.
+fn code_and_place(answer: &Answer<usize>) -> (u8, usize) {
+    match answer {
+        Ok(given) => (ACCEPTED, *given),
+        Err(refused) => (refused.number, refused.place),
+    }
+}
+
+/// The codes that the header names with each call, in rising order.
+pub const NAMED: [(&str, &[u8]); 12] = [
+    ("clear", &[0, 255]),
+    ("check", &[0, 255]),
+    ("add", &[0, 6, 7, 9, 10, 255]),
+    ("drop", &[0, 8, 255]),
+    ("move", &[0, 7, 8, 255]),
+    ("read_file", &[0, 13, 14, 255]),
+    ("write_file", &[0, 15, 255]),
+    ("build", &[0, 11, 12, 255]),
+    ("load", &[0, 11, 12, 13, 14, 255]),
+    ("read_name", &[0, 1, 2, 3, 4, 5, 255]),
+    ("speak", &[0, 1, 2, 3, 4, 5, 16, 255]),
+    ("speak_many", &[0, 255]),
+];

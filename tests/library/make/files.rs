@@ -1,0 +1,109 @@
+//! Rule files, damaged as text and as frames whose sums still hold.
+
+use crate::random::Random;
+use crate::reference::file::{frame, line};
+
+/// Damaged in one way; it may still be a rule file, for the reference judges it.
+pub fn damaged(file: &[u8], random: &mut Random) -> Vec<u8> {
+    match random.below(3) {
+        0 => damaged_text(file.to_vec(), random),
+        1 => damaged_lines(file, random),
+        _ => damaged_frame(file, random),
+    }
+}
+
+fn damaged_text(mut file: Vec<u8>, random: &mut Random) -> Vec<u8> {
+    let at = random.below(file.len());
+    match random.below(10) {
+        0 => file[at] ^= 1 << random.below(8),
+        1 => file[at] = random.byte(),
+        2 => file.truncate(at),
+        3 => file.truncate(file.len() - 1),
+        4 => file.extend(random.pick(&[&b"\n"[..], b"0", b"00\n", b"02FE\n", b"\0", b" "])),
+        5 => file[at] = file[at].to_ascii_lowercase(),
+        6 => file.insert(at, random.pick(b"0123456789ABCDEFabcdef\n\r ")),
+        7 => drop(file.remove(at)),
+        8 => {
+            let length = random.pick(&[0, 1, 2, 15, 100]);
+            file = random.bytes(length);
+        }
+        _ => {
+            let ends = file.iter().position(|symbol| *symbol == b'\n').expect("lines end");
+            file.insert(ends, b'\r');
+        }
+    }
+    file
+}
+
+/// Whole lines dropped, repeated, exchanged, put in.
+fn damaged_lines(file: &[u8], random: &mut Random) -> Vec<u8> {
+    let mut lines = lines(file);
+    let (at, other) = (random.below(lines.len()), random.below(lines.len()));
+    match random.below(6) {
+        0 => drop(lines.remove(at)),
+        1 => lines.insert(at, lines[other].clone()),
+        2 => lines.swap(at, other),
+        3 => lines.push(lines[other].clone()),
+        4 => lines[at] = random.pick(&[&b"\n"[..], b"0\n", b"00\n", b"000\n", b"0000\n", b"02FE\n"]).to_vec(),
+        // The number of another rule, with its sum made good.
+        _ => {
+            lines[at] = reframed(&lines[at], |bytes| {
+                if let Some(donor) = frame(&lines[other][..lines[other].len() - 1]) {
+                    bytes[1..3].copy_from_slice(&donor[1..3]);
+                }
+            })
+        }
+    }
+    lines.concat()
+}
+
+/// Bytes of one frame altered, with its sum made good: what refusal 14 is for.
+fn damaged_frame(file: &[u8], random: &mut Random) -> Vec<u8> {
+    let mut lines = lines(file);
+    let at = if random.one_in(4) { 0 } else { random.below(lines.len()) };
+    lines[at] = reframed(&lines[at], |bytes| {
+        let place = random.below(bytes.len());
+        match random.below(11) {
+            0 => bytes[place] = random.pick(&[0, 1, 2, 4, 5, 6, 7, 0x3F, 0x40, 255]),
+            1 => bytes[place] = bytes[place].wrapping_add(1),
+            2 => bytes[place] = bytes[place].wrapping_sub(1),
+            3 => bytes.push(random.byte()),
+            4 => drop(bytes.pop()),
+            5 => bytes.insert(place, random.within(1, 0x3F) as u8),
+            6 => bytes[0] = random.below(5) as u8,
+            7 => bytes.truncate(place.max(1)),
+            8 => {
+                let more = random.within(1, 700);
+                bytes.extend(random.bytes(more));
+            }
+            9 => *bytes = long_parts(bytes, random),
+            _ => {
+                // The lengths of a rule line, or a head's count and `last`.
+                let field = random.within(2, 6).min(bytes.len() - 1);
+                bytes[field] = random.pick(&[0, 1, 2, 4, 5, 7, 255]);
+            }
+        }
+    });
+    lines.concat()
+}
+
+/// A rule line whose lengths agree with its bytes, within the shape or just past it.
+fn long_parts(bytes: &[u8], random: &mut Random) -> Vec<u8> {
+    let lengths = [6, 4, 6, 4].map(|most| random.within(0, most + 1));
+    let mut longer = bytes[..3].to_vec();
+    longer.extend(lengths.map(|length| length as u8));
+    longer.extend((0..lengths.iter().sum()).map(|_| random.within(1, 0x3F) as u8));
+    longer
+}
+
+fn lines(file: &[u8]) -> Vec<Vec<u8>> {
+    file.split_inclusive(|symbol| *symbol == b'\n').map(<[u8]>::to_vec).collect()
+}
+
+fn reframed(text: &[u8], alter: impl FnOnce(&mut Vec<u8>)) -> Vec<u8> {
+    let Some(mut bytes) = frame(&text[..text.len() - 1]) else {
+        return text.to_vec();
+    };
+    alter(&mut bytes);
+    line(&bytes)
+}

@@ -1,0 +1,51 @@
+//! Names: of the ruleset's own letters, with wrong bytes, too long; and many of them in one memory.
+
+use crate::random::Random;
+use crate::reference::ruleset::Ruleset;
+
+pub fn name(set: &Ruleset, letters: &[u8], random: &mut Random) -> Vec<u8> {
+    let length = match random.below(12) {
+        0 => 0,
+        1 => 1,
+        2 => 64,
+        3 => random.pick(&[63, 65, 66, 80, 255, 400]),
+        4..=6 => random.within(20, 64),
+        _ => random.within(1, 20),
+    };
+    let mut name = Vec::new();
+    while name.len() < length {
+        // Pieces of the rules make their long contexts come true.
+        if !set.rules.is_empty() && random.one_in(2) {
+            let (_, rule) = random.pick(&set.rules);
+            let pieces = [rule.left(), rule.target(), rule.right()].concat();
+            name.extend(pieces.iter().filter(|symbol| **symbol != 0));
+        } else {
+            name.push(random.pick(letters));
+        }
+    }
+    name.truncate(length);
+    if length > 0 && random.one_in(8) {
+        for _ in 0..random.within(1, 3) {
+            let at = random.below(length);
+            name[at] = random.pick(&[0x00, 0x01, 0x3F, 0x40, 0x41, 0x80, 0xFF]);
+        }
+    }
+    name
+}
+
+/// Each name after a byte that says its length; the last may be cut off.
+pub fn many(set: &Ruleset, letters: &[u8], random: &mut Random) -> Vec<u8> {
+    let mut names = Vec::new();
+    for _ in 0..random.below(12) {
+        let mut name = name(set, letters, random);
+        name.truncate(255);
+        names.push(name.len() as u8);
+        names.extend(name);
+    }
+    match random.below(4) {
+        0 if !names.is_empty() => names.truncate(random.below(names.len())),
+        1 => names.push(random.within(1, 255) as u8),
+        _ => {}
+    }
+    names
+}

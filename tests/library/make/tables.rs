@@ -1,0 +1,72 @@
+//! Words and set words for a walk: built, damaged, random.
+
+use crate::random::Random;
+use crate::reference::ruleset::Ruleset;
+use crate::reference::tables::{build, sets_needed, words_needed};
+
+pub type Words = (Vec<u16>, Vec<u64>);
+
+pub fn built(set: &Ruleset) -> Words {
+    let tables = build(set);
+    (tables.words, tables.sets)
+}
+
+/// Built tables, altered in one way. What lies past the needed words may be anything.
+pub fn damaged((mut words, mut sets): Words, random: &mut Random) -> Words {
+    let states = [words[0] as usize, words[1] as usize];
+    match random.below(10) {
+        // Without some of their bits the sets choose later rules that fit as well, or none.
+        0 | 1 => sets.iter_mut().for_each(|word| *word &= random.next() | random.next()),
+        // Bits more choose rules that do not fit, and places past the list.
+        2 => scatter(&mut sets, random, |word, random| *word |= 1 << random.below(64)),
+        3 => scatter(&mut sets, random, |word, random| *word ^= 1 << random.below(64)),
+        // Other entries, most of them of states there are.
+        4 => scatter(&mut words[2..], random, |entry, random| {
+            *entry = random.below(states[0].max(states[1]) + 1) as u16;
+        }),
+        5 => scatter(&mut words[2..], random, |entry, random| *entry = random.next() as u16),
+        6 => {
+            let side = random.below(2);
+            words[side] = random.pick(&[0, 1, words[side].wrapping_sub(1), words[side] + 1, 65_535]);
+        }
+        7 => words.truncate(random.pick(&[0, 1, 2, 65, words.len() - 1])),
+        8 => sets.truncate(random.pick(&[0, 1, sets.len() - 1])),
+        _ => {
+            words.extend((0..random.within(1, 100)).map(|_| random.next() as u16));
+            sets.extend((0..random.within(1, 20)).map(|_| random.next()));
+        }
+    }
+    (words, sets)
+}
+
+/// Few states, entries mostly among them, and sets of few or many places.
+pub fn random(set: &Ruleset, random: &mut Random) -> Words {
+    let (left, right) = (random.within(1, 6), random.within(1, 6));
+    let wild = random.one_in(3);
+    let mut words = vec![left as u16, right as u16];
+    for row in 0..left + right {
+        let states = if row < left { left } else { right };
+        let above = if wild && random.one_in(3) { 1 } else { 0 };
+        words.extend((0..64).map(|_| random.below(states + above) as u16));
+    }
+    let places = set.rules.len() + if wild { 1 } else { 0 };
+    let mut sets = vec![0; sets_needed(left, right)];
+    for state in sets.chunks_mut(8) {
+        for _ in 0..random.below(40) {
+            let place = random.below(places.max(1)).min(511);
+            state[place / 64] |= 1 << (place % 64);
+        }
+    }
+    debug_assert_eq!(words.len(), words_needed(left, right));
+    if random.one_in(8) {
+        words.iter_mut().skip(2).for_each(|entry| *entry = random.next() as u16);
+    }
+    (words, sets)
+}
+
+fn scatter<T>(items: &mut [T], random: &mut Random, mut alter: impl FnMut(&mut T, &mut Random)) {
+    for _ in 0..random.pick(&[1, 4, items.len() / 8 + 1]) {
+        let at = random.below(items.len());
+        alter(&mut items[at], random);
+    }
+}

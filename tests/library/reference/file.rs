@@ -1,0 +1,107 @@
+//! The rule file: frames of upper-case hexadecimal, one a line.
+
+use super::broken::{broken, Break};
+use super::rule::Rule;
+use super::ruleset::{Ruleset, MOST_RULES};
+use super::{refuse, Answer};
+
+/// A line from a frame's bytes without its sum: "the last byte makes all bytes add to zero modulo 256".
+pub fn line(bytes: &[u8]) -> Vec<u8> {
+    let mut sum = bytes.iter().fold(0u8, |sum, byte| sum.wrapping_sub(*byte));
+    if broken(Break::Checksum) {
+        sum = sum.wrapping_add(1);
+    }
+    let mut text = String::new();
+    for byte in bytes.iter().chain([&sum]) {
+        text.push_str(&format!("{byte:02X}"));
+    }
+    text.push('\n');
+    text.into_bytes()
+}
+
+/// The bytes of a frame without its sum; None where the digits are no sound frame.
+pub fn frame(digits: &[u8]) -> Option<Vec<u8>> {
+    if digits.len() % 2 != 0 || digits.len() < 4 {
+        return None;
+    }
+    let mut bytes = Vec::new();
+    for pair in digits.chunks(2) {
+        bytes.push(16 * digit(pair[0])? + digit(pair[1])?);
+    }
+    let total = bytes.iter().fold(0u8, |sum, byte| sum.wrapping_add(*byte));
+    bytes.pop();
+    (total == broken(Break::Checksum) as u8).then_some(bytes)
+}
+
+fn digit(symbol: u8) -> Option<u8> {
+    b"0123456789ABCDEF".iter().position(|known| *known == symbol).map(|value| value as u8)
+}
+
+pub fn write(set: &Ruleset) -> Vec<u8> {
+    let (count, last) = ((set.rules.len() as u16).to_be_bytes(), set.last.to_be_bytes());
+    let mut file = line(&[1, 1, count[0], count[1], last[0], last[1]]);
+    for (number, rule) in &set.rules {
+        let mut bytes = vec![2];
+        bytes.extend(number.to_be_bytes());
+        bytes.extend(&rule.0[..4]);
+        for part in [rule.left(), rule.target(), rule.right(), rule.phones()] {
+            bytes.extend(part);
+        }
+        file.extend(line(&bytes));
+    }
+    file
+}
+
+/// Refusals 13 and 14, the earlier line first and 13 before 14.
+pub fn read(file: &[u8]) -> Answer<Ruleset> {
+    let (head, mut at) = sound_line(file, 0)?;
+    let [1, 1, count_high, count_low, last_high, last_low] = head[..] else {
+        return refuse(14, 0);
+    };
+    let count = u16::from_be_bytes([count_high, count_low]) as usize;
+    if count > MOST_RULES {
+        return refuse(14, 0);
+    }
+    let mut set = Ruleset { last: u16::from_be_bytes([last_high, last_low]), rules: Vec::new() };
+    for _ in 0..count {
+        let (bytes, next) = sound_line(file, at)?;
+        let Some((number, rule)) = rule_of(&bytes) else {
+            return refuse(14, at);
+        };
+        let repeated = set.rules.iter().any(|(held, _)| *held == number);
+        if repeated || !(1..=set.last).contains(&number) || !rule.shaped() {
+            return refuse(14, at);
+        }
+        set.rules.push((number, rule));
+        at = next;
+    }
+    if at < file.len() {
+        return refuse(14, at);
+    }
+    Ok(set)
+}
+
+/// The frame of the line that starts here and where the next starts, or 13: also for a missing line,
+/// whose start is the file's length.
+fn sound_line(file: &[u8], start: usize) -> Answer<(Vec<u8>, usize)> {
+    let end = file[start..].iter().position(|symbol| *symbol == b'\n');
+    match end.and_then(|end| Some((frame(&file[start..start + end])?, start + end + 1))) {
+        Some(found) => Ok(found),
+        None => refuse(13, start),
+    }
+}
+
+/// A rule line's number and rule, where its bytes are exactly as many as its lengths say.
+fn rule_of(bytes: &[u8]) -> Option<(u16, Rule)> {
+    let (head, mut rest) = (bytes.get(..7)?, &bytes[7..]);
+    let mut parts: [&[u8]; 4] = [&[]; 4];
+    for k in 0..4 {
+        let length = head[3 + k] as usize;
+        parts[k] = rest.get(..length)?;
+        rest = &rest[length..];
+    }
+    if head[0] != 2 || !rest.is_empty() {
+        return None;
+    }
+    Some((u16::from_be_bytes([head[1], head[2]]), Rule::new(parts)?))
+}

@@ -1,0 +1,50 @@
+//! Many names in one call, as the header tells it.
+
+use super::ruleset::Ruleset;
+use super::walk::walk;
+use super::ACCEPTED;
+
+#[derive(Default)]
+pub struct Many {
+    pub phones: Vec<u8>,
+    pub numbers: Vec<u16>,
+    pub replies: Vec<usize>,
+}
+
+pub const REPLY: usize = 4;
+
+/// Each name is lent what the names before it left of the phones and numbers.
+pub fn speak_many(
+    set: &Ruleset,
+    words: &[u16],
+    sets: &[u64],
+    names: &[u8],
+    phones_lent: usize,
+    numbers_lent: usize,
+    replies_lent: usize,
+) -> Many {
+    let mut many = Many::default();
+    let mut rest = names;
+    while let Some((&length, after)) = rest.split_first() {
+        let cut_off = after.len() < length as usize;
+        if cut_off || many.replies.len() + REPLY > replies_lent {
+            break;
+        }
+        let (name, following) = after.split_at(length as usize);
+        rest = following;
+        let (phones_left, numbers_left) =
+            (phones_lent - many.phones.len(), numbers_lent - many.numbers.len());
+        match walk(set, words, sets, name, phones_left, numbers_left) {
+            (Ok(said), steps) => {
+                let reply = [ACCEPTED as usize, said.phones.len(), said.numbers.len(), steps];
+                many.replies.extend(reply);
+                many.phones.extend(said.phones);
+                many.numbers.extend(said.numbers);
+            }
+            (Err(refused), steps) => {
+                many.replies.extend([refused.number as usize, refused.place, 0, steps]);
+            }
+        }
+    }
+    many
+}

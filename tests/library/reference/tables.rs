@@ -1,0 +1,97 @@
+//! The two tables, straight from their definition: every entry looks for the longest suffix anew.
+
+use super::broken::{broken, Break};
+use super::ruleset::Ruleset;
+use super::{refuse, Answer};
+use std::collections::HashMap;
+
+pub struct Tables {
+    pub words: Vec<u16>,
+    pub sets: Vec<u64>,
+    /// The strings of the right states in order (the paper's M10 names them).
+    pub right_strings: Vec<Vec<u8>>,
+}
+
+pub fn words_needed(left: usize, right: usize) -> usize {
+    2 + 64 * (left + right)
+}
+
+pub fn sets_needed(left: usize, right: usize) -> usize {
+    8 * (left + right)
+}
+
+pub fn build(set: &Ruleset) -> Tables {
+    let lefts = set.rules.iter().map(|(_, rule)| rule.left().to_vec());
+    let rights = set.rules.iter().map(|(_, rule)| rule.right_pattern());
+    let (left, right) = (Side::new(lefts.collect()), Side::new(rights.collect()));
+    let mut words = vec![left.strings.len() as u16, right.strings.len() as u16];
+    let mut sets = Vec::new();
+    for side in [&left, &right] {
+        for string in &side.strings {
+            words.extend((0..64).map(|symbol| side.entry(string, symbol)));
+            sets.extend(side.set(string));
+        }
+    }
+    Tables { words, sets, right_strings: right.strings }
+}
+
+/// Refusals 11 and 12 of the build.
+pub fn room(tables: &Tables, words_lent: usize, sets_lent: usize) -> Answer<()> {
+    if words_lent < tables.words.len() {
+        return refuse(11, tables.words.len());
+    }
+    if sets_lent < tables.sets.len() {
+        return refuse(12, tables.sets.len());
+    }
+    Ok(())
+}
+
+struct Side {
+    strings: Vec<Vec<u8>>,
+    numbered: HashMap<Vec<u8>, u16>,
+    places: HashMap<Vec<u8>, Vec<usize>>,
+}
+
+impl Side {
+    /// "Take the rules in order and each pattern's prefixes, shortest first; each string not yet
+    /// numbered gets the next number."
+    fn new(patterns: Vec<Vec<u8>>) -> Side {
+        let mut side = Side { strings: Vec::new(), numbered: HashMap::new(), places: HashMap::new() };
+        side.number(&[]);
+        for (place, pattern) in patterns.iter().enumerate() {
+            for length in 1..=pattern.len() {
+                side.number(&pattern[..length]);
+            }
+            side.places.entry(pattern.clone()).or_default().push(place);
+        }
+        side
+    }
+
+    fn number(&mut self, string: &[u8]) {
+        if !self.numbered.contains_key(string) {
+            self.numbered.insert(string.to_vec(), self.strings.len() as u16);
+            self.strings.push(string.to_vec());
+        }
+    }
+
+    /// "The state of the longest suffix of (q's string, then c) that is numbered."
+    fn entry(&self, string: &[u8], symbol: u8) -> u16 {
+        let longer = [string, &[symbol]].concat();
+        let mut suffixes = (0..=longer.len()).map(|start| &longer[start..]);
+        suffixes.find_map(|suffix| self.numbered.get(suffix).copied()).expect("the empty string is state 0")
+    }
+
+    /// "The places of all rules whose pattern is a suffix of q's string": place 64 j + k is bit k of word j.
+    fn set(&self, string: &[u8]) -> [u64; 8] {
+        let mut words = [0; 8];
+        for start in 0..=string.len() {
+            if start > 0 && broken(Break::Inside) {
+                break;
+            }
+            for place in self.places.get(&string[start..]).into_iter().flatten() {
+                words[place / 64] |= 1 << (place % 64);
+            }
+        }
+        words
+    }
+}

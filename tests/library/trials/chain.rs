@@ -1,0 +1,54 @@
+//! Demand 3 from outside: a list of edits from the empty list, the tables built after it, and a name;
+//! the walk and the plain reading are alike. Here the library is held against itself as well.
+
+use crate::lent::{self, Compiled, Lent, Room};
+use crate::make::{names, rules};
+use crate::random::Random;
+use crate::reference::image::{decode, IMAGE};
+use crate::reference::ruleset::Ruleset;
+use crate::reference::tables::build;
+use crate::tally::Tally;
+
+pub fn chain(tally: &mut Tally, random: &mut Random) {
+    let letters = rules::letters(random);
+    let mut image = Lent::any(IMAGE, random);
+    lent::clear(tally, &mut image);
+    // The same list by the reference alone: the image must not stray from it edit by edit.
+    let mut ledger = Ruleset::default();
+    for _ in 0..random.within(1, 60) {
+        let number = random.below(ledger.last as usize + 2) as u16;
+        let p = random.below(ledger.rules.len() + 2);
+        match random.below(8) {
+            0 => {
+                lent::drop(tally, &mut image, number);
+                let _ = ledger.drop(number);
+            }
+            1 => {
+                lent::shift(tally, &mut image, number, p);
+                let _ = ledger.shift(number, p);
+            }
+            _ => {
+                let rule = rules::any_rule(&letters, &ledger.rules, random);
+                lent::add(tally, &mut image, &Lent::new(&rule, random), p);
+                let _ = ledger.add(&rule, p);
+            }
+        }
+    }
+    let order = |set: &Ruleset| set.rules.iter().map(|(number, _)| *number).collect::<Vec<u16>>();
+    let held = decode(image.contents()).unwrap_or_default();
+    tally.equal("the edits' numbers in order", order(&held), order(&ledger));
+    tally.equal("the edits' last", held.last, ledger.last);
+
+    let tables = build(&ledger);
+    let mut compiled = Compiled::any(tables.words.len(), tables.sets.len(), random);
+    lent::build(tally, &image, &mut compiled);
+    for _ in 0..8 {
+        let name = Lent::new(&names::name(&ledger, &letters, random), random);
+        let (phones, numbers) = (random.pick(&[0, 3, 256, 256, 256]), random.pick(&[0, 3, 64, 64, 64]));
+        let mut plain = Room::blank(phones, numbers, random);
+        let mut walked = Room::blank(phones, numbers, random);
+        let read = lent::read_name(tally, &image, &name, &mut plain);
+        let (spoken, _) = lent::speak(tally, &image, &compiled, &name, &mut walked);
+        tally.equal("walk and plain reading", (spoken, walked.contents()), (read, plain.contents()));
+    }
+}

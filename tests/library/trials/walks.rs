@@ -1,0 +1,65 @@
+//! Walks through tables built, of another ruleset, damaged and random, with room for what they say
+//! lent exactly, one too few and not at all.
+
+use super::{lending, SELDOM};
+use crate::lent::{self, Compiled, Heard, Lent, Room};
+use crate::make::tables::{built, damaged, random as any_tables, Words};
+use crate::make::{images, names, rules};
+use crate::random::Random;
+use crate::reference::ruleset::Ruleset;
+use crate::tally::Tally;
+
+pub fn walks(tally: &mut Tally, random: &mut Random) {
+    let letters = rules::letters(random);
+    let set = rules::ruleset(&letters, SELDOM, random);
+    let image = Lent::new(&images::sound(&set, random), random);
+    let sound = built(&set);
+    let compiled = lend(&sound, random);
+    for _ in 0..6 {
+        let name = Lent::new(&names::name(&set, &letters, random), random);
+        spoken(tally, &image, &compiled, &name, random);
+    }
+    for _ in 0..8 {
+        let compiled = lend(&other_tables(&set, &letters, &sound, random), random);
+        for _ in 0..3 {
+            let name = Lent::new(&names::name(&set, &letters, random), random);
+            spoken(tally, &image, &compiled, &name, random);
+        }
+    }
+}
+
+fn other_tables(set: &Ruleset, letters: &[u8], sound: &Words, random: &mut Random) -> Words {
+    match random.below(8) {
+        0 => built(&rules::ruleset(letters, SELDOM, random)),
+        1 => {
+            // Tables from before an edit: the rules stand at other places.
+            let mut earlier = set.clone();
+            random.shuffle(&mut earlier.rules);
+            built(&earlier)
+        }
+        2 | 3 => any_tables(set, random),
+        4 => {
+            let (words, sets) = (random.below(400), random.below(60));
+            let words = (0..words).map(|_| random.below(4) as u16).collect();
+            (words, (0..sets).map(|_| random.next()).collect())
+        }
+        _ => damaged(sound.clone(), random),
+    }
+}
+
+fn lend((words, sets): &Words, random: &mut Random) -> Compiled {
+    Compiled::new(words, sets, random)
+}
+
+/// One name plainly and by the tables; then with as much room as each needs, or nearly.
+fn spoken(tally: &mut Tally, image: &Lent<u8>, compiled: &Compiled, name: &Lent<u8>, random: &mut Random) {
+    let plain = lent::read_name(tally, image, name, &mut Room::any(256, 64, random));
+    lent::read_name(tally, image, name, &mut room_near(plain, random));
+    let (walked, _) = lent::speak(tally, image, compiled, name, &mut Room::any(256, 64, random));
+    lent::speak(tally, image, compiled, name, &mut room_near(walked, random));
+}
+
+fn room_near(heard: Heard, random: &mut Random) -> Room {
+    let (phones, numbers) = (lending(heard.given.min(256), random), lending(heard.applied.min(64), random));
+    Room::any(phones, numbers, random)
+}
