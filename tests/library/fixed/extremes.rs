@@ -14,6 +14,7 @@ use crate::tally::Tally;
 pub fn extremes(tally: &mut Tally, random: &mut Random) {
     greatest(tally, random);
     too_many(tally, random);
+    every_place(tally, random);
     most_states(tally, random);
     longest_name(tally, random);
     every_number(tally, random);
@@ -60,6 +61,24 @@ fn too_many(tally: &mut Tally, random: &mut Random) {
         lent::write_file(tally, &image, &mut Lent::any(29_199, random));
         lent::shift(tally, &mut image, count, 0);
         lent::drop(tally, &mut image, count);
+    }
+}
+
+/// 512 rules of two letters each, and names in which every one of them is the only one that fits.
+fn every_place(tally: &mut Tally, random: &mut Random) {
+    let targets: Vec<[u8; 2]> = (0..512).map(|k| [1 + (k / 32) as u8, 0x20 + (k % 32) as u8]).collect();
+    let rules = targets.iter().zip(1..).map(|(target, number)| {
+        (number, Rule::new([&[], target, &[], &[target[1]]]).expect("the parts are short enough"))
+    });
+    let set = Ruleset { last: 512, rules: rules.collect() };
+    // The right strings are the empty one, 32 second letters, and 512 targets reversed.
+    let (words, sets) = (words_needed(1, 545), sets_needed(1, 545));
+    let loaded = Loaded::new(tally, &file::write(&set), words, sets, random);
+    for (row, named) in targets.chunks(32).enumerate() {
+        let said = loaded.speak(tally, &named.concat(), 32, 32, random);
+        let phones = (0x20..0x40).collect();
+        let numbers = (1..=32).map(|k| 32 * row as u16 + k).collect();
+        tally.equal("every place", said, Spoken::Said { phones, numbers, steps: 130 });
     }
 }
 

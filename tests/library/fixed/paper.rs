@@ -1,7 +1,7 @@
 //! The six rules: made by edits, their file, the marks M1 to M12, and the two answers of `say`.
 
 use super::{letters, Loaded, Spoken, SIX_RULES, SIX_SETS, SIX_WORDS};
-use crate::lent::{self, Lent};
+use crate::lent::{self, Lent, Room};
 use crate::random::Random;
 use crate::reference::file::{frame, line};
 use crate::reference::image::{decode, IMAGE};
@@ -14,6 +14,7 @@ pub fn paper(tally: &mut Tally, random: &mut Random) {
     spoken_marks(tally, &six, random);
     table_marks(tally, &six);
     by_edits(tally, random);
+    many(tally, &six, random);
     say(tally, &six, random);
 }
 
@@ -72,6 +73,21 @@ fn by_edits(tally: &mut Tally, random: &mut Random) {
     let mut out = Lent::any(SIX_RULES.len(), random);
     lent::write_file(tally, &image, &mut out);
     tally.equal("the six rules' file", out.contents(), SIX_RULES);
+    lent::read_file(tally, &out, &mut image);
+}
+
+/// Marks M1, M4 and M6 in one call, and a name that is cut off.
+fn many(tally: &mut Tally, six: &Loaded, random: &mut Random) {
+    let mut names = Vec::new();
+    for name in ["knee", "nab", "e"] {
+        names.push(name.len() as u8);
+        names.extend(letters(name));
+    }
+    names.extend([2, 5]);
+    let (mut room, mut replies) = (Room::any(2, 4, random), Lent::any(16, random));
+    lent::speak_many(tally, &six.image, &six.compiled, &Lent::new(&names, random), &mut room, &mut replies);
+    tally.equal("replies", &replies.contents()[..12], &[255, 2, 3, 10, 3, 2, 0, 8, 255, 0, 1, 4]);
+    tally.equal("many names", room.contents(), (&[0x6E, 0x69], &[1, 6, 4, 3]));
 }
 
 /// What `say` would print, from the library's answers.

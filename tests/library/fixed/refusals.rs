@@ -1,7 +1,7 @@
 //! The example that stands beside each refusal in the paper's table, and the orders it gives.
 
 use super::{letters, Loaded, Spoken, SIX_RULES, SIX_SETS, SIX_WORDS};
-use crate::lent::{self, Compiled, Lent};
+use crate::lent::{self, Compiled, Lent, Room};
 use crate::random::Random;
 use crate::reference::image::{self, IMAGE};
 use crate::reference::rule::Rule;
@@ -10,10 +10,38 @@ use crate::reference::{file, refuse};
 use crate::tally::Tally;
 
 pub fn refusals(tally: &mut Tally, random: &mut Random) {
+    short(tally, random);
     names(tally, random);
     edits(tally, random);
     rooms(tally, random);
     files(tally, random);
+}
+
+/// Every call on memory too short for a ruleset: 0 comes before all else.
+fn short(tally: &mut Tally, random: &mut Random) {
+    let six = Loaded::new(tally, SIX_RULES, SIX_WORDS, SIX_SETS, random);
+    let mut compiled = six.compiled;
+    let rule = Lent::new(&rule(&[]).0, random);
+    let (good, bad) = (Lent::new(SIX_RULES, random), Lent::new(b"", random));
+    let (name, names) = (Lent::new(&[0x40; 65], random), Lent::new(&[1, 5, 1, 5], random));
+    for length in [0, 3, 4, IMAGE - 1] {
+        let mut image = Lent::new(&six.image.contents()[..length], random);
+        let mut room = Room::any(256, 64, random);
+        lent::clear(tally, &mut image);
+        lent::check(tally, &image);
+        lent::add(tally, &mut image, &rule, 9);
+        lent::drop(tally, &mut image, 9);
+        lent::shift(tally, &mut image, 9, 9);
+        for text in [&good, &bad] {
+            lent::read_file(tally, text, &mut image);
+            lent::load(tally, text, &mut image, &mut compiled);
+        }
+        lent::write_file(tally, &image, &mut Lent::any(0, random));
+        lent::build(tally, &image, &mut Compiled::any(0, 0, random));
+        lent::read_name(tally, &image, &name, &mut room);
+        lent::speak(tally, &image, &compiled, &name, &mut room);
+        lent::speak_many(tally, &image, &compiled, &names, &mut room, &mut Lent::any(8, random));
+    }
 }
 
 fn refused(number: u8, place: usize, steps: usize) -> Spoken {
@@ -38,11 +66,20 @@ fn names(tally: &mut Tally, random: &mut Random) {
         let said = six.speak(tally, name, phones, numbers, random);
         tally.equal("a refused name", said, wanted);
     }
-    // Words of length 1 are no tables, and are judged after the name.
-    let name = Lent::new(&letters("e"), random);
-    let mut room = lent::Room::any(256, 64, random);
-    let (heard, steps) = lent::speak(tally, &six.image, &Compiled::any(1, 0, random), &name, &mut room);
-    tally.equal("words of length 1", (heard.code, heard.given, steps), (16, 0, 0));
+    // Too few words, or no states, are no tables; the name is judged before them.
+    let sets = six.compiled.sets.contents();
+    let no_left = [&[0, 10], &six.compiled.words.contents()[2..]].concat();
+    let no_right = [&[10, 0], &six.compiled.words.contents()[2..]].concat();
+    for words in [&[][..], &[1], &[0, 0], &[1, 1], &no_left, &no_right] {
+        let compiled = Compiled::new(words, sets, random);
+        let cases: [(&[u8], Spoken); 3] =
+            [(&[5], refused(16, 0, 0)), (&[5, 0x40], refused(1, 1, 0)), (&[5; 65], refused(2, 0, 0))];
+        for (name, wanted) in cases {
+            let (name, mut room) = (Lent::new(name, random), Room::any(256, 64, random));
+            let (heard, steps) = lent::speak(tally, &six.image, &compiled, &name, &mut room);
+            tally.equal("no tables", Spoken::new(heard, steps, &room), wanted);
+        }
+    }
 }
 
 fn edits(tally: &mut Tally, random: &mut Random) {
@@ -81,7 +118,8 @@ fn edits(tally: &mut Tally, random: &mut Random) {
 
 fn rooms(tally: &mut Tally, random: &mut Random) {
     for (words, sets) in [(641, 80), (642, 79), (641, 79), (642, 80), (0, 0)] {
-        Loaded::new(tally, SIX_RULES, words, sets, random);
+        let six = Loaded::new(tally, SIX_RULES, words, sets, random);
+        lent::build(tally, &six.image, &mut Compiled::any(words, sets, random));
     }
     let mut empty = Lent::any(IMAGE, random);
     lent::clear(tally, &mut empty);
@@ -114,6 +152,7 @@ fn files(tally: &mut Tally, random: &mut Random) {
     for (text, number, place) in cases {
         tally.equal("the reference's reading", file::read(&text).map(|_| ()), refuse(number, place));
         lent::read_file(tally, &Lent::new(&text, random), &mut Lent::any(IMAGE, random));
+        Loaded::new(tally, &text, SIX_WORDS, SIX_SETS, random);
     }
 }
 

@@ -39,12 +39,19 @@ fn damaged_text(mut file: Vec<u8>, random: &mut Random) -> Vec<u8> {
 fn damaged_lines(file: &[u8], random: &mut Random) -> Vec<u8> {
     let mut lines = lines(file);
     let (at, other) = (random.below(lines.len()), random.below(lines.len()));
-    match random.below(6) {
+    match random.below(7) {
         0 => drop(lines.remove(at)),
         1 => lines.insert(at, lines[other].clone()),
         2 => lines.swap(at, other),
         3 => lines.push(lines[other].clone()),
         4 => lines[at] = random.pick(&[&b"\n"[..], b"0\n", b"00\n", b"000\n", b"0000\n", b"02FE\n"]).to_vec(),
+        5 => {
+            // A sum that is wrong in one bit: the last two digits before the line's end.
+            let digits = lines[at].len() - 3;
+            let sum = lines[at][digits..digits + 2].iter().fold(0, |sum, digit| 16 * sum + value(*digit));
+            let wrong = format!("{:02X}", sum ^ 1 << random.below(8));
+            lines[at][digits..digits + 2].copy_from_slice(wrong.as_bytes());
+        }
         // The number of another rule, with its sum made good.
         _ => {
             lines[at] = reframed(&lines[at], |bytes| {
@@ -98,6 +105,10 @@ fn long_parts(bytes: &[u8], random: &mut Random) -> Vec<u8> {
 
 fn lines(file: &[u8]) -> Vec<Vec<u8>> {
     file.split_inclusive(|symbol| *symbol == b'\n').map(<[u8]>::to_vec).collect()
+}
+
+fn value(digit: u8) -> u32 {
+    (digit as char).to_digit(16).unwrap_or(0)
 }
 
 fn reframed(text: &[u8], alter: impl FnOnce(&mut Vec<u8>)) -> Vec<u8> {

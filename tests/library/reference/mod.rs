@@ -1,6 +1,8 @@
 //! Document 01 once more, from its text alone and in safe Rust: what the library's answers are held
 //! against. Plain before fast, so that it can be read beside the paper.
 
+#![forbid(unsafe_code)]
+
 pub mod broken;
 pub mod file;
 pub mod image;
