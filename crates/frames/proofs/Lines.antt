@@ -29,6 +29,14 @@ value-digit d h =
       rw (e, le-leb 48 (55 + d) (omega arith), lt-leb (55 + d) 57 (omega arith), le-leb 65 (55 + d) (omega arith), le-leb (55 + d) 70 (omega arith)) (omega arith),
     ))
 
+-- the digit of a number, as it is computed
+pub digit-from : (d b : ℕ) → b ≡ pick (ltb d 10) 48 55 → (b ≤ 55) × (b + d ≡ digit d)
+unfolding digit
+digit-from d b e =
+    byBool (ltb d 10)
+    (λ t. let k : b ≡ 48 = e ∙ rw t in (omega arith, rw (t, k)))
+    (λ t. let k : b ≡ 55 = e ∙ rw t in (omega arith, rw (t, k)))
+
 -- the number of a character, as it is computed: m is what lies between it and the first letter, or the first digit
 module _ (a m : ℕ) (b : m < 256) where
   module _ (e : (m + 65) % 256 ≡ a) where

@@ -2,7 +2,7 @@
 ghost use mathlib.Core.Path.{_≡_};
 ghost use mathlib.Core.Bool.{Bool};
 ghost use Prim.Native.Nat.{_+_, _-_, _*_, _/_, _%_, _<_, _≤_};
-ghost use lib.Dec.{leb, eqb};
+ghost use lib.Dec.{leb, ltb, eqb};
 ghost use lib.ListN.{length, getD, take, drop, set};
 ghost use Rattle.rules.specs.Memory.{over, overAt};
 ghost use Rattle.rules.specs.Shape.{pick};
@@ -21,12 +21,19 @@ struct Pair {
     byte: u8,
 }
 
+// What the digit of a number has above it: one of two constants, so that the digits of many bytes are made at once.
+fn digit_base(d: u8) -> u8
+    ensures { λ r. ⌜ r ≡ pick (ltb d 10) 48 55 ⌝ }
+{
+    if d < 10 { 48 } else { 55 }
+}
+
 // The digit of a number below 16.
 fn hex_digit(d: u8) -> u8
     requires { ⌜ d < 16 ⌝ }
     ensures { λ r. ⌜ r ≡ digit d ⌝ }
 {
-    if d < 10 { 48 + d } else { 55 + d }
+    digit_base(d) + d
 }
 
 // The number of a letter from A to F, 16 for what is none.

@@ -1,23 +1,18 @@
--- `frames::hex_digit` meets its contract: the test decides. Assumes nothing.
-use borrow.Author.Tests.{lt-ltb, le-ltb}
-use Rattle.frames.specs.Lines.{digit}
+-- `frames::hex_digit` meets its contract. Assumes nothing.
+use native.Mathlib.Omega.{arith}
+use Rattle.frames.proofs.Lines.{digit-from}
 use borrow.Author.Needs.{needs}
 use Rattle.frames.proofs.hex_digit.Statement.{statement}
 use Rattle.frames.proofs.hex_digit.Tie as tie
 
-add-result : tie.Need-add-result
-add-result c = search needs
+digit-base-requires : tie.Need-digit-base-requires
+digit-base-requires c κs = search needs
 
-add-result-2 : tie.Need-add-result-2
-add-result-2 c = search needs
+add-result : tie.Need-add-result
+add-result c = let u = digit-from (c .before .args .d) (c .digit-base .result) (c .digit-base .ensures) .0 in omega arith
 
 returns : tie.Need-returns
-unfolding digit
-returns c = rw (lt-ltb _ _ (c .if1 .taken))
-
-returns-2 : tie.Need-returns-2
-unfolding digit
-returns-2 c = rw (le-ltb _ _ (c .if1 .left))
+returns c = digit-from (c .before .args .d) (c .digit-base .result) (c .digit-base .ensures) .1
 
 pub hex-digit-spec : {M : Type 1} → statement M
-hex-digit-spec = tie.close (tie.spec add-result add-result-2 returns returns-2)
+hex-digit-spec = tie.close (tie.spec digit-base-requires add-result returns)
