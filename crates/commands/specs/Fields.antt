@@ -1,5 +1,6 @@
 -- What the bytes of a monitor command mean, where they decide an argument of a call. A frame here is a command's bytes without its checksum;
 -- fields are high byte first.
+-- Assumes nothing.
 use Prim.Native.Nat.{ℕ, _+_, _*_, _≤_}
 use mathlib.Core.Path.{_≡_}
 use mathlib.Core.List.{List}

@@ -1,4 +1,5 @@
 -- The commands that read and write the rule file.
+-- Assumes nothing.
 use Prim.Native.Nat.{ℕ}
 use mathlib.Core.List.{List}
 use lib.ListN.{length, take, replicate}

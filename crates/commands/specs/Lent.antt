@@ -1,4 +1,5 @@
 -- Calls over the first so many of what the monitor holds: the rest keeps its contents.
+-- Assumes nothing.
 use Prim.Native.Nat.{ℕ, min}
 use mathlib.Core.List.{List, _++_}
 use lib.Dec.{leb, eqb}

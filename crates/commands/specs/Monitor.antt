@@ -1,4 +1,5 @@
 -- A line heard and a command answered: what the monitor holds, and all that a command comes to by its first byte (docs/MONITOR.md).
+-- Assumes nothing.
 use Prim.Native.Nat.{ℕ, _-_}
 use mathlib.Core.Path.{_≡_}
 use mathlib.Core.List.{List, []}

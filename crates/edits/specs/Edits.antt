@@ -1,4 +1,5 @@
 -- What an edit does to a ruleset in lent memory, to the last byte.
+-- Assumes nothing.
 use Prim.Native.Nat.{ℕ}
 use mathlib.Core.Path.{_≡_}
 use mathlib.Core.List.{List, [], _∷_}

@@ -1,4 +1,5 @@
 -- The edits of document 01's ledger: their refusals in order, and the state after them. Places count from 0.
+-- Assumes nothing.
 use Prim.Native.Nat.{ℕ, zero, suc, _+_}
 use mathlib.Core.List.{List, [], _∷_}
 use lib.ListN.{length, getD}

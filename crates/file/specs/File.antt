@@ -1,4 +1,5 @@
 -- The rule file of document 01: its writing, and its reading with the refusals 13 and 14.
+-- Assumes nothing.
 use Prim.Native.Nat.{ℕ, zero, suc, _+_, _-_, _/_, _%_}
 use mathlib.Core.List.{List, [], _∷_, _++_}
 use mathlib.Core.Bool.{Bool, true, false}

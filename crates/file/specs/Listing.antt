@@ -1,4 +1,5 @@
 -- A ruleset as a file describes it: numbered rules in order, and the last number issued.
+-- Assumes nothing.
 use Prim.Native.Nat.{ℕ}
 use mathlib.Core.List.{List, [], _∷_}
 use mathlib.Core.Bool.{Bool, true, false}

@@ -1,5 +1,6 @@
 -- A line of document 01's files: a frame of bytes in upper-case hexadecimal, ended by 0A. The last byte of a frame, its checksum,
 -- makes all its bytes add to zero modulo 256.
+-- Assumes nothing.
 use Prim.Native.Nat.{ℕ, _+_, _-_, _*_, _/_, _%_}
 use mathlib.Core.List.{List, [], _∷_, _++_}
 use mathlib.Core.Bool.{Bool, true, false}

@@ -1,5 +1,6 @@
 -- Lists of edits as lists of words, 27 words an edit: kind (0 add, 1 drop, else move), number, place, four lengths, then the left, target,
 -- right and phone bytes. A missing word reads as 0.
+-- Assumes nothing.
 use Prim.Native.Nat.{ℕ, zero, suc, _+_, _<_, _%_}
 use mathlib.Core.Path.{_≡_}
 use mathlib.Core.List.{List, [], _∷_, _++_}

@@ -1,4 +1,5 @@
 -- A list of edits from the empty ruleset, one after the other: all that a replay gives, and what the ledger says of it.
+-- Assumes nothing.
 use Prim.Native.Nat.{ℕ, _<_, _/_}
 use mathlib.Core.Path.{_≡_}
 use mathlib.Core.List.{List, _++_, map}
