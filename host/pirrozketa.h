@@ -61,8 +61,8 @@ enum {
 
 /*
  * Stack that each call uses, in bytes, as host/stack.c measures it on x86-64 with 512 rules and a name of
- * 64 letters: clear, count, last none to speak of; check 8,296; drop 8,328; move 8,440; add 8,456;
- * write_file 8,456; speak 8,472; speak_many 8,520; read_name 8,616; read_file 8,652; build 31,592; load
+ * 64 letters: clear, count, last none to speak of; check 8,216; drop 8,248; move 8,360; add 8,376;
+ * write_file 8,376; speak 8,392; speak_many 8,440; read_name 8,536; read_file 8,652; build 31,592; load
  * 31,640.
  */
 
