@@ -71,8 +71,9 @@ enum {
 /*
  * Its layout: the rule count (2 bytes), `last` (2), then 512 slots of 26 bytes in the order of the rules:
  * number (2), lengths of left context, target, right context and phones (1 each), then 6, 4, 6 and 4 bytes
- * for them. All numbers high byte first. Bytes past a length, and slots past the count, mean nothing: they
- * keep what was handed in or lay there, so compare rulesets by their files, not by these bytes.
+ * for them. All numbers high byte first. Bytes past a length mean nothing: an added rule keeps what was
+ * handed in, a rule that was read has zeros. Slots past the count mean nothing and keep what they held. So
+ * compare rulesets by their files, not by these bytes.
  */
 
 /* Makes the memory, whatever it holds, the empty ruleset with `last` 0. Refusal 0 where it is too short. */
