@@ -3,13 +3,12 @@
 use Prim.Native.Nat.{ℕ, _-_, _≤_, _<_}
 use mathlib.Core.Path.{_≡_, sym, ap, _∙_}
 use mathlib.Core.List.{List, []}
-use mathlib.Core.Bool.{Bool, true, false}
+use mathlib.Core.Bool.{Bool, true, false, cond}
 use native.Mathlib.Omega.{arith}
 use borrow.Author.Tests.{le-leb, lt-leb}
 use lib.ListN.{length, take, drop}
 use lib.Seq.{take-all, take-append-le}
 use Rattle.rules.specs.Memory.{over}
-use Rattle.rules.specs.Shape.{pick}
 use Rattle.frames.specs.declared.Line.{Line}
 use Rattle.frames.specs.Lines.{soundLine, decoded, report}
 use Rattle.frames.proofs.Lines.{sound-was}
@@ -48,4 +47,4 @@ module _ (text : List ℕ) (line : Line) (xs z : List ℕ)
         let t = take (length (g .f) - 1) (g .f) in
         let front : take (length (g .f) - 1) z ≡ t = ap (take (length (g .f) - 1)) (held k) ∙ take-append-le (length (g .f) - 1) (g .f) (drop (length (g .f)) xs) (omega arith) in
         ap (λ (i : ℕ). take (i - 1) z) m ∙ front
-        ∙ sym (ap (heardIn (length xs)) (g .is) ∙ ap (λ (b : Bool). pick b t []) (le-leb (length (g .f)) (length xs) k))
+        ∙ sym (ap (heardIn (length xs)) (g .is) ∙ ap (λ (b : Bool). cond b t []) (le-leb (length (g .f)) (length xs) k))

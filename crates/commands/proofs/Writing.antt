@@ -2,7 +2,7 @@
 -- Assumes nothing.
 use Prim.Native.Nat.{ℕ, zero, suc, _≤_}
 use mathlib.Core.Path.{_≡_, refl, sym, ap, _∙_, subst}
-use mathlib.Core.Bool.{Bool, true, false}
+use mathlib.Core.Bool.{Bool, true, false, cond}
 use mathlib.Core.List.{List, [], _∷_}
 use native.Mathlib.Omega.{arith}
 use borrow.Author.Tests.{eq-eqb, ne-eqb, leb-true}
@@ -10,7 +10,6 @@ use lib.Dec.{leb}
 use lib.ListN.{length, take, replicate, take-append-drop, length-replicate}
 use lib.Seq.{length-take-le}
 use Rattle.rules.specs.Memory.{over}
-use Rattle.rules.specs.Shape.{pick}
 use Rattle.rules.specs.Refusals.{refusalNumber, refusalPlace}
 use Rattle.rules.specs.declared.Refusal.{Refusal}
 use Rattle.image.specs.Image.{valid}
@@ -35,7 +34,7 @@ back-over (y ∷ ys) (x ∷ xs) (suc n) h k = ap (λ (l : List ℕ). y ∷ l) (b
 -- a writing by its two tests: of the ruleset, and of the room
 abbrev tested : Bool → Bool → List ℕ → List ℕ → Filed
 tested v r text out =
-    pick v (pick r (filing (wrote (length text)) (over text out)) (filing (refused 15 (length text)) out)) (filing (refused 0 0) out)
+    cond v (cond r (filing (wrote (length text)) (over text out)) (filing (refused 15 (length text)) out)) (filing (refused 0 0) out)
 
 -- the bytes after it
 abbrev left : Report → List ℕ → List ℕ → List ℕ

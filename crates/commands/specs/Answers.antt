@@ -4,11 +4,10 @@
 use Prim.Native.Nat.{ℕ}
 use mathlib.Core.Path.{_≡_}
 use mathlib.Core.List.{List, [], _∷_, _++_}
-use mathlib.Core.Bool.{Bool}
+use mathlib.Core.Bool.{Bool, cond}
 use lib.ListN.{length}
 use lib.Dec.{eqb}
 use Rattle.rules.specs.Memory.{over}
-use Rattle.rules.specs.Shape.{pick}
 use Rattle.rules.specs.Refusals.{Reply, accepted, declined}
 use Rattle.image.specs.Image.{two, Edited}
 use Rattle.edits.specs.Ledger.Edit.{Add, Drop, Move}
@@ -63,10 +62,10 @@ leavingBoth line first second = record { line = line; first = first; second = se
 
 -- what a frame as long as its fields comes to; any other changes nothing
 abbrev pub sizedTo : Bool → Effect → List ℕ → Effect
-sizedTo b e xs = pick b e (leaving malformedLine xs)
+sizedTo b e xs = cond b e (leaving malformedLine xs)
 
 abbrev pub bothSized : Bool → Effects → List ℕ → List ℕ → Effects
-bothSized b e xs ys = pick b e (leavingBoth malformedLine xs ys)
+bothSized b e xs ys = cond b e (leavingBoth malformedLine xs ys)
 
 -- the ruleset after an edit
 abbrev pub ruled : Edited → Effect

@@ -4,10 +4,10 @@
 use Prim.Native.Nat.{ℕ, _+_, _*_, _≤_}
 use mathlib.Core.Path.{_≡_}
 use mathlib.Core.List.{List}
-use mathlib.Core.Bool.{Bool, false}
+use mathlib.Core.Bool.{Bool, false, _&&_}
 use lib.ListN.{length, getD, take, drop}
 use lib.Dec.{leb, eqb}
-use Rattle.rules.specs.Shape.{pick, first}
+use Rattle.rules.specs.Shape.{first}
 use Rattle.rules.specs.declared.Rule.{Rule}
 use Rattle.image.specs.Image.{two}
 
@@ -35,7 +35,7 @@ phonesStart f = rightStart f + getD f 5 0
 
 -- such a frame has as many bytes as its lengths say
 abbrev pub addSized : List ℕ → Bool
-addSized f = pick (leb 7 (length f)) (eqb (length f) (phonesStart f + getD f 6 0)) false
+addSized f = leb 7 (length f) && eqb (length f) (phonesStart f + getD f 6 0)
 
 abbrev pub AddSized : List ℕ → Type 0
 AddSized f = (7 ≤ length f) × (length f ≡ phonesStart f + getD f 6 0)

@@ -1,10 +1,10 @@
 -- The commands that read and write the rule file.
 -- Assumes nothing.
+use mathlib.Core.Bool.{cond}
 use Prim.Native.Nat.{ℕ}
 use mathlib.Core.List.{List}
 use lib.ListN.{length, take, replicate}
 use lib.Dec.{leb, eqb}
-use Rattle.rules.specs.Shape.{pick}
 use Rattle.rules.specs.Refusals.{declined}
 use Rattle.image.specs.Image.{Edited, outcome}
 use Rattle.file.specs.Loading.{loaded, Report, wrote, refused, Filed, filing, filed, listingOf}
@@ -16,7 +16,7 @@ use Rattle.commands.specs.Lent.{lentOf, back}
 
 -- rules.hex read into the ruleset; over 32,768 bytes are refused
 unfoldable pub loadedFrom : List ℕ → List ℕ → Edited
-loadedFrom file image = pick (leb (length file) 32768) (loaded file image) (outcome (declined 13 32768) image)
+loadedFrom file image = cond (leb (length file) 32768) (loaded file image) (outcome (declined 13 32768) image)
 
 -- 13: read rules.hex; a refused file leaves the ruleset
 unfoldable pub loadedBy : List ℕ → List ℕ → List ℕ → Effect
@@ -40,4 +40,4 @@ fileLine room image = reportLine (filed image (replicate room 0) .report) (encod
 
 -- 14, lent bytes (4, at most 29,199: more counts as that): write
 unfoldable pub writeLine : List ℕ → List ℕ → List ℕ
-writeLine f image = pick (eqb (length f) 5) (fileLine (lentOf (four 1 f) 29199) image) malformedLine
+writeLine f image = cond (eqb (length f) 5) (fileLine (lentOf (four 1 f) 29199) image) malformedLine

@@ -1,11 +1,10 @@
 -- What the commands that reach into the monitor's memory leave there.
 -- Assumes nothing.
 use Prim.Native.Nat.{ℕ, _+_, _/_, _%_, _≤_}
-use mathlib.Core.Bool.{Bool}
+use mathlib.Core.Bool.{Bool, cond}
 use mathlib.Core.List.{List, [], _∷_, _++_}
 use lib.ListN.{length, getD, take, drop, set}
 use lib.Dec.{leb, ltb, eqb}
-use Rattle.rules.specs.Shape.{pick}
 use Rattle.image.specs.Image.{two, slotStart, cleared}
 use Rattle.transcript.specs.Answers.{twos, printed}
 use Rattle.commands.specs.Fields.{four, eight}
@@ -14,7 +13,7 @@ use Rattle.commands.specs.Answers.{Effect, leaving, sizedTo, doneLine, m
 -- the number at a place of an image, overwritten; a place above 511 is none
 abbrev pub renumbered : ℕ → ℕ → ℕ → List ℕ → List ℕ
 renumbered place high low image =
-    pick (ltb place 512) (set (set image (slotStart place) high) (slotStart place + 1) low) image
+    cond (ltb place 512) (set (set image (slotStart place) high) (slotStart place + 1) low) image
 
 -- 1E, place (2), number (2), count (2), last (2): overwritten with no check
 abbrev pub forced : List ℕ → List ℕ → List ℕ
@@ -59,12 +58,12 @@ eights (w ∷ l) = bytes8 w ++ eights l
 
 -- 0A and the bytes that are asked for, where they are there
 abbrev pub shownIf : Bool → List ℕ → List ℕ
-shownIf b bytes = pick b (printed (10 ∷ bytes)) malformedLine
+shownIf b bytes = cond b (printed (10 ∷ bytes)) malformedLine
 
 -- index (4), count (1): so many of the elements from there on, where all of them are inside
 abbrev pub shown : (List ℕ → List ℕ) → List ℕ → List ℕ → List ℕ
 shown bytes f xs =
-    pick (eqb (length f) 6) (shownIf (leb (four 1 f + getD f 5 0) (length xs)) (bytes (take (getD f 5 0) (drop (four 1 f) xs)))) malformedLine
+    cond (eqb (length f) 6) (shownIf (leb (four 1 f + getD f 5 0) (length xs)) (bytes (take (getD f 5 0) (drop (four 1 f) xs)))) malformedLine
 
 -- 1A: show words, 2 bytes each
 unfoldable pub shownWords : List ℕ → List ℕ → List ℕ

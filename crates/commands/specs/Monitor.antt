@@ -3,11 +3,10 @@
 use Prim.Native.Nat.{ℕ, _-_}
 use mathlib.Core.Path.{_≡_}
 use mathlib.Core.List.{List, []}
-use mathlib.Core.Bool.{Bool, false}
+use mathlib.Core.Bool.{Bool, false, cond, _&&_}
 use lib.Dec.{leb, eqb}
 use lib.ListN.{length, getD, take}
 use Rattle.rules.specs.Memory.{over}
-use Rattle.rules.specs.Shape.{pick}
 use Rattle.frames.specs.Lines.{Parsed}
 use Rattle.frames.specs.Lines.Parsed.{Bad, Good}
 use Rattle.commands.specs.Answers.{Effect, Effects, malformedLine, added, dropped, moved}
@@ -18,11 +17,11 @@ use Rattle.commands.specs.Filing.{loadedBy, writeLine}
 -- the bytes of a sound line without their checksum, where all of them have room; of any other line none
 abbrev pub heardIn : ℕ → Parsed → List ℕ
 heardIn room Bad = []
-heardIn room (Good f rest) = pick (leb (length f) room) (take (length f - 1) f) []
+heardIn room (Good f rest) = cond (leb (length f) room) (take (length f - 1) f) []
 
 -- whether a command reads rules.hex
 unfoldable pub readsFile : List ℕ → Bool
-readsFile f = pick (eqb (length f) 1) (eqb (getD f 0 0) 19) false
+readsFile f = eqb (length f) 1 && eqb (getD f 0 0) 19
 
 -- what the monitor holds
 pub record State : Type 0 where
@@ -63,22 +62,22 @@ shows s line = record { line = line; state = s }
 -- 10 to 1F; `file` is what rules.hex holds
 unfoldable pub byKind : ℕ → List ℕ → List ℕ → State → Outcome
 byKind kind f file s =
-    pick (eqb kind 16) (onImage s (added f (s .image)))
-    (pick (eqb kind 17) (onImage s (dropped f (s .image)))
-    (pick (eqb kind 18) (onImage s (moved f (s .image)))
-    (pick (eqb kind 19) (onImage s (loadedBy f file (s .image)))
-    (pick (eqb kind 20) (shows s (writeLine f (s .image)))
-    (pick (eqb kind 21) (onTables s (builtBy f (s .image) (s .words) (s .sets)))
-    (pick (eqb kind 22) (onSpeech s (walkedBy f (s .image) (s .words) (s .sets) (s .phones) (s .numbers)))
-    (pick (eqb kind 23) (onSpeech s (plainBy f (s .image) (s .phones) (s .numbers)))
-    (pick (eqb kind 24) (onWords s (storedWord f (s .words)))
-    (pick (eqb kind 25) (onSets s (storedSet f (s .sets)))
-    (pick (eqb kind 26) (shows s (shownWords f (s .words)))
-    (pick (eqb kind 27) (shows s (shownSets f (s .sets)))
-    (pick (eqb kind 28) (shows s (shownPhones f (s .phones)))
-    (pick (eqb kind 29) (shows s (shownNumbers f (s .numbers)))
-    (pick (eqb kind 30) (onImage s (forcedBy f (s .image)))
-    (pick (eqb kind 31) (onImage s (clearedBy f (s .image)))
+    cond (eqb kind 16) (onImage s (added f (s .image)))
+    (cond (eqb kind 17) (onImage s (dropped f (s .image)))
+    (cond (eqb kind 18) (onImage s (moved f (s .image)))
+    (cond (eqb kind 19) (onImage s (loadedBy f file (s .image)))
+    (cond (eqb kind 20) (shows s (writeLine f (s .image)))
+    (cond (eqb kind 21) (onTables s (builtBy f (s .image) (s .words) (s .sets)))
+    (cond (eqb kind 22) (onSpeech s (walkedBy f (s .image) (s .words) (s .sets) (s .phones) (s .numbers)))
+    (cond (eqb kind 23) (onSpeech s (plainBy f (s .image) (s .phones) (s .numbers)))
+    (cond (eqb kind 24) (onWords s (storedWord f (s .words)))
+    (cond (eqb kind 25) (onSets s (storedSet f (s .sets)))
+    (cond (eqb kind 26) (shows s (shownWords f (s .words)))
+    (cond (eqb kind 27) (shows s (shownSets f (s .sets)))
+    (cond (eqb kind 28) (shows s (shownPhones f (s .phones)))
+    (cond (eqb kind 29) (shows s (shownNumbers f (s .numbers)))
+    (cond (eqb kind 30) (onImage s (forcedBy f (s .image)))
+    (cond (eqb kind 31) (onImage s (clearedBy f (s .image)))
     (shows s malformedLine))))))))))))))))
 
 -- the answer to a command; a frame of no bytes is none

@@ -10,7 +10,6 @@ use lib.Dec.{leb, ltb}
 use lib.ListN.{length, getD}
 use borrow.Author.Tests.{lt-leb, le-leb, lt-ltb, le-ltb}
 use Rattle.rules.proofs.Cases.{byBool}
-use Rattle.rules.specs.Shape.{pick}
 use Rattle.image.specs.Image.{valid, entriesOf}
 use Rattle.reading.specs.Fitting.{Str}
 use Rattle.reading.specs.Reading.{stopped}
@@ -23,11 +22,11 @@ use Rattle.compiled.specs.Compiling.{countIn}
 
 pub count-yes : (ws ss : List ℕ) (at : ℕ) → lengthsFit ws ss ≡ true → countIn ws ss at ≡ getD ws at 0
 unfolding countIn
-count-yes ws ss at h = ap (λ (t : Bool). pick t (getD ws at 0) 0) h
+count-yes ws ss at h = ap (λ (t : Bool). cond t (getD ws at 0) 0) h
 
 pub count-no : (ws ss : List ℕ) (at : ℕ) → lengthsFit ws ss ≡ false → countIn ws ss at ≡ 0
 unfolding countIn
-count-no ws ss at h = ap (λ (t : Bool). pick t (getD ws at 0) 0) h
+count-no ws ss at h = ap (λ (t : Bool). cond t (getD ws at 0) 0) h
 
 -- the length tests, one by one
 and-off : (a b : Bool) → b ≡ false → a && b ≡ false
@@ -94,7 +93,7 @@ module _ (image ws ss : List ℕ) (name : Str) (phones numbers : List ℕ) (v : 
   pub none-said : lengthsFit ws ss ≡ false → walkSaid image ws ss name phones numbers ≡ walkedAs (delivered (judgedName name (stopped 16 0)) phones numbers) 0
   unfolding walkSaid walkWords
   none-said h =
-      ap₂ (λ (a b : Bool). walkedAs (pick a (delivered (judgedName name (cond b (walk (leftOf ws ss) (rightOf ws ss) name (entriesOf image)) (stopped 16 0))) phones numbers) (saying (refused 0 0) phones numbers)) (walkSteps (leftOf ws ss) (rightOf ws ss) name)) v h
+      ap₂ (λ (a b : Bool). walkedAs (cond a (delivered (judgedName name (cond b (walk (leftOf ws ss) (rightOf ws ss) name (entriesOf image)) (stopped 16 0))) phones numbers) (saying (refused 0 0) phones numbers)) (walkSteps (leftOf ws ss) (rightOf ws ss) name)) v h
       ∙ no-steps name phones numbers (walkSteps (leftOf ws ss) (rightOf ws ss) name) 0
 
   pub counted-said : walkFor (countIn ws ss 0) (countIn ws ss 1) image ws ss name phones numbers ≡ walkSaid image ws ss name phones numbers

@@ -3,12 +3,12 @@
 use Prim.Native.Nat.{ℕ, zero, suc, _+_, _≤_, _<_}
 use mathlib.Core.Path.{_≡_, refl, sym, ap, _∙_}
 use mathlib.Core.List.{List, [], _∷_}
-use mathlib.Core.Bool.{Bool, true, false}
+use mathlib.Core.Bool.{Bool, true, false, cond}
 use native.Mathlib.Omega.{arith}
 use borrow.Author.Tests.{le-leb, leb-true, ltb-true}
 use lib.ListN.{length, getD}
 use lib.Dec.{leb, ltb}
-use Rattle.rules.specs.Shape.{pick, shape, view}
+use Rattle.rules.specs.Shape.{shape, view}
 use Rattle.rules.specs.declared.Numbered.{Numbered}
 use Rattle.image.specs.State.{Ledger, noNumbered}
 use Rattle.edits.specs.Ledger.{Edit, insertAt, removeAt, placeOf, applied, judged, after, afterBy, afterAll, answersAll, given, issued}
@@ -36,11 +36,11 @@ each-at k u none = absurd (omega arith)
 each-at zero u (more g h) = g
 each-at (suc k) u (more g h) = each-at k (omega arith) h
 
-acc-l : (b : Bool) (a : Reply) (x y : ℕ) → pick b a (declined x y) ≡ accepted → b ≡ true
+acc-l : (b : Bool) (a : Reply) (x y : ℕ) → cond b a (declined x y) ≡ accepted → b ≡ true
 acc-l true a x y h = refl
 acc-l false a x y h = let z : _≡_ {A = ℕ} 0 1 = cc in absurd (omega arith)
 
-acc-r : (b : Bool) (a : Reply) (x y : ℕ) → pick b a (declined x y) ≡ accepted → a ≡ accepted
+acc-r : (b : Bool) (a : Reply) (x y : ℕ) → cond b a (declined x y) ≡ accepted → a ≡ accepted
 acc-r true a x y h = h
 acc-r false a x y h = let z : _≡_ {A = ℕ} 0 1 = cc in absurd (omega arith)
 

@@ -1,9 +1,9 @@
 -- What an edit does to a ruleset in lent memory, to the last byte.
 -- Assumes nothing.
+use mathlib.Core.Bool.{cond}
 use Prim.Native.Nat.{ℕ}
 use mathlib.Core.Path.{_≡_}
 use mathlib.Core.List.{List, [], _∷_}
-use Rattle.rules.specs.Shape.{pick}
 use Rattle.rules.specs.Refusals.{Reply, accepted, declined}
 use Rattle.image.specs.Image.{ledgerOf, laid, valid, Edited, outcome, Filled}
 use Rattle.edits.specs.Ledger.{Edit, judged, applied}
@@ -15,7 +15,7 @@ outcomeBy (declined n p) image e = outcome (declined n p) image
 
 -- refusal 0 for memory that is no ruleset, else the ledger's answer and state; a refusal changes no byte
 unfoldable pub edited : List ℕ → Edit → Edited
-edited image e = pick (valid image) (outcomeBy (judged (ledgerOf image) e) image e) (outcome (declined 0 0) image)
+edited image e = cond (valid image) (outcomeBy (judged (ledgerOf image) e) image e) (outcome (declined 0 0) image)
 
 -- the arrays of an edit's rule are full, as those of every rule that is handed to the code
 abbrev pub FilledEdit : Edit → Type 0

@@ -1,11 +1,12 @@
 -- The edits of document 01's ledger: their refusals in order, and the state after them. Places count from 0.
 -- Assumes nothing.
+use mathlib.Core.Bool.{cond}
 use Prim.Native.Nat.{ℕ, zero, suc, _+_}
 use mathlib.Core.List.{List, [], _∷_}
 use lib.ListN.{length, getD}
 use lib.Dec.{leb, ltb, eqb}
 use Rattle.rules.specs.Limits.{maxRules, maxNumber}
-use Rattle.rules.specs.Shape.{pick, shape, view}
+use Rattle.rules.specs.Shape.{shape, view}
 use Rattle.rules.specs.Refusals.{Reply, accepted, declined}
 use Rattle.rules.specs.declared.Rule.{Rule}
 use Rattle.rules.specs.declared.Numbered.{Numbered}
@@ -31,7 +32,7 @@ removeAt (suc k) (y ∷ l) = y ∷ removeAt k l
 -- the place of the rule numbered n, or the length where there is none
 abbrev pub placeOf : ℕ → List Numbered → ℕ
 placeOf n [] = 0
-placeOf n (x ∷ l) = pick (eqb (x .number) n) 0 (suc (placeOf n l))
+placeOf n (x ∷ l) = cond (eqb (x .number) n) 0 (suc (placeOf n l))
 
 -- l with what stands at place k taken out and put before place p of the remaining list
 abbrev pub relocated : ℕ → ℕ → List Numbered → List Numbered
@@ -40,15 +41,15 @@ relocated k p l = insertAt p (getD l k noNumbered) (removeAt k l)
 -- the answer of an edit: Add 6, 7, 9, 10; Drop 8; Move 8, 7 (against the remaining list)
 unfoldable pub judged : Ledger → Edit → Reply
 judged g (Add r p) =
-    pick (shape (view r))
-    (pick (leb p (length (g .list)))
-    (pick (ltb (length (g .list)) maxRules) (pick (ltb (g .last) maxNumber) accepted (declined 10 0)) (declined 9 0))
+    cond (shape (view r))
+    (cond (leb p (length (g .list)))
+    (cond (ltb (length (g .list)) maxRules) (cond (ltb (g .last) maxNumber) accepted (declined 10 0)) (declined 9 0))
     (declined 7 0))
     (declined 6 0)
-judged g (Drop n) = pick (ltb (placeOf n (g .list)) (length (g .list))) accepted (declined 8 0)
+judged g (Drop n) = cond (ltb (placeOf n (g .list)) (length (g .list))) accepted (declined 8 0)
 judged g (Move n p) =
-    pick (ltb (placeOf n (g .list)) (length (g .list)))
-    (pick (leb p (length (removeAt (placeOf n (g .list)) (g .list)))) accepted (declined 7 0))
+    cond (ltb (placeOf n (g .list)) (length (g .list)))
+    (cond (leb p (length (removeAt (placeOf n (g .list)) (g .list)))) accepted (declined 7 0))
     (declined 8 0)
 
 -- the state after an accepted edit

@@ -3,13 +3,13 @@
 use Prim.Native.Nat.{ℕ, _+_, _*_, _/_, _%_, _≤_, _<_}
 use mathlib.Core.Path.{_≡_, refl, sym, ap, _∙_, subst}
 use mathlib.Core.List.{List, [], _∷_, _++_, append-assoc}
-use mathlib.Core.Bool.{Bool, true, false}
+use mathlib.Core.Bool.{Bool, true, false, _&&_}
 use native.Mathlib.Omega.{arith}
 use borrow.Author.Tests.{leb-true, eqb-true, le-leb, eq-eqb}
 use lib.ListN.{length, getD, take, drop, length-append, length-drop, take-append-drop}
 use lib.Seq.{take-append-seam, drop-append-seam, length-take-le}
 use lib.Dec.{leb, eqb}
-use Rattle.rules.specs.Shape.{pick, Production, Entry, shape, leftShape, rightShape, targetShape, leftContext, rightContext, allFrom}
+use Rattle.rules.specs.Shape.{Production, Entry, shape, leftShape, rightShape, targetShape, leftContext, rightContext, allFrom}
 use Rattle.frames.specs.Lines.{total, sumByte, framed}
 use Rattle.frames.proofs.Lines.{Bytes, bytes-append, is-framed}
 use Rattle.file.specs.Listing.{entry}
@@ -18,7 +18,7 @@ use Rattle.file.specs.File.{headBody, ruleBody, headCount, headLast, isH
 pub no : false ≡ true → ⊥
 no e = let z : _≡_ {A = ℕ} 0 1 = cc in omega arith
 
-pub both : (a b : Bool) → pick a b false ≡ true → (a ≡ true) × (b ≡ true)
+pub both : (a b : Bool) → (a && b) ≡ true → (a ≡ true) × (b ≡ true)
 both true b e = (refl, e)
 both false b e = absurd (no e)
 

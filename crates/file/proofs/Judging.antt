@@ -3,14 +3,14 @@
 use Prim.Native.Nat.{ℕ, suc, _+_, _-_, _/_, _%_, _^_, _≤_, _<_}
 use mathlib.Core.Path.{_≡_, refl, sym, ap, _∙_}
 use mathlib.Core.List.{List, [], _∷_, _++_}
-use mathlib.Core.Bool.{Bool, true, false}
+use mathlib.Core.Bool.{Bool, true, false, cond, _&&_, _||_}
 use native.Mathlib.Omega.{arith}
 use lib.ListN.{length, getD, drop, set, replicate, length-drop, length-set, length-replicate, getD-replicate, drop-of-length-le}
 use lib.Seq.{drop-cons}
 use lib.Dec.{eqb}
 use lib.Bits.{bitOr}
 use Rattle.rules.proofs.Cases.{byBool}
-use Rattle.rules.specs.Shape.{pick, Entry}
+use Rattle.rules.specs.Shape.{Entry}
 use Rattle.rules.specs.Refusals.{accepted, declined}
 use Rattle.rules.specs.declared.Numbered.{Numbered}
 use Rattle.image.specs.Bits.{bit, held}
@@ -29,20 +29,20 @@ use Rattle.file.proofs.NextLine.{unsound, line-found, line-ruled, line-
 
 -- ---- the rules so far, judged
 
-ruled-no : (last : ℕ) (f : List ℕ) (r : Ruled) → r ≡ ruledIn last f → r .ok ≡ false → pick (isRule f) (entry last (ruleOf f)) false ≡ false
-ruled-no last f r e o = byBool (pick (isRule f) (entry last (ruleOf f)) false) (λ t. clash (ap (λ (x : Ruled). x .ok) e ∙ rw t) o) (λ t. t)
+ruled-no : (last : ℕ) (f : List ℕ) (r : Ruled) → r ≡ ruledIn last f → r .ok ≡ false → (isRule f && entry last (ruleOf f)) ≡ false
+ruled-no last f r e o = byBool (isRule f && entry last (ruleOf f)) (λ t. clash (ap (λ (x : Ruled). x .ok) e ∙ rw t) o) (λ t. t)
 
 ruled-yes : (last : ℕ) (f : List ℕ) (r : Ruled) → r ≡ ruledIn last f → r .ok ≡ true
-    → (pick (isRule f) (entry last (ruleOf f)) false ≡ true) × (r .entry ≡ numberedOf (ruleOf f))
+    → ((isRule f && entry last (ruleOf f)) ≡ true) × (r .entry ≡ numberedOf (ruleOf f))
 ruled-yes last f r e o =
-    byBool (pick (isRule f) (entry last (ruleOf f)) false) (λ t. (t, ap (λ (x : Ruled). x .entry) e ∙ rw t)) (λ t. clash o (ap (λ (x : Ruled). x .ok) e ∙ rw t))
+    byBool (isRule f && entry last (ruleOf f)) (λ t. (t, ap (λ (x : Ruled). x .entry) e ∙ rw t)) (λ t. clash o (ap (λ (x : Ruled). x .ok) e ∙ rw t))
 
-fits-no : (a b m : Bool) → pick a b false ≡ false → pick a (pick b (pick m false true) false) false ≡ false
+fits-no : (a b m : Bool) → (a && b) ≡ false → (a && (b && cond m false true)) ≡ false
 fits-no true true m e = clash refl e
 fits-no true false m e = refl
 fits-no false b m e = refl
 
-fits-again : (a b m : Bool) → m ≡ true → pick a (pick b (pick m false true) false) false ≡ false
+fits-again : (a b m : Bool) → m ≡ true → (a && (b && cond m false true)) ≡ false
 fits-again true true m e = rw e
 fits-again true false m e = refl
 fits-again false b m e = refl
@@ -71,9 +71,9 @@ judged-start file from count last seen e h = record {
 holds-next : (seen : List ℕ) (l : List Entry) (x : Entry) (full : length seen ≡ 1024) (h : x .number < 65536) → Holds seen l → Holds (put-in seen (x .number) full h) (l ++ (x ∷ []))
 holds-next seen l x full h f k u =
     held-put seen (x .number) full h k (eqb (x .number) k) refl
-    ∙ (ap (pick (eqb (x .number) k) true) (f k u) ∙ (turned (eqb (x .number) k) (member k l) ∙ sym (member-append k l (x ∷ []))))
+    ∙ (ap (cond (eqb (x .number) k) true) (f k u) ∙ (turned (eqb (x .number) k) (member k l) ∙ sym (member-append k l (x ∷ []))))
   where
-    turned : (a b : Bool) → pick a true b ≡ pick b true (pick a true false)
+    turned : (a b : Bool) → (a || b) ≡ (b || (a && true))
     turned true true = refl
     turned true false = refl
     turned false true = refl

@@ -3,11 +3,11 @@
 use Prim.Native.Nat.{ℕ}
 use mathlib.Core.Path.{_≡_, refl, sym, ap, _∙_}
 use mathlib.Core.List.{List, [], _∷_, _++_}
-use mathlib.Core.Bool.{Bool, true, false}
+use mathlib.Core.Bool.{Bool, true, false, cond, _&&_, _||_}
 use borrow.Author.Tests.{eqb-true, eq-eqb}
 use lib.Dec.{eqb}
 use Rattle.rules.proofs.Cases.{byBool}
-use Rattle.rules.specs.Shape.{pick, Entry}
+use Rattle.rules.specs.Shape.{Entry}
 use Rattle.file.specs.Listing.{entry, entries, member, distinct}
 use Rattle.file.specs.File.{fine}
 use Rattle.file.proofs.Bodies.{no, both}
@@ -15,32 +15,32 @@ use Rattle.file.proofs.Bodies.{no, both}
 pub clash {ℓ} : {A : Type ℓ} {b : Bool} → b ≡ true → b ≡ false → A
 clash p q = absurd (no (sym q ∙ p))
 
-pub and : {a b : Bool} → a ≡ true → b ≡ true → pick a b false ≡ true
+pub and : {a b : Bool} → a ≡ true → b ≡ true → (a && b) ≡ true
 and p q = rw (p, q)
 
-pub new : {a b : Bool} → a ≡ false → b ≡ true → pick a false b ≡ true
+pub new : {a b : Bool} → a ≡ false → b ≡ true → cond a false b ≡ true
 new p q = rw (p, q)
 
-pub new-both : (a b : Bool) → pick a false b ≡ true → (a ≡ false) × (b ≡ true)
+pub new-both : (a b : Bool) → cond a false b ≡ true → (a ≡ false) × (b ≡ true)
 new-both true b e = absurd (no e)
 new-both false b e = (refl, e)
 
-or-none : (a b : Bool) → pick a true b ≡ false → (a ≡ false) × (b ≡ false)
+or-none : (a b : Bool) → (a || b) ≡ false → (a ≡ false) × (b ≡ false)
 or-none true b e = absurd (no (sym e))
 or-none false b e = (refl, e)
 
-pick-or : (t m n : Bool) → pick t true (pick m true n) ≡ pick (pick t true m) true n
+pick-or : (t m n : Bool) → (t || (m || n)) ≡ ((t || m) || n)
 pick-or true m n = refl
 pick-or false m n = refl
 
-pub member-append : (k : ℕ) (a b : List Entry) → member k (a ++ b) ≡ pick (member k a) true (member k b)
+pub member-append : (k : ℕ) (a b : List Entry) → member k (a ++ b) ≡ (member k a || member k b)
 member-append k [] b = refl
-member-append k (x ∷ a) b = ap (pick (eqb (x .number) k) true) (member-append k a b) ∙ pick-or (eqb (x .number) k) (member k a) (member k b)
+member-append k (x ∷ a) b = ap (cond (eqb (x .number) k) true) (member-append k a b) ∙ pick-or (eqb (x .number) k) (member k a) (member k b)
 
 -- each of the rules is fine after those of `done` and those before it
 abbrev pub fineAll : ℕ → List Entry → List Entry → Bool
 fineAll last done [] = true
-fineAll last done (e ∷ es) = pick (fine last done e) (fineAll last (done ++ (e ∷ [])) es) false
+fineAll last done (e ∷ es) = fine last done e && fineAll last (done ++ (e ∷ [])) es
 
 pub record Apart (last : ℕ) (done es : List Entry) : Type 0 where
   pub all : entries last es ≡ true
@@ -80,6 +80,6 @@ apart-fine last (e ∷ es) done h =
           byBool (member k done)
           (λ q. or-none (eqb (e .number) k) _ (h .apart k q) .1)
           (λ q.
-          let t′ : pick (eqb (e .number) k) true false ≡ true = rw q at (sym (member-append k done (e ∷ [])) ∙ t) in
+          let t′ : (eqb (e .number) k && true) ≡ true = rw q at (sym (member-append k done (e ∷ [])) ∙ t) in
           byBool (eqb (e .number) k) (λ u. ap (λ (j : ℕ). member j es) (sym (eqb-true (e .number) k u)) ∙ d .0) (λ u. absurd (no (rw u at t′))));
     }))

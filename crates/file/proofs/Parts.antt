@@ -3,7 +3,7 @@
 use Prim.Native.Nat.{ℕ, zero, suc, _+_, _≤_, _<_}
 use mathlib.Core.Path.{_≡_, refl, sym, ap, _∙_}
 use mathlib.Core.List.{List, [], _∷_, _++_}
-use mathlib.Core.Bool.{true, false}
+use mathlib.Core.Bool.{true, false, _&&_}
 use native.Mathlib.Omega.{arith}
 use native.Mathlib.Numerals.{add-one}
 use borrow.Author.Tests.{leb-true, eqb-true, le-leb, lt-leb, eq-eqb, ne-eqb}
@@ -11,7 +11,7 @@ use lib.ListN.{length, getD, take, drop, set, length-drop, length-take}
 use lib.Seq.{take-suc, getD-drop, length-take-le, drop-drop}
 use lib.Dec.{leb, eqb}
 use Rattle.rules.proofs.Cases.{byBool}
-use Rattle.rules.specs.Shape.{pick, first, Production, view, shape}
+use Rattle.rules.specs.Shape.{first, Production, view, shape}
 use Rattle.rules.specs.declared.Rule.{Rule}
 use Rattle.image.specs.Image.{two}
 use Rattle.file.specs.declared.heading.Head.{Head}
@@ -154,8 +154,8 @@ shape-frame last w i e =
 -- a frame that has not is no rule
 pub ruled-frame : (last : ℕ) (w : List ℕ) → ruleFrame w ≡ false → noneRuled ≡ ruledIn last w
 ruled-frame last w t =
-    let n : pick (isRule w) (entry last (ruleOf w)) false ≡ false =
-    byBool (pick (isRule w) (entry last (ruleOf w)) false) (λ s. let a = both (isRule w) _ s in clash (shape-frame last w (a .0) (a .1)) t) (λ s. s) in
+    let n : (isRule w && entry last (ruleOf w)) ≡ false =
+    byBool (isRule w && entry last (ruleOf w)) (λ s. let a = both (isRule w) _ s in clash (shape-frame last w (a .0) (a .1)) t) (λ s. s) in
     rw n
 
 -- nor is one of more than 28 bytes

@@ -9,7 +9,7 @@
 use Prim.Native.Nat.{ℕ, zero, suc, _+_, _*_, _/_, _%_, _≤_, _<_}
 use mathlib.Core.Path.{_≡_, refl, sym, ap, ap₂, _∙_}
 use mathlib.Core.List.{List, [], _∷_, map}
-use mathlib.Core.Bool.{Bool, true, false}
+use mathlib.Core.Bool.{Bool, true, false, cond, _&&_, _||_}
 use native.Mathlib.Omega.{arith}
 use borrow.Author.Tests.{le-leb, leb-true}
 use lib.ListN.{length, getD, take, drop, length-append, length-drop, length-map}
@@ -17,7 +17,7 @@ use lib.Seq.{take-append-seam}
 use lib.Dec.{leb, eqb}
 use Rattle.rules.specs.Memory.{over}
 use Rattle.rules.proofs.Cases.{byBool}
-use Rattle.rules.specs.Shape.{pick, Entry, entryOf}
+use Rattle.rules.specs.Shape.{Entry, entryOf}
 use Rattle.rules.specs.Refusals.{accepted}
 use Rattle.rules.specs.declared.Numbered.{Numbered}
 use Rattle.image.specs.State as S
@@ -39,15 +39,15 @@ use Rattle.file.proofs.Storing.{each-numbered}
 
 entries-of : (last : ℕ) (l : List Numbered) → S.entries last l ≡ entries last (map entryOf l)
 entries-of last [] = refl
-entries-of last (x ∷ l) = ap (λ (b : Bool). pick (entry last (entryOf x)) b false) (entries-of last l)
+entries-of last (x ∷ l) = ap (λ (b : Bool). entry last (entryOf x) && b) (entries-of last l)
 
 member-of : (n : ℕ) (l : List Numbered) → S.member n l ≡ member n (map entryOf l)
 member-of n [] = refl
-member-of n (x ∷ l) = ap (λ (b : Bool). pick (eqb (x .number) n) true b) (member-of n l)
+member-of n (x ∷ l) = ap (λ (b : Bool). eqb (x .number) n || b) (member-of n l)
 
 distinct-of : (l : List Numbered) → S.distinct l ≡ distinct (map entryOf l)
 distinct-of [] = refl
-distinct-of (x ∷ l) = ap₂ (λ (a b : Bool). pick a false b) (member-of (x .number) l) (distinct-of l)
+distinct-of (x ∷ l) = ap₂ (λ (a b : Bool). cond a false b) (member-of (x .number) l) (distinct-of l)
 
 entries-kept : (last : ℕ) (l : List Entry) → entries last l ≡ true → map entryOf (map numberedOf l) ≡ l
 entries-kept last [] h = refl

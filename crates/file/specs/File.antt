@@ -2,11 +2,11 @@
 -- Assumes nothing.
 use Prim.Native.Nat.{ℕ, zero, suc, _+_, _-_, _/_, _%_}
 use mathlib.Core.List.{List, [], _∷_, _++_}
-use mathlib.Core.Bool.{Bool, true, false}
+use mathlib.Core.Bool.{Bool, true, false, cond, _&&_}
 use lib.ListN.{length, getD, take, drop}
 use lib.Dec.{leb, eqb}
 use Rattle.rules.specs.Limits.{maxRules}
-use Rattle.rules.specs.Shape.{pick, Entry}
+use Rattle.rules.specs.Shape.{Entry}
 use Rattle.image.specs.Image.{two}
 use Rattle.frames.specs.Lines.{lineOf, framed, Parsed, soundLine}
 use Rattle.frames.specs.Lines.Parsed.{Bad, Good}
@@ -59,11 +59,11 @@ headLast f = two 4 f
 
 -- a sound frame is a head
 abbrev pub isHead : List ℕ → Bool
-isHead f = pick (eqb (length f) 7) (pick (eqb (getD f 0 0) 1) (pick (eqb (getD f 1 0) 1) (leb (headCount f) maxRules) false) false) false
+isHead f = eqb (length f) 7 && (eqb (getD f 0 0) 1 && (eqb (getD f 1 0) 1 && leb (headCount f) maxRules))
 
 -- a sound frame has a rule's first byte and length
 abbrev pub isRule : List ℕ → Bool
-isRule f = pick (eqb (getD f 0 0) 2) (eqb (length f) (8 + (getD f 3 0 + (getD f 4 0 + (getD f 5 0 + getD f 6 0))))) false
+isRule f = eqb (getD f 0 0) 2 && eqb (length f) (8 + (getD f 3 0 + (getD f 4 0 + (getD f 5 0 + getD f 6 0))))
 
 -- the rule of such a frame
 abbrev pub ruleOf : List ℕ → Entry
@@ -79,11 +79,11 @@ ruleOf f = record {
 
 -- a rule after those of `done`: of the shape, with a number from 1 to last that none of them has
 abbrev pub fine : ℕ → List Entry → Entry → Bool
-fine last done e = pick (entry last e) (pick (member (e .number) done) false true) false
+fine last done e = entry last e && cond (member (e .number) done) false true
 
 -- a frame that is a rule after those of `done`
 abbrev pub ruleFits : ℕ → List Entry → List ℕ → Bool
-ruleFits last done f = pick (isRule f) (fine last done (ruleOf f)) false
+ruleFits last done f = isRule f && fine last done (ruleOf f)
 
 abbrev pub onLine : Parsed → Read → (List ℕ → List ℕ → Read) → Read
 onLine Bad r k = r
@@ -99,9 +99,9 @@ abbrev pub readRules : ℕ → ℕ → ℕ → List Entry → List ℕ → Read
 readRules len last zero done s = ended len (record { rules = done; last = last }) s
 readRules len last (suc n) done s =
     onLine (soundLine s) (Malformed (len - length s))
-    (λ f rest. pick (ruleFits last done f) (readRules len last n (done ++ (ruleOf f ∷ [])) rest) (Broken (len - length s)))
+    (λ f rest. cond (ruleFits last done f) (readRules len last n (done ++ (ruleOf f ∷ [])) rest) (Broken (len - length s)))
 
 unfoldable pub readFile : List ℕ → Read
 readFile s =
     onLine (soundLine s) (Malformed 0)
-    (λ f rest. pick (isHead f) (readRules (length s) (headLast f) (headCount f) [] rest) (Broken 0))
+    (λ f rest. cond (isHead f) (readRules (length s) (headLast f) (headCount f) [] rest) (Broken 0))

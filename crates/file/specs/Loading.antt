@@ -3,11 +3,11 @@
 -- Assumes nothing.
 use Prim.Native.Nat.{ℕ, _+_, _-_, _≤_}
 use mathlib.Core.List.{List, [], map}
-use mathlib.Core.Bool.{Bool, true, false}
+use mathlib.Core.Bool.{Bool, true, false, cond, _&&_}
 use lib.ListN.{length, getD}
 use lib.Dec.{leb, eqb}
 use Rattle.rules.specs.Memory.{over}
-use Rattle.rules.specs.Shape.{pick, first, Production, Entry}
+use Rattle.rules.specs.Shape.{first, Production, Entry}
 use Rattle.rules.specs.Refusals.{refusalNumber, refusalPlace, Reply, accepted, declined}
 use Rattle.rules.specs.declared.Rule.{Rule}
 use Rattle.rules.specs.declared.Numbered.{Numbered}
@@ -67,7 +67,7 @@ stored (Broken p) image = image
 -- a file read into an image, whatever that held; memory too short for a ruleset is refused first
 unfoldable pub loaded : List ℕ → List ℕ → Edited
 loaded file image =
-    pick (leb imageSize (length image)) (outcome (verdict (readFile file)) (stored (readFile file) image)) (outcome (declined 0 0) image)
+    cond (leb imageSize (length image)) (outcome (verdict (readFile file)) (stored (readFile file) image)) (outcome (declined 0 0) image)
 
 -- ---- writing
 
@@ -94,8 +94,8 @@ filing r out = record { report = r; bytes = out }
 
 unfoldable pub filed : List ℕ → List ℕ → Filed
 filed image out =
-    pick (valid image)
-    (pick (leb (length (encode (listingOf image))) (length out))
+    cond (valid image)
+    (cond (leb (length (encode (listingOf image))) (length out))
     (filing (wrote (length (encode (listingOf image)))) (over (encode (listingOf image)) out))
     (filing (refused 15 (length (encode (listingOf image)))) out))
     (filing (refused 0 0) out)
@@ -107,7 +107,7 @@ noHead = record { ok = false; count = 0; last = 0 }
 
 -- the head of a frame
 abbrev pub headIn : List ℕ → Head
-headIn f = pick (isHead f) (record { ok = true; count = headCount f; last = headLast f }) noHead
+headIn f = cond (isHead f) (record { ok = true; count = headCount f; last = headLast f }) noHead
 
 -- the head of a line, in a file of len bytes
 abbrev pub headAt : ℕ → Parsed → HeadLine
@@ -124,13 +124,11 @@ noneRuled = record { ok = false; entry = blank }
 -- a frame's first byte and length are a rule's, and its lengths those that a rule can have
 abbrev pub ruleFrame : List ℕ → Bool
 ruleFrame f =
-    pick (eqb (getD f 0 0) 2)
-    (pick (eqb (length f) (8 + (getD f 3 0 + (getD f 4 0 + (getD f 5 0 + getD f 6 0)))))
-    (pick (leb (getD f 3 0) 6) (pick (leb (getD f 4 0) 4) (pick (leb (getD f 5 0) 6) (leb (getD f 6 0) 4) false) false) false) false) false
+    eqb (getD f 0 0) 2 && (eqb (length f) (8 + (getD f 3 0 + (getD f 4 0 + (getD f 5 0 + getD f 6 0)))) && (leb (getD f 3 0) 6 && (leb (getD f 4 0) 4 && (leb (getD f 5 0) 6 && leb (getD f 6 0) 4))))
 
 -- the rule of a frame: of the shape, with a number from 1 to last
 abbrev pub ruledIn : ℕ → List ℕ → Ruled
-ruledIn last f = pick (pick (isRule f) (entry last (ruleOf f)) false) (record { ok = true; entry = numberedOf (ruleOf f) }) noneRuled
+ruledIn last f = cond (isRule f && entry last (ruleOf f)) (record { ok = true; entry = numberedOf (ruleOf f) }) noneRuled
 
 -- the rule of a line, in a file of len bytes
 abbrev pub ruleAt : ℕ → ℕ → Parsed → RuleLine

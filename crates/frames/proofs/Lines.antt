@@ -3,13 +3,12 @@
 use Prim.Native.Nat.{ℕ, zero, _+_, _-_, _*_, _/_, _%_, _≤_, _<_}
 use mathlib.Core.Path.{_≡_, refl, ap, _∙_}
 use mathlib.Core.List.{List, [], _∷_, _++_}
-use mathlib.Core.Bool.{Bool, true, false}
+use mathlib.Core.Bool.{Bool, true, false, cond}
 use native.Mathlib.Omega.{arith}
 use borrow.Author.Tests.{ltb-true, ltb-false, leb-true, leb-false, eqb-true, lt-ltb, le-ltb, le-leb, lt-leb, eq-eqb, ne-eqb}
 use lib.ListN.{length, length-append}
 use lib.Dec.{leb, ltb, eqb}
 use Rattle.rules.proofs.Cases.{byBool}
-use Rattle.rules.specs.Shape.{pick}
 use Rattle.frames.specs.Lines.{digit, value, lineOf, total, sumByte, framed, Parsed, after, guard, readLine, checked, soundLine}
 use Rattle.frames.specs.Lines.Parsed.{Bad, Good}
 
@@ -30,7 +29,7 @@ value-digit d h =
     ))
 
 -- the digit of a number, as it is computed
-pub digit-from : (d b : ℕ) → b ≡ pick (ltb d 10) 48 55 → (b ≤ 55) × (b + d ≡ digit d)
+pub digit-from : (d b : ℕ) → b ≡ cond (ltb d 10) 48 55 → (b ≤ 55) × (b + d ≡ digit d)
 unfolding digit
 digit-from d b e =
     byBool (ltb d 10)
@@ -40,10 +39,10 @@ digit-from d b e =
 -- the number of a character, as it is computed: m is what lies between it and the first letter, or the first digit
 module _ (a m : ℕ) (b : m < 256) where
   module _ (e : (m + 65) % 256 ≡ a) where
-    pub letter-in : m < 6 → 10 + m ≡ pick (leb 65 a) (pick (leb a 70) (a - 55) 16) 16
+    pub letter-in : m < 6 → 10 + m ≡ cond (leb 65 a) (cond (leb a 70) (a - 55) 16) 16
     letter-in h = rw (le-leb 65 a (omega arith), le-leb a 70 (omega arith)) (omega arith)
 
-    pub letter-out : 6 ≤ m → 16 ≡ pick (leb 65 a) (pick (leb a 70) (a - 55) 16) 16
+    pub letter-out : 6 ≤ m → 16 ≡ cond (leb 65 a) (cond (leb a 70) (a - 55) 16) 16
     letter-out h =
         byBool (leb 65 a)
         (λ t. let l = leb-true 65 a t in rw (t, lt-leb a 70 (omega arith)))
@@ -54,7 +53,7 @@ module _ (a m : ℕ) (b : m < 256) where
     unfolding value
     value-digit-in h = rw (le-leb 48 a (omega arith), le-leb a 57 (omega arith)) (omega arith)
 
-    pub value-digit-out : 10 ≤ m → pick (leb 65 a) (pick (leb a 70) (a - 55) 16) 16 ≡ value a
+    pub value-digit-out : 10 ≤ m → cond (leb 65 a) (cond (leb a 70) (a - 55) 16) 16 ≡ value a
     unfolding value
     value-digit-out h =
         byBool (leb 48 a)

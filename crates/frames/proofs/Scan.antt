@@ -3,7 +3,7 @@
 use Prim.Native.Nat.{ℕ, zero, suc, _+_, _-_, _%_, _≤_, _<_}
 use mathlib.Core.Path.{_≡_, refl, sym, ap, ap₂, _∙_}
 use mathlib.Core.List.{List, [], _∷_, _++_, append-assoc, append-nil}
-use mathlib.Core.Bool.{Bool, true, false}
+use mathlib.Core.Bool.{Bool, true, false, cond}
 use native.Mathlib.Omega.{arith}
 use native.Mathlib.Numerals.{add-one}
 use borrow.Author.Tests.{eq-eqb, ne-eqb, leb-true, leb-false}
@@ -13,7 +13,6 @@ use lib.Dec.{leb, eqb}
 use Rattle.rules.specs.Memory.{over}
 use Rattle.rules.proofs.Memory.{over-length, over-snoc}
 use Rattle.rules.proofs.Cases.{byBool}
-use Rattle.rules.specs.Shape.{pick}
 use Rattle.frames.specs.declared.Pair.{Pair}
 use Rattle.frames.specs.Lines.{total, Parsed, after, guard, readLine, checked, soundLine, pairOf, decoded, report, pastLine, lineAfter}
 use Rattle.frames.specs.Lines.Parsed.{Bad, Good}
@@ -77,7 +76,7 @@ scan-start s at xs = record {
     start zero = refl
     start (suc n) = refl
 
-guarded : (len : ℕ) (a b : Bool) (l : Parsed) → pick a (pick b (report len l) (report len Bad)) (report len Bad) ≡ report len (guard a (guard b l))
+guarded : (len : ℕ) (a b : Bool) (l : Parsed) → cond a (cond b (report len l) (report len Bad)) (report len Bad) ≡ report len (guard a (guard b l))
 guarded len true true l = refl
 guarded len true false l = refl
 guarded len false b l = refl
@@ -118,7 +117,7 @@ module _ (s : List ℕ) (at : ℕ) (xs frame : List ℕ) (sum len i : ℕ) (c : 
     end-bytes e = shut (decoded-end (drop i s) (at-front ∙ e))
 
     pub end-line : getD s i 0 ≡ 10
-        → pick (leb 2 len) (pick (eqb sum 0) (record { sound = true; next = i + 1; len = len }) (report 0 Bad)) (report 0 Bad) ≡ report (length s) (soundLine (drop at s))
+        → cond (leb 2 len) (cond (eqb sum 0) (record { sound = true; next = i + 1; len = len }) (report 0 Bad)) (report 0 Bad) ≡ report (length s) (soundLine (drop at s))
     unfolding soundLine
     end-line e =
         let f = c .done in

@@ -3,20 +3,19 @@
 -- Assumes nothing.
 use Prim.Native.Nat.{ℕ, _+_, _-_, _*_, _/_, _%_}
 use mathlib.Core.List.{List, [], _∷_, _++_}
-use mathlib.Core.Bool.{Bool, true, false}
+use mathlib.Core.Bool.{Bool, true, false, cond}
 use lib.ListN.{length, drop}
 use lib.Dec.{leb, ltb, eqb}
-use Rattle.rules.specs.Shape.{pick}
 use Rattle.frames.specs.declared.Line.{Line}
 use Rattle.frames.specs.declared.Pair.{Pair}
 
 -- the digit of a number below 16
 unfoldable pub digit : ℕ → ℕ
-digit d = pick (ltb d 10) (48 + d) (55 + d)
+digit d = cond (ltb d 10) (48 + d) (55 + d)
 
 -- the number of a digit, 16 for what is none
 unfoldable pub value : ℕ → ℕ
-value a = pick (leb 48 a) (pick (leb a 57) (a - 48) (pick (leb 65 a) (pick (leb a 70) (a - 55) 16) 16)) 16
+value a = cond (leb 48 a) (cond (leb a 57) (a - 48) (cond (leb 65 a) (cond (leb a 70) (a - 55) 16) 16)) 16
 
 -- two digits a byte
 abbrev pub digits : List ℕ → List ℕ
@@ -54,9 +53,9 @@ guard false l = Bad
 
 abbrev pub readLine : List ℕ → Parsed
 readLine [] = Bad
-readLine (a ∷ []) = pick (eqb a 10) (Good [] []) Bad
+readLine (a ∷ []) = cond (eqb a 10) (Good [] []) Bad
 readLine (a ∷ b ∷ s) =
-    pick (eqb a 10) (Good [] (b ∷ s)) (guard (ltb (value a) 16) (guard (ltb (value b) 16) (after (16 * value a + value b) (readLine s))))
+    cond (eqb a 10) (Good [] (b ∷ s)) (guard (ltb (value a) 16) (guard (ltb (value b) 16) (after (16 * value a + value b) (readLine s))))
 
 -- a sound frame has 2 bytes or more, and they add to zero
 abbrev pub checked : Parsed → Parsed
@@ -73,7 +72,7 @@ abbrev pub pairOf : List ℕ → Pair
 pairOf [] = record { ok = false; byte = 0 }
 pairOf (a ∷ []) = record { ok = false; byte = 0 }
 pairOf (a ∷ b ∷ s) =
-    pick (ltb (value a) 16) (pick (ltb (value b) 16) (record { ok = true; byte = 16 * value a + value b }) (record { ok = false; byte = 0 }))
+    cond (ltb (value a) 16) (cond (ltb (value b) 16) (record { ok = true; byte = 16 * value a + value b }) (record { ok = false; byte = 0 }))
     (record { ok = false; byte = 0 })
 
 -- the bytes from a line's start on, up to its end or to the first fault
@@ -81,7 +80,7 @@ unfoldable pub decoded : List ℕ → List ℕ
 decoded [] = []
 decoded (a ∷ []) = []
 decoded (a ∷ b ∷ s) =
-    pick (eqb a 10) [] (pick (ltb (value a) 16) (pick (ltb (value b) 16) ((16 * value a + value b) ∷ decoded s) []) [])
+    cond (eqb a 10) [] (cond (ltb (value a) 16) (cond (ltb (value b) 16) ((16 * value a + value b) ∷ decoded s) []) [])
 
 -- a line as it is reported, in a text of len bytes: where the next line starts, and how many bytes its frame has
 abbrev pub report : ℕ → Parsed → Line
@@ -91,7 +90,7 @@ report len (Good f rest) = record { sound = true; next = len - length rest; len 
 -- what follows the first 0A
 abbrev pub pastLine : List ℕ → List ℕ
 pastLine [] = []
-pastLine (a ∷ s) = pick (eqb a 10) s (pastLine s)
+pastLine (a ∷ s) = cond (eqb a 10) s (pastLine s)
 
 -- where the line after the one at `at` starts; the length where there is none
 unfoldable pub lineAfter : List ℕ → ℕ → ℕ

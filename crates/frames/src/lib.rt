@@ -1,11 +1,10 @@
 // A frame as a line: upper-case hexadecimal with a checksum, ended by 0A (document 01, "The rule file").
 ghost use mathlib.Core.Path.{_≡_};
-ghost use mathlib.Core.Bool.{Bool};
+ghost use mathlib.Core.Bool.{Bool, cond};
 ghost use Prim.Native.Nat.{_+_, _-_, _*_, _/_, _%_, _<_, _≤_};
 ghost use lib.Dec.{leb, ltb, eqb};
 ghost use lib.ListN.{length, getD, take, drop, set};
 ghost use Rattle.rules.specs.Memory.{over, overAt};
-ghost use Rattle.rules.specs.Shape.{pick};
 ghost use Rattle.frames.specs.Lines.{digit, value, Parsed, lineOf, framed, soundLine, pairOf, decoded, report, lineAfter};
 
 // A line that was read: whether it is sound, where the next one starts and how many bytes its frame has, the checksum among them.
@@ -23,7 +22,7 @@ struct Pair {
 
 // What the digit of a number has above it: one of two constants, so that the digits of many bytes are made at once.
 fn digit_base(d: u8) -> u8
-    ensures { λ r. ⌜ r ≡ pick (ltb d 10) 48 55 ⌝ }
+    ensures { λ r. ⌜ r ≡ cond (ltb d 10) 48 55 ⌝ }
 {
     if d < 10 { 48 } else { 55 }
 }
@@ -38,7 +37,7 @@ fn hex_digit(d: u8) -> u8
 
 // The number of a letter from A to F, 16 for what is none.
 fn letter_value(a: u8) -> u8
-    ensures { λ r. ⌜ r ≡ pick (leb 65 a) (pick (leb a 70) (a - 55) 16) 16 ⌝ }
+    ensures { λ r. ⌜ r ≡ cond (leb 65 a) (cond (leb a 70) (a - 55) 16) 16 ⌝ }
 {
     let e = std::num::wrapping_sub_u8(a, 65);
     if e < 6 { 10 + e } else { 16 }
@@ -139,7 +138,7 @@ fn no_line() -> Line
 
 // A line that ended: a frame of 2 bytes or more that add to zero.
 fn ended(sum: u8, len: usize, next: usize) -> Line
-    ensures { λ r. ⌜ r ≡ pick (leb 2 len) (pick (eqb sum 0) (record { sound = Bool.true; next = next; len = len }) (report 0 Parsed.Bad)) (report 0 Parsed.Bad) ⌝ }
+    ensures { λ r. ⌜ r ≡ cond (leb 2 len) (cond (eqb sum 0) (record { sound = Bool.true; next = next; len = len }) (report 0 Parsed.Bad)) (report 0 Parsed.Bad) ⌝ }
 {
     if len < 2 {
         return no_line();

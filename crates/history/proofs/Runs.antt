@@ -3,7 +3,7 @@
 use Prim.Native.Nat.{ℕ, zero, suc, _+_, _-_, _*_, _≤_, _<_, _%_, _/_}
 use mathlib.Core.Path.{_≡_, refl, sym, ap, _∙_}
 use mathlib.Core.List.{List, [], _∷_, _++_, map, append-assoc, append-nil}
-use mathlib.Core.Bool.{Bool, true, false}
+use mathlib.Core.Bool.{Bool, true, false, cond}
 use native.Mathlib.Omega.{arith}
 use native.Mathlib.Numerals.{add-one}
 use borrow.Author.Tests.{eq-eqb, ne-eqb, lt-leb, le-leb, lt-ltb, le-ltb, ltb-true, ltb-false}
@@ -11,7 +11,6 @@ use lib.ListN.{length, getD, take, drop, set, length-set, length-drop, take-appe
 use lib.Seq.{take-suc-set, drop-set-lt, drop-drop, take-all}
 use lib.Dec.{eqb, ltb}
 use Rattle.rules.proofs.Cases.{byBool}
-use Rattle.rules.specs.Shape.{pick}
 use Rattle.rules.specs.declared.Rule.{Rule}
 use Rattle.rules.specs.Refusals.{Reply, accepted, declined}
 use Rattle.image.specs.State.{start}
@@ -42,7 +41,7 @@ edits-on n i at ws h =
     let e : n - i ≡ suc (n - (i + 1)) = omega arith in
     rw (e, ← drop-drop 27 at ws)
 
-filled-by : (ws : List ℕ) (a b : Bool) → FilledEdit (pick a (Add (ruleOf ws) (getD ws 2 0)) (pick b (Drop (getD ws 1 0 % 65536)) (Move (getD ws 1 0 % 65536) (getD ws 2 0))))
+filled-by : (ws : List ℕ) (a b : Bool) → FilledEdit (cond a (Add (ruleOf ws) (getD ws 2 0)) (cond b (Drop (getD ws 1 0 % 65536)) (Move (getD ws 1 0 % 65536) (getD ws 2 0))))
 filled-by ws true b = (refl, (refl, (refl, refl)))
 filled-by ws false true = refl
 filled-by ws false false = refl

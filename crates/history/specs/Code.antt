@@ -1,12 +1,12 @@
 -- Lists of edits as lists of words, 27 words an edit: kind (0 add, 1 drop, else move), number, place, four lengths, then the left, target,
 -- right and phone bytes. A missing word reads as 0.
 -- Assumes nothing.
+use mathlib.Core.Bool.{cond}
 use Prim.Native.Nat.{ℕ, zero, suc, _+_, _<_, _%_}
 use mathlib.Core.Path.{_≡_}
 use mathlib.Core.List.{List, [], _∷_, _++_}
 use lib.ListN.{length, getD, drop, replicate}
 use lib.Dec.{eqb}
-use Rattle.rules.specs.Shape.{pick}
 use Rattle.rules.specs.declared.Rule.{Rule}
 use Rattle.edits.specs.Ledger.{Edit}
 use Rattle.edits.specs.Ledger.Edit.{Add, Drop, Move}
@@ -39,8 +39,8 @@ ruleOf ws = record {
 -- the edit that the first 27 words say
 abbrev pub editOf : List ℕ → Edit
 editOf ws =
-    pick (eqb (getD ws 0 0) 0) (Add (ruleOf ws) (getD ws 2 0))
-    (pick (eqb (getD ws 0 0) 1) (Drop (getD ws 1 0 % 65536)) (Move (getD ws 1 0 % 65536) (getD ws 2 0)))
+    cond (eqb (getD ws 0 0) 0) (Add (ruleOf ws) (getD ws 2 0))
+    (cond (eqb (getD ws 0 0) 1) (Drop (getD ws 1 0 % 65536)) (Move (getD ws 1 0 % 65536) (getD ws 2 0)))
 
 -- the first n edits that the words say
 abbrev pub editsOf : ℕ → List ℕ → List Edit

@@ -3,10 +3,9 @@
 use Prim.Native.Nat.{ℕ, _<_, _/_}
 use mathlib.Core.Path.{_≡_}
 use mathlib.Core.List.{List, _++_, map}
-use mathlib.Core.Bool.{true}
+use mathlib.Core.Bool.{true, cond}
 use lib.ListN.{length, getD, drop}
 use lib.Dec.{leb, ltb}
-use Rattle.rules.specs.Shape.{pick}
 use Rattle.rules.specs.Refusals.{Reply, accepted, declined}
 use Rattle.image.specs.State.{start}
 use Rattle.image.specs.Image.{imageSize, ledgerOf, laid, valid}
@@ -21,7 +20,7 @@ codeOf (declined n p) = n
 
 -- how many edits are taken: as many as are coded and have a byte for their answer
 abbrev pub turns : ℕ → ℕ → ℕ
-turns code answers = pick (ltb (code / editWords) answers) (code / editWords) answers
+turns code answers = cond (ltb (code / editWords) answers) (code / editWords) answers
 
 abbrev pub taken : List ℕ → List ℕ → List Edit
 taken code answers = editsOf (turns (length code) (length answers)) code
@@ -42,7 +41,7 @@ through es image answers = replaying accepted (imageAll image es) (map codeOf (o
 -- from the empty ruleset, in memory that held anything; memory too short for a ruleset is refused and kept
 unfoldable pub replayed : List ℕ → List ℕ → List ℕ → Replay
 replayed image code answers =
-    pick (leb imageSize (length image)) (through (taken code answers) (laid start image) answers) (replaying (declined 0 0) image answers)
+    cond (leb imageSize (length image)) (through (taken code answers) (laid start image) answers) (replaying (declined 0 0) image answers)
 
 -- The claim over every list of edits es from the empty ruleset: what is held and what was answered after it.
 pub record FromEmpty (es : List Edit) (old image new : List ℕ) : Type 0 where

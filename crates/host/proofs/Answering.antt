@@ -2,7 +2,7 @@
 -- Assumes nothing.
 use Prim.Native.Nat.{ℕ, _+_, _-_, _*_, _/_, _≤_}
 use mathlib.Core.Path.{_≡_, refl, sym, ap, ap₂, _∙_}
-use mathlib.Core.Bool.{Bool, true, false}
+use mathlib.Core.Bool.{Bool, true, false, cond}
 use mathlib.Core.List.{List, [], _∷_, _++_}
 use native.Mathlib.Omega.{arith}
 use lib.Dec.{leb}
@@ -12,7 +12,6 @@ use borrow.Author.Tests.{leb-true}
 use Rattle.rules.specs.Memory.{over}
 use Rattle.rules.proofs.Memory.{over-length, put-tail, tail-is}
 use Rattle.rules.proofs.Cases.{byBool}
-use Rattle.rules.specs.Shape.{pick}
 use Rattle.image.specs.Image.{valid, entriesOf}
 use Rattle.reading.specs.Fitting.{Str}
 use Rattle.reading.specs.Reading.{Reading, finished, stopped}
@@ -243,11 +242,11 @@ module _ (image ws ss names ph nu re : List ℕ) where
   module _ (v : valid image ≡ true) where
     pub many-valid : manySaid image ws ss names ph nu re ≡ manyFrom (spokenAll image ws ss names ph nu re) re
     unfolding manySaid
-    many-valid = ap (λ (t : Bool). pick t (manyFrom (spokenAll image ws ss names ph nu re) re) (record { code = 0; count = 0; replies = re; phones = ph; numbers = nu })) v
+    many-valid = ap (λ (t : Bool). cond t (manyFrom (spokenAll image ws ss names ph nu re) re) (record { code = 0; count = 0; replies = re; phones = ph; numbers = nu })) v
 
   pub many-invalid : valid image ≡ false → manySaid image ws ss names ph nu re ≡ record { code = 0; count = 0; replies = re; phones = ph; numbers = nu }
   unfolding manySaid
-  many-invalid v = ap (λ (t : Bool). pick t (manyFrom (spokenAll image ws ss names ph nu re) re) (record { code = 0; count = 0; replies = re; phones = ph; numbers = nu })) v
+  many-invalid v = ap (λ (t : Bool). cond t (manyFrom (spokenAll image ws ss names ph nu re) re) (record { code = 0; count = 0; replies = re; phones = ph; numbers = nu })) v
 
   pub all-is : spokenAll image ws ss names ph nu re ≡ each (walkSaid image ws ss) (namesIn (length re / 4) names) ph nu
   unfolding spokenAll

@@ -2,7 +2,7 @@
 -- Assumes nothing.
 use Prim.Native.Nat.{ℕ, zero, suc, _+_, _-_, _≤_, _<_}
 use mathlib.Core.Path.{_≡_, refl, sym, ap, ap₂, _∙_}
-use mathlib.Core.Bool.{Bool, true, false}
+use mathlib.Core.Bool.{Bool, true, false, cond, _&&_}
 use mathlib.Core.List.{List, [], _∷_}
 use native.Mathlib.Omega.{arith}
 use lib.Dec.{leb, ltb}
@@ -10,11 +10,10 @@ use lib.ListN.{length, getD, take, drop, length-drop, drop-of-length-le}
 use lib.Seq.{drop-cons, drop-drop}
 use borrow.Author.Tests.{leb-true, leb-false, le-leb, lt-leb, ltb-true, ltb-false, lt-ltb, le-ltb}
 use Rattle.rules.proofs.Cases.{byBool}
-use Rattle.rules.specs.Shape.{pick}
 use Rattle.tables.proofs.Truth.{clash}
 use Rattle.host.specs.Many.{namesIn, hasNext}
 
-pick-true : (a b : Bool) → pick a b false ≡ true → (a ≡ true) × (b ≡ true)
+pick-true : (a b : Bool) → (a && b) ≡ true → (a ≡ true) × (b ≡ true)
 pick-true true b h = (refl, h)
 pick-true false b h = absurd (clash h refl)
 
@@ -37,7 +36,7 @@ module _ (names : List ℕ) (at count k : ℕ) where
         let tail : drop at names ≡ n ∷ s = drop-cons names at 0 inside ∙ ap (λ (m : ℕ). n ∷ drop m names) one in
         let room : n ≤ length s = omega (arith, length-drop (at + 1) names, next-whole) in
         ap₂ namesIn fuel tail
-        ∙ (ap (λ (t : Bool). pick t (take n s ∷ namesIn (k - (count + 1)) (drop n s)) []) (le-leb n (length s) room)
+        ∙ (ap (λ (t : Bool). cond t (take n s ∷ namesIn (k - (count + 1)) (drop n s)) []) (le-leb n (length s) room)
         ∙ ap (λ (l : List ℕ). take n s ∷ namesIn (k - (count + 1)) l) (drop-drop n (at + 1) names))
 
   names-nil : (j : ℕ) → namesIn j [] ≡ []
@@ -46,7 +45,7 @@ module _ (names : List ℕ) (at count k : ℕ) where
 
   names-broken : (j n : ℕ) (s : List ℕ) → leb n (length s) ≡ false → namesIn j (n ∷ s) ≡ []
   names-broken zero n s h = refl
-  names-broken (suc j) n s h = ap (λ (t : Bool). pick t (take n s ∷ namesIn j (drop n s)) []) h
+  names-broken (suc j) n s h = ap (λ (t : Bool). cond t (take n s ∷ namesIn j (drop n s)) []) h
 
   pub names-end : hasNext names at count k ≡ false → namesIn (k - count) (drop at names) ≡ []
   names-end h =
@@ -57,7 +56,7 @@ module _ (names : List ℕ) (at count k : ℕ) where
       let s = drop (at + 1) names in
       let inside : at < length names = omega (arith, leb-true (at + 1) (length names) i) in
       let one : suc at ≡ at + 1 = omega arith in
-      let no : leb (at + 1 + n) (length names) ≡ false = ap (λ (t : Bool). pick t (leb (at + 1 + n) (length names)) false) (sym c) ∙ h in
+      let no : leb (at + 1 + n) (length names) ≡ false = ap (λ (t : Bool). t && leb (at + 1 + n) (length names)) (sym c) ∙ h in
       let over-end : length names < at + 1 + n = leb-false (at + 1 + n) (length names) no in
       let tail : drop at names ≡ n ∷ s = drop-cons names at 0 inside ∙ ap (λ (m : ℕ). n ∷ drop m names) one in
       ap (namesIn (k - count)) tail ∙ names-broken (k - count) n s (lt-leb n (length s) (omega (arith, length-drop (at + 1) names, over-end, inside))))
@@ -68,16 +67,16 @@ module _ (names : List ℕ) (at count k : ℕ) where
       let fuel : k - count ≡ 0 = omega (arith, ltb-false count k c) in
       ap (λ (j : ℕ). namesIn j (drop at names)) fuel)
 
-has-full : (t : Bool) → false ≡ pick t false false
+has-full : (t : Bool) → false ≡ (t && false)
 has-full true = refl
 has-full false = refl
 
 module _ (names : List ℕ) (at count k : ℕ) where
   pub has-none : k ≤ count → false ≡ hasNext names at count k
-  has-none h = ap (λ (t : Bool). pick t (leb (at + 1 + getD names at 0) (length names)) false) (sym (le-ltb count k h))
+  has-none h = ap (λ (t : Bool). t && leb (at + 1 + getD names at 0) (length names)) (sym (le-ltb count k h))
 
   pub has-broken : length names < at + 1 + getD names at 0 → false ≡ hasNext names at count k
-  has-broken h = has-full (ltb count k) ∙ ap (λ (t : Bool). pick (ltb count k) t false) (sym (lt-leb (at + 1 + getD names at 0) (length names) h))
+  has-broken h = has-full (ltb count k) ∙ ap (λ (t : Bool). ltb count k && t) (sym (lt-leb (at + 1 + getD names at 0) (length names) h))
 
   pub has-one : count < k → at + 1 + getD names at 0 ≤ length names → true ≡ hasNext names at count k
-  has-one h i = ap₂ (λ (s t : Bool). pick s t false) (sym (lt-ltb count k h)) (sym (le-leb (at + 1 + getD names at 0) (length names) i))
+  has-one h i = ap₂ (λ (s t : Bool). s && t) (sym (lt-ltb count k h)) (sym (le-leb (at + 1 + getD names at 0) (length names) i))

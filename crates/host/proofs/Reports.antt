@@ -2,13 +2,13 @@
 -- Assumes nothing.
 use Prim.Native.Nat.{ℕ, _+_, _≤_, _<_}
 use mathlib.Core.Path.{_≡_, sym, ap, _∙_}
-use mathlib.Core.Bool.{Bool, true, false}
+use mathlib.Core.Bool.{Bool, true, false, cond}
 use mathlib.Core.List.{List, [], _∷_}
 use native.Mathlib.Omega.{arith}
 use lib.ListN.{length, getD, take, drop, length-drop}
 use lib.Seq.{getD-drop}
 use borrow.Author.Tests.{eq-eqb, ne-eqb, lt-leb, le-leb}
-use Rattle.rules.specs.Shape.{pick, shape}
+use Rattle.rules.specs.Shape.{shape}
 use Rattle.rules.specs.declared.Rule.{Rule}
 use Rattle.rules.specs.Refusals.{Reply, accepted, declined}
 use Rattle.image.specs.Image.{imageSize, valid, two, ledgerOf, Edited, outcome}
@@ -32,22 +32,22 @@ module _ (a : Reply) (image : List ℕ) (e : Edited) (h : outcome a image ≡ e)
   pub image-is : image ≡ e .image
   image-is = ap (λ (x : Edited). x .image) h
 
-pub checked-is : (image : List ℕ) (b : Bool) → valid image ≡ b → codeOf (checked image) ≡ pick b 255 0
-checked-is image true h = ap (λ (t : Bool). codeOf (pick t accepted (declined 0 0))) h
-checked-is image false h = ap (λ (t : Bool). codeOf (pick t accepted (declined 0 0))) h
+pub checked-is : (image : List ℕ) (b : Bool) → valid image ≡ b → codeOf (checked image) ≡ cond b 255 0
+checked-is image true h = ap (λ (t : Bool). codeOf (cond t accepted (declined 0 0))) h
+checked-is image false h = ap (λ (t : Bool). codeOf (cond t accepted (declined 0 0))) h
 
 -- what memory holds, long enough or not
 pub count-long : (image : List ℕ) → 13316 ≤ length image → two 0 image ≡ countIn image
-count-long image h = ap (λ (t : Bool). pick t (two 0 image) 0) (sym (le-leb imageSize (length image) h))
+count-long image h = ap (λ (t : Bool). cond t (two 0 image) 0) (sym (le-leb imageSize (length image) h))
 
 pub count-short : (image : List ℕ) → length image < 13316 → 0 ≡ countIn image
-count-short image h = ap (λ (t : Bool). pick t (two 0 image) 0) (sym (lt-leb imageSize (length image) h))
+count-short image h = ap (λ (t : Bool). cond t (two 0 image) 0) (sym (lt-leb imageSize (length image) h))
 
 pub last-long : (image : List ℕ) → 13316 ≤ length image → two 2 image ≡ lastIn image
-last-long image h = ap (λ (t : Bool). pick t (two 2 image) 0) (sym (le-leb imageSize (length image) h))
+last-long image h = ap (λ (t : Bool). cond t (two 2 image) 0) (sym (le-leb imageSize (length image) h))
 
 pub last-short : (image : List ℕ) → length image < 13316 → 0 ≡ lastIn image
-last-short image h = ap (λ (t : Bool). pick t (two 2 image) 0) (sym (lt-leb imageSize (length image) h))
+last-short image h = ap (λ (t : Bool). cond t (two 2 image) 0) (sym (lt-leb imageSize (length image) h))
 
 -- a rule from 24 bytes, read one by one
 four : (k : ℕ) (s : List ℕ) → k + 4 ≤ length s
@@ -80,18 +80,18 @@ rule-of-is s h = cc (six 4 s (omega arith), four 10 s (omega arith), six 14 s (o
 
 pub rule-yes : (s : List ℕ) (r : Rule) → r ≡ ruleOf s → length s ≡ 24 → r ≡ ruleIn s
 unfolding ruleIn
-rule-yes s r e h = e ∙ ap (λ (t : Bool). pick t (ruleOf s) blankRule) (sym (eq-eqb (length s) 24 h))
+rule-yes s r e h = e ∙ ap (λ (t : Bool). cond t (ruleOf s) blankRule) (sym (eq-eqb (length s) 24 h))
 
 pub rule-no : (s : List ℕ) → (length s ≡ 24 → ⊥) → blankRule ≡ ruleIn s
 unfolding ruleIn
-rule-no s h = ap (λ (t : Bool). pick t (ruleOf s) blankRule) (sym (ne-eqb (length s) 24 h))
+rule-no s h = ap (λ (t : Bool). cond t (ruleOf s) blankRule) (sym (ne-eqb (length s) 24 h))
 
 -- so bytes of another length are refused with 6, and change nothing
 pub odd-rule : (image s : List ℕ) (p : ℕ) → (length s ≡ 24 → ⊥) → valid image ≡ true → edited image (Edit.Add (ruleIn s) p) ≡ outcome (declined 6 0) image
 unfolding edited judged shape
 odd-rule image s p h v =
     ap (λ (r : Rule). edited image (Edit.Add r p)) (sym (rule-no s h))
-    ∙ ap (λ (t : Bool). pick t (outcomeBy (judged (ledgerOf image) (Edit.Add blankRule p)) image (Edit.Add blankRule p)) (outcome (declined 0 0) image)) v
+    ∙ ap (λ (t : Bool). cond t (outcomeBy (judged (ledgerOf image) (Edit.Add blankRule p)) image (Edit.Add blankRule p)) (outcome (declined 0 0) image)) v
 
 -- the numbers of a call that speaks, and the lent memory after it
 module _ (t : Told) (phones numbers : List ℕ) (s : Said) (h : saying t phones numbers ≡ s) where

@@ -1,10 +1,10 @@
 -- What a host gets in numbers: a code, 255 where a call is accepted and else document 01's refusal number, and what goes with it.
 -- Assumes nothing.
+use mathlib.Core.Bool.{cond}
 use Prim.Native.Nat.{ℕ}
 use mathlib.Core.List.{List, [], _∷_}
 use lib.Dec.{leb, eqb}
 use lib.ListN.{length, getD, take, drop}
-use Rattle.rules.specs.Shape.{pick}
 use Rattle.rules.specs.Refusals.{Reply, accepted, declined}
 use Rattle.rules.specs.declared.Rule.{Rule}
 use Rattle.image.specs.Image.{imageSize, two, valid}
@@ -23,14 +23,14 @@ placeIn (declined n p) = p
 
 -- whether memory is a ruleset
 abbrev pub checked : List ℕ → Reply
-checked image = pick (valid image) accepted (declined 0 0)
+checked image = cond (valid image) accepted (declined 0 0)
 
 -- the rule count and `last` that memory holds, ruleset or not; 0 where it is too short for a ruleset
 abbrev pub countIn : List ℕ → ℕ
-countIn image = pick (leb imageSize (length image)) (two 0 image) 0
+countIn image = cond (leb imageSize (length image)) (two 0 image) 0
 
 abbrev pub lastIn : List ℕ → ℕ
-lastIn image = pick (leb imageSize (length image)) (two 2 image) 0
+lastIn image = cond (leb imageSize (length image)) (two 2 image) 0
 
 -- ---- a call that speaks a name
 
@@ -83,4 +83,4 @@ ruleOf s = record {
 
 -- bytes of another length are no rule
 unfoldable pub ruleIn : List ℕ → Rule
-ruleIn s = pick (eqb (length s) 24) (ruleOf s) blankRule
+ruleIn s = cond (eqb (length s) 24) (ruleOf s) blankRule

@@ -3,11 +3,10 @@
 use Prim.Native.Nat.{ℕ, zero, suc, _+_, _-_, _*_, _/_, _≤_}
 use mathlib.Core.Path.{_≡_}
 use mathlib.Core.List.{List, [], _∷_, _++_}
-use mathlib.Core.Bool.{Bool, false}
+use mathlib.Core.Bool.{Bool, false, cond, _&&_}
 use lib.Dec.{leb, ltb}
 use lib.ListN.{length, getD, take, drop}
 use Rattle.rules.specs.Memory.{over}
-use Rattle.rules.specs.Shape.{pick}
 use Rattle.image.specs.Image.{valid}
 use Rattle.reading.specs.Fitting.{Str}
 use Rattle.tables.specs.Walk.{Walked, walkSaid}
@@ -18,7 +17,7 @@ use Rattle.host.specs.declared.many.Progress.{Progress}
 abbrev pub namesIn : ℕ → List ℕ → List Str
 namesIn zero s = []
 namesIn (suc k) [] = []
-namesIn (suc k) (n ∷ s) = pick (leb n (length s)) (take n s ∷ namesIn k (drop n s)) []
+namesIn (suc k) (n ∷ s) = cond (leb n (length s)) (take n s ∷ namesIn k (drop n s)) []
 
 -- the reply to a name: its code, the phones given or the place, the numbers given, the steps
 abbrev pub replied : Walked → List ℕ
@@ -66,7 +65,7 @@ manyFrom l replies = record { code = 255; count = l .count; replies = over (l .r
 -- 0 once, for memory that is no ruleset; else each name has its own reply
 unfoldable pub manySaid : List ℕ → List ℕ → List ℕ → List ℕ → List ℕ → List ℕ → List ℕ → Many
 manySaid image ws ss names phones numbers replies =
-    pick (valid image) (manyFrom (spokenAll image ws ss names phones numbers replies) replies)
+    cond (valid image) (manyFrom (spokenAll image ws ss names phones numbers replies) replies)
     (record { code = 0; count = 0; replies = replies; phones = phones; numbers = numbers })
 
 -- ---- the same from where the answering stands, as the loop has it
@@ -95,7 +94,7 @@ module _ (f : Str → List ℕ → List ℕ → Walked) (names : List ℕ) (k : 
 
 -- fewer than k names are answered, and a whole one lies from `at` on
 abbrev pub hasNext : List ℕ → ℕ → ℕ → ℕ → Bool
-hasNext names at count k = pick (ltb count k) (leb (at + 1 + getD names at 0) (length names)) false
+hasNext names at count k = ltb count k && leb (at + 1 + getD names at 0) (length names)
 
 -- how one name is answered
 module _ (f : Str → List ℕ → List ℕ → Walked) (names phones numbers replies : List ℕ) (p : Progress) where

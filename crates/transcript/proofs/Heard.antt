@@ -3,7 +3,7 @@
 use Prim.Native.Nat.{ℕ, _+_, _-_, _≤_, _<_}
 use mathlib.Core.Path.{_≡_, refl, sym, ap, ap₂, _∙_}
 use mathlib.Core.List.{List, [], _∷_}
-use mathlib.Core.Bool.{Bool, true, false, not}
+use mathlib.Core.Bool.{Bool, true, false, not, cond}
 use native.Mathlib.Omega.{arith}
 use borrow.Author.Tests.{ne-eqb, ltb-true, ltb-false}
 use lib.Dec.{eqb, ltb}
@@ -11,7 +11,6 @@ use lib.ListN.{length, getD, take, drop, length-drop}
 use lib.Seq.{take-all, take-take, take-append-le, drop-append-le, length-take-le}
 use Rattle.rules.specs.Memory.{over}
 use Rattle.rules.proofs.Cases.{byBool}
-use Rattle.rules.specs.Shape.{pick}
 use Rattle.frames.specs.declared.Line.{Line}
 use Rattle.frames.specs.Lines.{Parsed, soundLine, decoded, report}
 use Rattle.frames.proofs.Lines.{sound-was}
@@ -71,15 +70,15 @@ module _ (text : List ℕ) (at : ℕ) (line : Line) (xs z : List ℕ)
     first : getD z 0 0 ≡ getD (g .f) 0 0
     first = ap (λ (l : List ℕ). getD l 0 0) held ∙ first-kept (g .f) xs two
 
-    said : cut (asked (soundLine (drop at text))) ≡ cut (pick (eqb (getD z 0 0) 3) (name (lettersIn (g .f))) unsound)
-    said = ap (λ (l : Parsed). cut (asked l)) (g .is) ∙ ap (λ (k : ℕ). cut (pick (eqb k 3) (name (lettersIn (g .f))) unsound)) (sym first)
+    said : cut (asked (soundLine (drop at text))) ≡ cut (cond (eqb (getD z 0 0) 3) (name (lettersIn (g .f))) unsound)
+    said = ap (λ (l : Parsed). cut (asked l)) (g .is) ∙ ap (λ (k : ℕ). cut (cond (eqb k 3) (name (lettersIn (g .f))) unsound)) (sym first)
 
     pub heard-other : eqb (getD z 0 0) 3 ≡ false → heard 0 z ≡ cut (asked (soundLine (drop at text)))
-    heard-other o = sym (said ∙ ap (λ (b : Bool). cut (pick b (name (lettersIn (g .f))) unsound)) o)
+    heard-other o = sym (said ∙ ap (λ (b : Bool). cut (cond b (name (lettersIn (g .f))) unsound)) o)
 
     module _ (o : eqb (getD z 0 0) 3 ≡ true) where
       named : cut (asked (soundLine (drop at text))) ≡ name (take 65 (lettersIn (g .f)))
-      named = said ∙ ap (λ (b : Bool). cut (pick b (name (lettersIn (g .f))) unsound)) o
+      named = said ∙ ap (λ (b : Bool). cut (cond b (name (lettersIn (g .f))) unsound)) o
 
       pub heard-long : 67 < line .len → heard 66 z ≡ cut (asked (soundLine (drop at text)))
       heard-long l =
@@ -91,7 +90,7 @@ module _ (text : List ℕ) (at : ℕ) (line : Line) (xs z : List ℕ)
       heard-short l =
           let m = g .many in
           let k : line .len - 1 - 1 ≡ length (g .f) - 2 = omega (arith, two) in
-          ap (λ (b : Bool). pick b unsound (name (take (line .len - 1 - 1) (drop 1 z)))) (ne-eqb (line .len - 1) 0 (omega (arith, two)))
+          ap (λ (b : Bool). cond b unsound (name (take (line .len - 1 - 1) (drop 1 z)))) (ne-eqb (line .len - 1) 0 (omega (arith, two)))
           ∙ (ap₂ (λ (i : ℕ) (w : List ℕ). name (take i (drop 1 w))) k held
           ∙ (ap name (letters-kept (g .f) xs (length (g .f) - 2) (omega (arith, two)) (omega arith) ∙ short-letters (g .f) two (omega arith)) ∙ sym named))
 

@@ -3,11 +3,10 @@
 use Prim.Native.Nat.{ℕ, _≤_, _<_}
 use mathlib.Core.Path.{_≡_, sym, ap, _∙_, subst}
 use mathlib.Core.List.{List}
-use mathlib.Core.Bool.{Bool, true}
+use mathlib.Core.Bool.{Bool, true, cond}
 use borrow.Author.Tests.{le-leb, lt-leb}
 use lib.ListN.{length}
 use Rattle.rules.proofs.Cases.{byBool}
-use Rattle.rules.specs.Shape.{pick}
 use Rattle.rules.specs.Refusals.{refusalNumber, refusalPlace, Reply, accepted, declined, replyOf}
 use Rattle.rules.specs.declared.Refusal.{Refusal}
 use Rattle.rules.specs.declared.Answer.{Answer}
@@ -21,14 +20,14 @@ module _ (rules image words sets : List ℕ) where
   pub too-long : maxInput < length rules → ready (declined 13 maxInput) image words sets ≡ prepared rules image words sets
   unfolding prepared
   too-long h =
-      ap (λ (b : Bool). pick b (onward (loaded rules image .reply) (loaded rules image .image) words sets) (ready (declined 13 maxInput) image words sets)) (sym (lt-leb (length rules) maxInput h))
+      ap (λ (b : Bool). cond b (onward (loaded rules image .reply) (loaded rules image .image) words sets) (ready (declined 13 maxInput) image words sets)) (sym (lt-leb (length rules) maxInput h))
 
   module _ (h : length rules ≤ maxInput) (a : Answer) (read : List ℕ) (e : outcome (replyOf a) read ≡ loaded rules image) where
     after-read : onward (replyOf a) read words sets ≡ prepared rules image words sets
     unfolding prepared
     after-read =
         ap (λ (l : Edited). onward (l .reply) (l .image) words sets) e
-        ∙ ap (λ (b : Bool). pick b (onward (loaded rules image .reply) (loaded rules image .image) words sets) (ready (declined 13 maxInput) image words sets)) (sym (le-leb (length rules) maxInput h))
+        ∙ ap (λ (b : Bool). cond b (onward (loaded rules image .reply) (loaded rules image .image) words sets) (ready (declined 13 maxInput) image words sets)) (sym (le-leb (length rules) maxInput h))
 
     pub refused-file : (x : Refusal) → a ≡ Refused x → ready (declined (refusalNumber x) (refusalPlace x)) read words sets ≡ prepared rules image words sets
     refused-file x f = ap (λ (b : Answer). onward (replyOf b) read words sets) (sym f) ∙ after-read
@@ -49,5 +48,5 @@ unfolding built
 accepted-valid image words sets ws ss r e f =
     byBool (valid image) (λ v. v)
     (λ v.
-    let d : built image words sets ≡ building (declined 0 0) words sets = ap (λ (b : Bool). pick b (builtFrom (entriesOf image) words sets) (building (declined 0 0) words sets)) v in
+    let d : built image words sets ≡ building (declined 0 0) words sets = ap (λ (b : Bool). cond b (builtFrom (entriesOf image) words sets) (building (declined 0 0) words sets)) v in
     never-taken 0 0 (sym (ap (λ (b : Built). b .reply) (e ∙ d)) ∙ f))

@@ -3,7 +3,7 @@
 use Prim.Native.Nat.{ℕ, _-_, _≤_, _<_}
 use mathlib.Core.Path.{_≡_, refl, sym, ap, _∙_, subst}
 use mathlib.Core.List.{List}
-use mathlib.Core.Bool.{Bool, true, false}
+use mathlib.Core.Bool.{Bool, true, false, cond}
 use native.Mathlib.Omega.{arith}
 use borrow.Author.Tests.{leb-true, leb-false, lt-leb, ne-eqb}
 use lib.Dec.{leb}
@@ -11,7 +11,6 @@ use lib.ListN.{length, take, drop}
 use lib.Seq.{take-all, length-take-le}
 use Rattle.rules.proofs.Cases.{byBool}
 use Rattle.rules.specs.Limits.{maxName}
-use Rattle.rules.specs.Shape.{pick}
 use Rattle.rules.specs.Refusals.{refusalNumber, refusalPlace}
 use Rattle.rules.specs.declared.Refusal.{Refusal}
 use Rattle.image.specs.Image.{valid, entriesOf}
@@ -48,7 +47,7 @@ module _ (image words sets : List ℕ) where
   overlong letters phones numbers v e =
       let s : Said = saying (refused 2 0) phones numbers in
       let j : judgedName letters (walkWords words sets (entriesOf image) letters) ≡ stopped 2 0 = rw e in
-      ap (λ (b : Bool). walkedAs (pick b (delivered (judgedName letters (walkWords words sets (entriesOf image) letters)) phones numbers) (saying (refused 0 0) phones numbers)) (walkSteps (leftOf words sets) (rightOf words sets) letters)) v
+      ap (λ (b : Bool). walkedAs (cond b (delivered (judgedName letters (walkWords words sets (entriesOf image) letters)) phones numbers) (saying (refused 0 0) phones numbers)) (walkSteps (leftOf words sets) (rightOf words sets) letters)) v
       ∙ ap (λ (o : Reading). walkedAs (delivered o phones numbers) (walkSteps (leftOf words sets) (rightOf words sets) letters)) j
 
   cut-spelt : (letters : List ℕ) → valid image ≡ true → spelt image words sets (take 65 letters) ≡ spelt image words sets letters
@@ -103,4 +102,4 @@ module _ (image words sets s kept : List ℕ) (end : ℕ) (v : valid image ≡ t
 
   pub answered-name : 0 < end → spelt image words sets (take (end - 1) (drop 1 kept)) ≡ nameAnswer image words sets s
   answered-name e =
-      ap (λ (b : Bool). answerTo image words sets (pick b unsound (name (take (end - 1) (drop 1 kept))))) (sym (ne-eqb end 0 (omega arith))) ∙ by-heard
+      ap (λ (b : Bool). answerTo image words sets (cond b unsound (name (take (end - 1) (drop 1 kept))))) (sym (ne-eqb end 0 (omega arith))) ∙ by-heard

@@ -1,10 +1,10 @@
 -- What `say` prints for the line of a name (document 01, "The six rules").
 -- Assumes nothing.
+use mathlib.Core.Bool.{cond}
 use Prim.Native.Nat.{ℕ, _-_, _≤_}
 use mathlib.Core.List.{List}
 use lib.Dec.{eqb}
 use lib.ListN.{length, getD, take, drop, replicate}
-use Rattle.rules.specs.Shape.{pick}
 use Rattle.frames.specs.Lines.{Parsed, soundLine}
 use Rattle.frames.specs.Lines.Parsed.{Bad, Good}
 use Rattle.reading.specs.Speech.{Told, spoken, refused}
@@ -23,7 +23,7 @@ lettersIn f = take (length f - 2) (drop 1 f)
 -- a sound line that starts with 03
 abbrev pub asked : Parsed → Asked
 asked Bad = unsound
-asked (Good f rest) = pick (eqb (getD f 0 0) 3) (name (lettersIn f)) unsound
+asked (Good f rest) = cond (eqb (getD f 0 0) 3) (name (lettersIn f)) unsound
 
 -- each name is lent 256 phones and 64 numbers
 unfoldable pub lentPhones : List ℕ
@@ -53,7 +53,7 @@ cut (name letters) = name (take 65 letters)
 
 -- what stands in a frame that was read, its letters ending before `end`; 0 for no name
 abbrev pub heard : ℕ → List ℕ → Asked
-heard end frame = pick (eqb end 0) unsound (name (take (end - 1) (drop 1 frame)))
+heard end frame = cond (eqb end 0) unsound (name (take (end - 1) (drop 1 frame)))
 
 -- as many phones and numbers as are told are there
 abbrev pub ToldWithin : Told → ℕ → ℕ → Type 0

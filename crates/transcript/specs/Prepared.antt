@@ -1,10 +1,10 @@
 -- A rule file made ready for names: read into lent memory, and its tables built (document 01, "The six rules").
 -- Assumes nothing.
+use mathlib.Core.Bool.{cond}
 use Prim.Native.Nat.{ℕ}
 use mathlib.Core.List.{List}
 use lib.Dec.{leb}
 use lib.ListN.{length}
-use Rattle.rules.specs.Shape.{pick}
 use Rattle.rules.specs.Refusals.{Reply, accepted, declined}
 use Rattle.tables.specs.Words.{Built, built}
 use Rattle.file.specs.Loading.{loaded}
@@ -34,5 +34,5 @@ onward (declined n p) image words sets = ready (declined n p) image words sets
 -- 13 with place 32,768 for a longer file, then the refusals of the reading, then those of the build
 unfoldable pub prepared : List ℕ → List ℕ → List ℕ → List ℕ → Prepared
 prepared rules image words sets =
-    pick (leb (length rules) maxInput) (onward (loaded rules image .reply) (loaded rules image .image) words sets)
+    cond (leb (length rules) maxInput) (onward (loaded rules image .reply) (loaded rules image .image) words sets)
     (ready (declined 13 maxInput) image words sets)

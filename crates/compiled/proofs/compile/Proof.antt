@@ -1,6 +1,7 @@
 -- `compiled::compile` meets its contract: a walk of its MIR, by hand. `state_count` is called twice on words and set words, of which the proof knows only that it meets its contract, and the struct is made of the slices passed and the two counts.
 -- A `&[T]` is Copy, so what it owns is had as often as it is needed.
 -- Assumes nothing.
+use mathlib.Core.Bool.{cond}
 use mathlib.Core.Path.{_≡_, refl, ap}
 use Prim.Native.Nat.{ℕ, _<_, _^_}
 use mathlib.Core.List.{List, [], _∷_}
@@ -18,7 +19,7 @@ use prog.Wp.{Heap, Calls, Loops, WpFn, Tables}
 use ghost.Atoms.{Atoms, sem}
 use contract.Monad.{Fun, fact}
 use contract.Running.{givenOf, tables, tablesOf}
-use types.Kit.{Given, ‵, raw, _⊛_, ⋆, some, later, _$_, _∵_, !, qed, by, move, drop, use1, use2, use3, split, join, pick, rewrite, fsplit, fjoin, suffices, frame, await, done}
+use types.Kit.{Given, ‵, raw, _⊛_, ⋆, some, later, _$_, _∵_, !, qed, by, move, drop, use1, use2, use3, split, join, rewrite, fsplit, fjoin, suffices, frame, await, done}
 use types.Part.{agg}
 use types.Run.{look, init, forget, stop, from, load, lit, and-then, no-more, assigns, land, returns, enter, alloc1, alloc0, params1, pass1, pass0, free1, free0}
 use sound.WpLaws.{FmC, fmOf, WpFn-mono}
@@ -123,7 +124,7 @@ module _ {M : Type 1} (𝓤 : URA M) (H : Heap 𝓤) (A : Atoms 𝓤) (W : Given
         -- [S; W; _4; …; the token]
         move ! (12 ∷ 1 ∷ []) $ use3 W (raw (Count 𝓤 H A mem run .pre (to 0)) ⊛ ‵ OwnW ⊛ ‵ OwnS) (goes 0 (lit< tt)) $ split ! $ move ! (1 ∷ []) $ split ! $ move ! (2 ∷ []) $
         calls-at ! fm (Count 𝓤 H A mem run) known (to 0) (and-then ! (load ! (from ! (stop !)) (look ! 9 refl)) (and-then ! (load ! (from ! (stop !)) (look ! 7 refl)) (and-then ! (lit ! tt) (no-more !)))) (λ u.
-        use1 W (later (some (λ (l : ℕ). ((‵ (flft κ q) ⊛ ‵ ftrue) ⊛ ‵ (usize .own l (u ∷ []))) ⊛ raw (ensured 𝓤 H A count.ended (count.clauses 𝓤 H A mem run) (κ, tt) (w, (s, (0, tt))) tt l)))) (id⊢ 𝓤 _) $ await ! tt $ pick ! (λ l.
+        use1 W (later (some (λ (l : ℕ). ((‵ (flft κ q) ⊛ ‵ ftrue) ⊛ ‵ (usize .own l (u ∷ []))) ⊛ raw (ensured 𝓤 H A count.ended (count.clauses 𝓤 H A mem run) (κ, tt) (w, (s, (0, tt))) tt l)))) (id⊢ 𝓤 _) $ await ! tt $ cond ! (λ l.
         split ! $ move ! (1 ∷ []) $ use1 W (raw (fact 𝓤 (l ≡ countIn (now w) (now s) 0))) (said 0 l) $ heard ! (l ≡ countIn (now w) (now s) 0) (λ el. split ! $ move ! (1 ∷ []) $
         -- [the count; the token; W; S; _4; …; _3; …; _2; …; _1; …; room for _0; …]
         peeks ! usize (Is usize) (shows 𝓤 H A usize) l (u ∷ []) (λ il.
@@ -131,7 +132,7 @@ module _ {M : Type 1} (𝓤 : URA M) (H : Heap 𝓤) (A : Atoms 𝓤) (W : Given
         -- [the token; W; S; _4; …]
         use3 W (raw (Count 𝓤 H A mem run .pre (to 1)) ⊛ ‵ OwnW ⊛ ‵ OwnS) (goes 1 (lit< tt)) $ split ! $ move ! (1 ∷ []) $ split ! $ move ! (2 ∷ []) $
         calls-at ! fm (Count 𝓤 H A mem run) known (to 1) (and-then ! (load ! (from ! (stop !)) (look ! 9 refl)) (and-then ! (load ! (from ! (stop !)) (look ! 7 refl)) (and-then ! (lit ! tt) (no-more !)))) (λ v.
-        use1 W (later (some (λ (r : ℕ). ((‵ (flft κ q) ⊛ ‵ ftrue) ⊛ ‵ (usize .own r (v ∷ []))) ⊛ raw (ensured 𝓤 H A count.ended (count.clauses 𝓤 H A mem run) (κ, tt) (w, (s, (1, tt))) tt r)))) (id⊢ 𝓤 _) $ await ! tt $ pick ! (λ r.
+        use1 W (later (some (λ (r : ℕ). ((‵ (flft κ q) ⊛ ‵ ftrue) ⊛ ‵ (usize .own r (v ∷ []))) ⊛ raw (ensured 𝓤 H A count.ended (count.clauses 𝓤 H A mem run) (κ, tt) (w, (s, (1, tt))) tt r)))) (id⊢ 𝓤 _) $ await ! tt $ cond ! (λ r.
         split ! $ move ! (1 ∷ []) $ use1 W (raw (fact 𝓤 (r ≡ countIn (now w) (now s) 1))) (said 1 r) $ heard ! (r ≡ countIn (now w) (now s) 1) (λ er. split ! $ move ! (1 ∷ []) $
         peeks ! usize (Is usize) (shows 𝓤 H A usize) r (v ∷ []) (λ ir.
         land ! (from ! (stop !)) (init ! 4 refl (uint-lawful 𝓤 H A W w64 .typed r _ ir .0)) $ rewrite ! 4 (λ (x : Val). ‵ (fat fullShare (tyInt w64) l₄ 0 x)) (ap only (ir .0)) refl $ drop ! $

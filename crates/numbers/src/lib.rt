@@ -1,0 +1,32 @@
+// Numbers of more than one byte, high byte first (document 01: "Two-byte fields are high byte first"), and numbers widened. A function
+// that widens asks only for the index where an element is widened in place; a cast there asks for the element's bound too.
+ghost use mathlib.Core.Path.{_≡_};
+ghost use Prim.Native.Nat.{_+_, _<_};
+ghost use lib.ListN.{length};
+ghost use Rattle.numbers.specs.Numbers.{two};
+
+pub fn wide(x: u8) -> usize
+    ensures { λ r. ⌜ (r ≡ x) × (r < 256) ⌝ }
+{
+    x as usize
+}
+
+pub fn wide16(x: u16) -> usize
+    ensures { λ r. ⌜ (r ≡ x) × (r < 65536) ⌝ }
+{
+    x as usize
+}
+
+fn wide8(x: u8) -> u16
+    ensures { λ r. ⌜ (r ≡ x) × (r < 256) ⌝ }
+{
+    x as u16
+}
+
+// Two bytes.
+pub fn two_at(s: &[u8], at: usize) -> u16
+    requires { ⌜ at + 1 < length (now s) ⌝ }
+    ensures { λ r. ⌜ r ≡ two at (now (s .entry)) ⌝ }
+{
+    256 * wide8(s[at]) + wide8(s[at + 1])
+}
