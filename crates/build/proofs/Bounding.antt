@@ -8,12 +8,12 @@ use mathlib.Core.Bool.{Bool, true, false}
 use mathlib.Core.List.{List, [], _∷_, _++_, map, map-append}
 use lib.ListN.{length, getD, take}
 use lib.Seq.{take-suc, take-all}
+use Rattle.image.specs.State.{noEntry}
 use Rattle.rules.specs.Shape.{Entry}
-use Rattle.image.specs.Image.{two, entriesOf, valid}
+use Rattle.image.specs.Image.{entriesOf, valid, countOf}
 use Rattle.image.proofs.Tests.{valid-count}
 use Rattle.image.proofs.Entries.{entries-length}
 use Rattle.reading.specs.Fitting.{Str}
-use Rattle.reading.specs.Meaning.{noEntry}
 use Rattle.tables.proofs.Count.{total, states-total}
 use Rattle.build.specs.Sides.{sideOf, patternIn, sideTable}
 use Rattle.build.proofs.Symbols.{short}
@@ -29,14 +29,14 @@ module _ (d : List ℕ) where
 
   -- m is 2, and the symbols of the first i rules
   pub record Bounding (m i : ℕ) : Type 0 where
-    pub reached : i ≤ two 0 d
+    pub reached : i ≤ countOf d
     pub is : m ≡ 2 + (symbols false i + symbols true i)
     pub few : m ≤ 2 + 20 * i
 
   pub begin : Bounding 2 0
   begin = record { reached = omega arith; is = refl; few = omega arith }
 
-  symbols-next : (right : Bool) (i : ℕ) → i < two 0 d → symbols right (i + 1) ≡ symbols right i + length (patternIn d right i)
+  symbols-next : (right : Bool) (i : ℕ) → i < countOf d → symbols right (i + 1) ≡ symbols right i + length (patternIn d right i)
   symbols-next right i h =
       let es = entriesOf d in
       ap (λ (k : ℕ). symbols right k) (add-one i)
@@ -46,7 +46,7 @@ module _ (d : List ℕ) where
 
   module _ (ok : valid d ≡ true) (m i : ℕ) (b : Bounding m i) where
     -- one rule more, of a symbols left and c symbols right
-    pub next : i < two 0 d → (a c : ℕ) → a ≡ length (patternIn d false i) → c ≡ length (patternIn d true i) → Bounding (m + (a + c)) (i + 1)
+    pub next : i < countOf d → (a c : ℕ) → a ≡ length (patternIn d false i) → c ≡ length (patternIn d true i) → Bounding (m + (a + c)) (i + 1)
     next h a c e f =
         record {
           reached = omega arith;
@@ -54,7 +54,7 @@ module _ (d : List ℕ) where
           few = omega (arith, b .few, short d ok i h false, short d ok i h true);
         }
 
-    pub finished : two 0 d ≤ i → (sideTable d false .count + sideTable d true .count ≤ m) × (m ≤ 10242)
+    pub finished : countOf d ≤ i → (sideTable d false .count + sideTable d true .count ≤ m) × (m ≤ 10242)
     finished h = (omega (arith, all false, all true, b .is), omega (arith, b .few, b .reached, valid-count d ok))
       where
         all : (right : Bool) → sideTable d right .count ≤ 1 + symbols right i

@@ -8,12 +8,12 @@ use mathlib.Core.Bool.{Bool, true}
 use mathlib.Core.List.{List, [], _∷_, _++_, map, map-append}
 use lib.ListN.{length, getD, take, drop, set, replicate, length-replicate, length-set, length-take, length-drop}
 use lib.Seq.{getD-set-same, getD-set-other, getD-take, getD-drop, take-suc, take-all, ext-getD}
+use Rattle.image.specs.State.{noEntry}
 use Rattle.rules.specs.Shape.{Entry}
-use Rattle.image.specs.Image.{two, entriesOf, valid}
+use Rattle.image.specs.Image.{entriesOf, valid, countOf}
 use Rattle.image.proofs.Tests.{valid-count}
 use Rattle.image.proofs.Entries.{entries-length}
 use Rattle.reading.specs.Fitting.{Str}
-use Rattle.reading.specs.Meaning.{noEntry}
 use Rattle.side.specs.Patterns.{patternAt, patternsOf}
 use Rattle.side.specs.Wrote.{Wrote}
 use Rattle.build.specs.Sides.{sideOf, patternIn, Scratch, Laid}
@@ -22,7 +22,7 @@ use Rattle.build.proofs.Symbols.{short, small}
 module _ (d : List ℕ) (right : Bool) (ps₀ ls₀ : List ℕ) where
   -- the first i patterns are laid
   pub record Laying (ps ls : List ℕ) (i : ℕ) : Type 0 where
-    pub reached : i ≤ two 0 d
+    pub reached : i ≤ countOf d
     pub psLen : length ps ≡ length ps₀
     pub lsLen : length ls ≡ length ls₀
     pub low : (k : ℕ) → getD ps k 0 < 64
@@ -30,14 +30,14 @@ module _ (d : List ℕ) (right : Bool) (ps₀ ls₀ : List ℕ) where
     pub symbols : (j k : ℕ) → j < i → k < length (patternIn d right j) → getD ps (10 * j + k) 0 ≡ getD (patternIn d right j) k 0
 
 module _ (d : List ℕ) (right : Bool) (ok : valid d ≡ true) (ps₀ ls₀ : List ℕ) (sc : Scratch ps₀ ls₀) where
-  few : two 0 d ≤ 512
+  few : countOf d ≤ 512
   few = valid-count d ok
 
   pub begin : Laying d right ps₀ ls₀ ps₀ ls₀ 0
   begin = record { reached = omega arith; psLen = refl; lsLen = refl; low = sc .low; lengths = λ j h. absurd (omega arith); symbols = λ j k h l. absurd (omega arith) }
 
   module _ (ps ls : List ℕ) (i : ℕ) (y : Laying d right ps₀ ls₀ ps ls i) where
-    module _ (h : i < two 0 d) (n : ℕ) (e : n ≡ length (patternIn d right i)) where
+    module _ (h : i < countOf d) (n : ℕ) (e : n ≡ length (patternIn d right i)) where
       pub fits : 10 * i + n ≤ length ps
       fits = omega (arith, short d ok i h right, y .psLen, sc .room, few)
 
@@ -79,8 +79,8 @@ module _ (d : List ℕ) (right : Bool) (ok : valid d ≡ true) (ps₀ ls₀ : Li
 
   -- ---- all are laid
 
-  module _ (ps ls : List ℕ) (y : Laying d right ps₀ ls₀ ps ls (two 0 d)) where
-    at : (j : ℕ) → j < two 0 d → patternAt ps ls j ≡ patternIn d right j
+  module _ (ps ls : List ℕ) (y : Laying d right ps₀ ls₀ ps ls (countOf d)) where
+    at : (j : ℕ) → j < countOf d → patternAt ps ls j ≡ patternIn d right j
     at j h =
         let f = short d ok j h right in
         let n = y .lengths j h in
@@ -88,7 +88,7 @@ module _ (d : List ℕ) (right : Bool) (ok : valid d ≡ true) (ps₀ ls₀ : Li
         ext-getD 0 (patternAt ps ls j) (patternIn d right j) l
         (λ k m. getD-take (getD ls j 0) (drop (10 * j) ps) k 0 (omega arith) ∙ getD-drop (10 * j) ps k 0 ∙ y .symbols j k h (omega arith))
 
-    all : (n : ℕ) → n ≤ two 0 d → patternsOf ps ls n ≡ map (sideOf right) (take n (entriesOf d))
+    all : (n : ℕ) → n ≤ countOf d → patternsOf ps ls n ≡ map (sideOf right) (take n (entriesOf d))
     unfolding patternsOf
     all zero h = refl
     all (suc n) h =
@@ -108,8 +108,8 @@ module _ (d : List ℕ) (right : Bool) (ok : valid d ≡ true) (ps₀ ls₀ : Li
             small = λ k h. y .low k;
           };
           are =
-              all (two 0 d) (omega arith)
-              ∙ ap (map (sideOf right)) (take-all (two 0 d) (entriesOf d) (omega (arith, entries-length d)));
+              all (countOf d) (omega arith)
+              ∙ ap (map (sideOf right)) (take-all (countOf d) (entriesOf d) (omega (arith, entries-length d)));
         }
 
 pub laid-at : {d : List ℕ} {right : Bool} {ps₀ ls₀ ps ls : List ℕ} {i : ℕ} (n : ℕ) → i ≡ n → Laying d right ps₀ ls₀ ps ls i → Laying d right ps₀ ls₀ ps ls n

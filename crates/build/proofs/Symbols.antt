@@ -8,12 +8,13 @@ use mathlib.Core.Bool.{Bool, true, false}
 use mathlib.Core.List.{List, [], _∷_, _++_, reverse, reverse-cons}
 use lib.ListN.{length, getD, take, drop, length-append, length-reverse, List·getD-append}
 use lib.Seq.{getD-at, getD-append-add, getD-take, getD-drop}
+use Rattle.image.specs.State.{noEntry}
+use Rattle.numbers.specs.Numbers.{two}
 use Rattle.rules.specs.Shape.{Entry}
-use Rattle.image.specs.Image.{two, slotStart, entriesOf, valid}
+use Rattle.image.specs.Image.{slotStart, entriesOf, valid, countOf}
 use Rattle.image.proofs.Tests.{valid-count}
 use Rattle.image.proofs.Entries as E
 use Rattle.reading.specs.Fitting.{Str}
-use Rattle.reading.specs.Meaning.{noEntry}
 use Rattle.build.specs.Sides.{patternIn}
 
 getD-reverse : (l : Str) (k : ℕ) → k < length l → getD (reverse l) k 0 ≡ getD l (length l - 1 - k) 0
@@ -48,7 +49,7 @@ module _ (s t : Str) where
 field-at : (s d : List ℕ) (a n k : ℕ) → s ≡ take n (drop a d) → k < n → getD s k 0 ≡ getD d (a + k) 0
 field-at s d a n k e h = ap (λ (l : List ℕ). getD l k 0) e ∙ getD-take n (drop a d) k 0 h ∙ getD-drop a d k 0
 
-module _ (d : List ℕ) (ok : valid d ≡ true) (p : ℕ) (h : p < two 0 d) where
+module _ (d : List ℕ) (ok : valid d ≡ true) (p : ℕ) (h : p < countOf d) where
   abbrev r : Entry
   r = getD (entriesOf d) p noEntry
 

@@ -8,10 +8,11 @@ use mathlib.Core.List.{List, [], _∷_, _++_, map}
 use lib.Dec.{leb}
 use lib.ListN.{length, getD}
 use borrow.Author.Tests.{le-leb, lt-leb}
+use Rattle.numbers.specs.Numbers.{two}
 use Rattle.rules.specs.Memory.{over}
 use Rattle.rules.specs.Shape.{Entry}
 use Rattle.rules.specs.Refusals.{accepted, declined}
-use Rattle.image.specs.Image.{two, valid, entriesOf}
+use Rattle.image.specs.Image.{valid, entriesOf, countOf}
 use Rattle.reading.specs.Fitting.{Str, ends}
 use Rattle.tables.specs.States.{states}
 use Rattle.tables.specs.Tables.{Table, at, tableOf}
@@ -40,7 +41,7 @@ sets-are f rules =
     (λ k. word-ext (holds (map f rules) (getD (states (map f rules)) (k / 8) [])) (tableOf f rules .holds (k / 8)) (k % 8) (λ b l. at-map (λ x. ends x (getD (states (map f rules)) (k / 8) [])) f rules (64 * (k % 8) + b)))
 
 -- n is the number of rules, and their patterns are laid
-module _ (d : List ℕ) (right : Bool) (ps ls : List ℕ) (n : ℕ) (e : n ≡ two 0 d) (a : Laid d right ps ls) where
+module _ (d : List ℕ) (right : Bool) (ps ls : List ℕ) (n : ℕ) (e : n ≡ countOf d) (a : Laid d right ps ls) where
   are-n : patternsOf ps ls n ≡ map (sideOf right) (entriesOf d)
   are-n = ap (patternsOf ps ls) e ∙ a .are
 

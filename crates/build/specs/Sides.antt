@@ -5,10 +5,11 @@ use Prim.Native.Nat.{ℕ, _≤_, _<_}
 use mathlib.Core.Bool.{Bool, true, false}
 use mathlib.Core.List.{List, map}
 use lib.ListN.{length, getD}
+use Rattle.image.specs.State.{noEntry}
+use Rattle.numbers.specs.Numbers.{two}
 use Rattle.rules.specs.Shape.{Entry}
-use Rattle.image.specs.Image.{two, entriesOf}
+use Rattle.image.specs.Image.{entriesOf, countOf}
 use Rattle.reading.specs.Fitting.{Str}
-use Rattle.reading.specs.Meaning.{noEntry}
 use Rattle.tables.specs.Tables.{Table, tableOf, leftPattern, rightPattern}
 use Rattle.side.specs.Patterns.{patternsOf, Patterns}
 
@@ -33,8 +34,8 @@ pub record Scratch (ps ls : List ℕ) : Type 0 where
 -- the patterns of a side lie in it
 pub record Laid (image : List ℕ) (right : Bool) (ps ls : List ℕ) : Type 0 where
   pub scratch : Scratch ps ls
-  pub ok : Patterns ps ls (two 0 image)
-  pub are : patternsOf ps ls (two 0 image) ≡ map (sideOf right) (entriesOf image)
+  pub ok : Patterns ps ls (countOf image)
+  pub are : patternsOf ps ls (countOf image) ≡ map (sideOf right) (entriesOf image)
 
 -- the states of a side are counted
 pub record Counted (image : List ℕ) (right : Bool) (r : ℕ) (ps ls : List ℕ) : Type 0 where

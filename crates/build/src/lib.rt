@@ -7,7 +7,7 @@ ghost use mathlib.Core.Bool.{true, false};
 ghost use lib.ListN.{length, getD};
 ghost use Rattle.rules.specs.Memory.{over};
 ghost use Rattle.rules.specs.Refusals.{replyOf};
-ghost use Rattle.image.specs.Image.{two, valid, entriesOf};
+ghost use Rattle.image.specs.Image.{valid, entriesOf, countOf};
 ghost use Rattle.tables.specs.Words.{rowsOf, setsOf, builtWords, builtSets, wordsFor, setsFor, building, builtFrom, built};
 ghost use Rattle.side.specs.Wrote.{Wrote};
 ghost use Rattle.build.specs.Sides.{patternIn, sideTable, Scratch, Laid, Counted};
@@ -22,7 +22,7 @@ fn wide(x: u8) -> usize
 
 // How many symbols the pattern of a rule has.
 fn pattern_len(image: &[u8], place: usize, right: bool) -> u8
-    requires { ⌜ (valid (now image) ≡ true) × (place < two 0 (now image)) ⌝ }
+    requires { ⌜ (valid (now image) ≡ true) × (place < countOf (now image)) ⌝ }
     ensures { λ r. ⌜ r ≡ length (patternIn (now (image .entry)) right place) ⌝ }
 {
     let at = 4 + 26 * place;
@@ -34,7 +34,7 @@ fn pattern_len(image: &[u8], place: usize, right: bool) -> u8
 
 // Symbol k of the pattern of a rule: of its left context, or of target and right context from their end on.
 fn symbol(image: &[u8], place: usize, right: bool, k: usize) -> u8
-    requires { ⌜ (valid (now image) ≡ true) × (place < two 0 (now image)) × (k < length (patternIn (now image) right place)) ⌝ }
+    requires { ⌜ (valid (now image) ≡ true) × (place < countOf (now image)) × (k < length (patternIn (now image) right place)) ⌝ }
     ensures { λ r. ⌜ r ≡ getD (patternIn (now (image .entry)) right place) k 0 ⌝ }
 {
     let at = 4 + 26 * place;
@@ -51,7 +51,7 @@ fn symbol(image: &[u8], place: usize, right: bool, k: usize) -> u8
 
 // The pattern of a rule is laid from `at` on.
 fn put_pattern(pats: &mut [u8], at: usize, image: &[u8], place: usize, right: bool, len: u8)
-    requires { ⌜ (valid (now image) ≡ true) × (place < two 0 (now image)) × (len ≡ length (patternIn (now image) right place)) × (at + len ≤ length (now pats)) ⌝ }
+    requires { ⌜ (valid (now image) ≡ true) × (place < countOf (now image)) × (len ≡ length (patternIn (now image) right place)) × (at + len ≤ length (now pats)) ⌝ }
     ensures { λ _. ⌜ Wrote (now (pats .entry)) at len (λ k. getD (patternIn (now (image .entry)) right place) k 0) (now (pats .exit)) ⌝ }
 {
     let n = wide(len);
@@ -64,7 +64,7 @@ fn put_pattern(pats: &mut [u8], at: usize, image: &[u8], place: usize, right: bo
 
 // Pattern i is laid from 10 i on, and its length is lens[i].
 fn patterns(image: &[u8], n: usize, right: bool, pats: &mut [u8], lens: &mut [u8])
-    requires { ⌜ (valid (now image) ≡ true) × (n ≡ two 0 (now image)) × Scratch (now pats) (now lens) ⌝ }
+    requires { ⌜ (valid (now image) ≡ true) × (n ≡ countOf (now image)) × Scratch (now pats) (now lens) ⌝ }
     ensures { λ _. ⌜ Laid (now (image .entry)) right (now (pats .exit)) (now (lens .exit)) ⌝ }
 {
     let mut i: usize = 0;
@@ -80,7 +80,7 @@ fn patterns(image: &[u8], n: usize, right: bool, pats: &mut [u8], lens: &mut [u8
 
 // How many states a side has.
 fn count_side(image: &[u8], n: usize, right: bool, pats: &mut [u8], lens: &mut [u8]) -> usize
-    requires { ⌜ (valid (now image) ≡ true) × (n ≡ two 0 (now image)) × Scratch (now pats) (now lens) ⌝ }
+    requires { ⌜ (valid (now image) ≡ true) × (n ≡ countOf (now image)) × Scratch (now pats) (now lens) ⌝ }
     ensures { λ r. ⌜ Counted (now (image .entry)) right r (now (pats .exit)) (now (lens .exit)) ⌝ }
 {
     patterns(image, n, right, pats, lens);
@@ -97,7 +97,7 @@ fn fill_part(
     rows: &mut [u16],
     sets: &mut [u64],
 ) -> usize
-    requires { ⌜ (valid (now image) ≡ true) × (n ≡ two 0 (now image)) × (64 * sideTable (now image) right .count ≤ length (now rows)) × (8 * sideTable (now image) right .count ≤ length (now sets)) × Scratch (now pats) (now lens) ⌝ }
+    requires { ⌜ (valid (now image) ≡ true) × (n ≡ countOf (now image)) × (64 * sideTable (now image) right .count ≤ length (now rows)) × (8 * sideTable (now image) right .count ≤ length (now sets)) × Scratch (now pats) (now lens) ⌝ }
     ensures rows { λ _. ⌜ now (rows .exit) ≡ over (rowsOf (sideTable (now (image .entry)) right)) (now (rows .entry)) ⌝ }
     ensures sets { λ _. ⌜ now (sets .exit) ≡ over (setsOf (sideTable (now (image .entry)) right)) (now (sets .entry)) ⌝ }
     ensures count { λ r. ⌜ Counted (now (image .entry)) right r (now (pats .exit)) (now (lens .exit)) ⌝ }
@@ -117,7 +117,7 @@ fn fill(
     words: &mut [u16],
     sets: &mut [u64],
 )
-    requires { ⌜ (valid (now image) ≡ true) × (n ≡ two 0 (now image)) × (wordsFor (entriesOf (now image)) ≤ length (now words)) × (setsFor (entriesOf (now image)) ≤ length (now sets)) × Scratch (now pats) (now lens) ⌝ }
+    requires { ⌜ (valid (now image) ≡ true) × (n ≡ countOf (now image)) × (wordsFor (entriesOf (now image)) ≤ length (now words)) × (setsFor (entriesOf (now image)) ≤ length (now sets)) × Scratch (now pats) (now lens) ⌝ }
     ensures words { λ _. ⌜ now (words .exit) ≡ over (builtWords (entriesOf (now (image .entry)))) (now (words .entry)) ⌝ }
     ensures sets { λ _. ⌜ now (sets .exit) ≡ over (builtSets (entriesOf (now (image .entry)))) (now (sets .entry)) ⌝ }
 {
@@ -131,7 +131,7 @@ fn fill(
 
 // No fewer than the states of both sides: each has one for the empty string, and each symbol of a pattern gives one at most.
 fn most_states(image: &[u8], n: usize) -> usize
-    requires { ⌜ (valid (now image) ≡ true) × (n ≡ two 0 (now image)) ⌝ }
+    requires { ⌜ (valid (now image) ≡ true) × (n ≡ countOf (now image)) ⌝ }
     ensures { λ r. ⌜ (sideTable (now (image .entry)) false .count + sideTable (now (image .entry)) true .count ≤ r) × (r ≤ 10242) ⌝ }
 {
     let mut most: usize = 2;
@@ -154,7 +154,7 @@ fn build_counted(
     words: &mut [u16],
     sets: &mut [u64],
 ) -> Answer
-    requires { ⌜ (valid (now image) ≡ true) × (n ≡ two 0 (now image)) × Scratch (now pats) (now lens) ⌝ }
+    requires { ⌜ (valid (now image) ≡ true) × (n ≡ countOf (now image)) × Scratch (now pats) (now lens) ⌝ }
     ensures { λ r. ⌜ building (replyOf r) (now (words .exit)) (now (sets .exit)) ≡ builtFrom (entriesOf (now (image .entry))) (now (words .entry)) (now (sets .entry)) ⌝ }
 {
     let l = count_side(image, n, false, pats, lens);

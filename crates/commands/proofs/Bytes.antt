@@ -9,8 +9,8 @@ use lib.ListN.{length, getD, take, drop, length-take, List·getD-eq-default}
 use lib.Seq.{getD-drop, getD-take}
 use lib.Dec.{leb}
 use borrow.Author.Tests.{leb-true, eqb-true}
+use Rattle.rules.proofs.Cases.{and-l, and-r}
 use Rattle.rules.specs.Shape.{first}
-use Rattle.image.proofs.Tests.{and-l, and-r}
 use Rattle.commands.specs.Fields.{phonesStart, addSized, AddSized, fieldOf, ruleOf}
 
 -- the four and the six places of an array

@@ -6,9 +6,10 @@ use mathlib.Core.List.{List, _++_}
 use native.Mathlib.Omega.{arith}
 use lib.ListN.{length, take, drop, length-take}
 use borrow.Author.Tests.{le-leb, lt-leb}
+use Rattle.numbers.specs.Numbers.{two}
 use Rattle.rules.proofs.Cases.{byBool}
 use Rattle.rules.specs.Refusals.{Reply, declined}
-use Rattle.image.specs.Image.{two, Edited, outcome, valid, entriesOf}
+use Rattle.image.specs.Image.{Edited, outcome, valid, entriesOf}
 use Rattle.commands.specs.Fields.{four}
 use Rattle.reading.specs.Reading.{plain}
 use Rattle.reading.specs.Speech.{Told, spoken, refused, Said, saying, judgedName, plainSaid}

@@ -11,7 +11,7 @@ use Rattle.rules.specs.Refusals.{Reply, replyOf, refusalNumber, refusalPlace}
 use Rattle.rules.specs.declared.Refusal.{Refusal}
 use Rattle.rules.specs.declared.Answer.{Answer}
 use Rattle.rules.specs.declared.Answer.the-variants.{Accepted, Refused}
-use Rattle.image.specs.Image.{two, Edited, outcome}
+use Rattle.image.specs.Image.{Edited, outcome, lastOf}
 use Rattle.reading.specs.Speech.{Told, toldOf, Said, saying}
 use Rattle.reading.specs.declared.Speech.{Speech}
 use Rattle.reading.specs.declared.Speech.the-variants as speeches
@@ -87,7 +87,7 @@ module _ (b : Bool) (e : Effect) (xs out out′ : List ℕ) (len : ℕ) where
   answered-so p xs′ x l h = rw p (record { left = x; many = l; bytes = h })
 
 pub answered-edit : (b : Bool) (e : Edited) (image out out′ : List ℕ) (len : ℕ) → b ≡ true → (a : Answer) (image′ : List ℕ)
-    → outcome (replyOf a) image′ ≡ e → len ≡ length (replyLine (replyOf a) (two 2 image′)) → out′ ≡ over (replyLine (replyOf a) (two 2 image′)) out
+    → outcome (replyOf a) image′ ≡ e → len ≡ length (replyLine (replyOf a) (lastOf image′)) → out′ ≡ over (replyLine (replyOf a) (lastOf image′)) out
     → Answered (sizedTo b (ruled e) image) image′ len out out′
 unfolding editLine
 answered-edit b e image out out′ len p a image′ q l h = rw (p, ← q) (record { left = refl; many = l; bytes = h })

@@ -7,9 +7,10 @@ use mathlib.Core.List.{List, [], _∷_, _++_}
 use mathlib.Core.Bool.{Bool, cond}
 use lib.ListN.{length}
 use lib.Dec.{eqb}
+use Rattle.numbers.specs.Numbers.{two}
 use Rattle.rules.specs.Memory.{over}
 use Rattle.rules.specs.Refusals.{Reply, accepted, declined}
-use Rattle.image.specs.Image.{two, Edited}
+use Rattle.image.specs.Image.{Edited, lastOf}
 use Rattle.edits.specs.Ledger.Edit.{Add, Drop, Move}
 use Rattle.edits.specs.Edits.{edited}
 use Rattle.transcript.specs.Answers.{two as field, four as place, printed, refusedBody}
@@ -41,7 +42,7 @@ replyLine accepted last = lastLine last
 replyLine (declined n p) last = printed (refusedBody n p)
 
 unfoldable pub editLine : Edited → List ℕ
-editLine e = replyLine (e .reply) (two 2 (e .image))
+editLine e = replyLine (e .reply) (lastOf (e .image))
 
 -- what a command comes to: the line of its answer, and the memory that it was lent to change as it is after it
 pub record Effect : Type 0 where

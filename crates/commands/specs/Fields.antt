@@ -7,9 +7,9 @@ use mathlib.Core.List.{List}
 use mathlib.Core.Bool.{Bool, false, _&&_}
 use lib.ListN.{length, getD, take, drop}
 use lib.Dec.{leb, eqb}
+use Rattle.numbers.specs.Numbers.{two}
 use Rattle.rules.specs.Shape.{first}
 use Rattle.rules.specs.declared.Rule.{Rule}
-use Rattle.image.specs.Image.{two}
 
 -- four bytes
 abbrev pub four : ℕ → List ℕ → ℕ

@@ -4,11 +4,11 @@ use Prim.Native.Nat.{ℕ, min}
 use mathlib.Core.List.{List, _++_}
 use lib.Dec.{leb, eqb}
 use lib.ListN.{length, getD, take, drop}
+use Rattle.numbers.specs.Numbers.{two}
 use Rattle.reading.specs.Speech.{Told, spoken, refused, Said, saying, plainSaid}
 use Rattle.tables.specs.Words.{Built, building, built}
 use Rattle.tables.specs.Walk.{Walked, walkSaid}
 use Rattle.rules.specs.Refusals.{Reply, accepted, declined}
-use Rattle.image.specs.Image.{two}
 use Rattle.transcript.specs.Answers.{printed, refusedBody, spokenBody, toldBody}
 use Rattle.commands.specs.Fields.{four}
 use Rattle.commands.specs.Answers.{Effects, leavingBoth, bothSized, statesLine, walkRefusal}

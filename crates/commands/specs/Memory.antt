@@ -5,7 +5,8 @@ use mathlib.Core.Bool.{Bool, cond}
 use mathlib.Core.List.{List, [], _∷_, _++_}
 use lib.ListN.{length, getD, take, drop, set}
 use lib.Dec.{leb, ltb, eqb}
-use Rattle.image.specs.Image.{two, slotStart, cleared}
+use Rattle.numbers.specs.Numbers.{two}
+use Rattle.image.specs.Image.{slotStart, cleared}
 use Rattle.transcript.specs.Answers.{twos, printed}
 use Rattle.commands.specs.Fields.{four, eight}
 use Rattle.commands.specs.Answers.{Effect, leaving, sizedTo, doneLine, malformedLine}

@@ -5,9 +5,9 @@ use rules::Refusal;
 ghost use mathlib.Core.Path.{_≡_};
 ghost use Prim.Native.Nat.{ℕ, _≤_};
 ghost use lib.ListN.{length};
+ghost use Rattle.image.specs.Image.{lastOf};
 ghost use Rattle.rules.specs.Memory.{over};
 ghost use Rattle.rules.specs.Refusals.{refusalNumber, refusalPlace, replyOf};
-ghost use Rattle.image.specs.Image.{two};
 ghost use Rattle.commands.specs.Answers.{doneLine, lastLine, statesLine, walkRefusal, malformedLine, replyLine};
 
 // 06 alone.
@@ -78,8 +78,8 @@ pub fn malformed(out: &mut [u8]) -> usize
 // The answer of a call that changes the ruleset.
 pub fn reply_line(answer: Answer, image: &[u8], out: &mut [u8]) -> usize
     requires { ⌜ (13316 ≤ length (now image)) × (15 ≤ length (now out)) ⌝ }
-    ensures len { λ r. ⌜ r ≡ length (replyLine (replyOf answer) (two 2 (now (image .entry)))) ⌝ }
-    ensures bytes { λ _. ⌜ now (out .exit) ≡ over (replyLine (replyOf answer) (two 2 (now (image .entry)))) (now (out .entry)) ⌝ }
+    ensures len { λ r. ⌜ r ≡ length (replyLine (replyOf answer) (lastOf (now (image .entry)))) ⌝ }
+    ensures bytes { λ _. ⌜ now (out .exit) ≡ over (replyLine (replyOf answer) (lastOf (now (image .entry)))) (now (out .entry)) ⌝ }
 {
     match answer {
         Answer::Accepted => last_line(fields::two_at(image, 2), out),

@@ -3,7 +3,7 @@ use rules::Rule;
 ghost use mathlib.Core.Path.{_≡_};
 ghost use Prim.Native.Nat.{ℕ, _+_, _<_, _≤_};
 ghost use lib.ListN.{length, getD, take, drop};
-ghost use Rattle.image.specs.Image.{two};
+ghost use Rattle.numbers.specs.Numbers.{two};
 ghost use Rattle.commands.specs.Fields.{four, eight, fieldOf, addSized, AddSized, ruleOf};
 
 fn wide(x: u8) -> usize

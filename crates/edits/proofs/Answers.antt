@@ -7,15 +7,16 @@ use mathlib.Core.Bool.{true, false}
 use native.Mathlib.Omega.{arith}
 use borrow.Author.Tests.{eq-eqb, ne-eqb, le-leb, lt-leb, lt-ltb, le-ltb}
 use lib.ListN.{length, drop}
+use Rattle.image.proofs.Laid.{length-removeAt}
+use Rattle.image.specs.State.{removeAt}
 use Rattle.rules.specs.Shape.{shape, view}
 use Rattle.rules.specs.Refusals.{accepted, declined}
 use Rattle.rules.specs.declared.Rule.{Rule}
-use Rattle.edits.specs.Ledger.{Edit, removeAt, placeOf, applied, judged}
+use Rattle.edits.specs.Ledger.{Edit, placeOf, applied, judged}
 use Rattle.edits.specs.Ledger.Edit.{Add, Drop, Move}
-use Rattle.image.specs.Image.{two, ledgerOf, laid, valid, outcome}
+use Rattle.image.specs.Image.{ledgerOf, laid, valid, outcome, rulesIn, numberedAt, countOf, lastOf}
 use Rattle.edits.specs.Edits.{edited}
-use Rattle.image.proofs.Scan.{length-listed, rulesIn, slotIn, here}
-use Rattle.edits.proofs.Laid.{length-removeAt}
+use Rattle.image.proofs.Scan.{length-listed, here}
 
 pub invalid : (d : List ℕ) (e : Edit) → valid d ≡ false → outcome (declined 0 0) d ≡ edited d e
 unfolding edited
@@ -23,11 +24,11 @@ invalid d e h = rw h
 
 -- the place of a number, scanned from slot i on
 module _ (image : List ℕ) (n i : ℕ) (h : i < n) (m : ℕ) where
-  pub place-hit : (x : ℕ) → x ≡ slotIn image i .number → x ≡ m → placeOf m (drop i (rulesIn n image)) ≡ 0
-  place-hit x is e = rw (here image n i h, eq-eqb (slotIn image i .number) m (sym is ∙ e))
+  pub place-hit : (x : ℕ) → x ≡ numberedAt image i .number → x ≡ m → placeOf m (drop i (rulesIn n image)) ≡ 0
+  place-hit x is e = rw (here image n i h, eq-eqb (numberedAt image i .number) m (sym is ∙ e))
 
-  pub place-miss : (x : ℕ) → x ≡ slotIn image i .number → (x ≡ m → ⊥) → placeOf m (drop i (rulesIn n image)) ≡ suc (placeOf m (drop (i + 1) (rulesIn n image)))
-  place-miss x is e = rw (here image n i h, ne-eqb (slotIn image i .number) m (λ (q : slotIn image i .number ≡ m). e (is ∙ q)))
+  pub place-miss : (x : ℕ) → x ≡ numberedAt image i .number → (x ≡ m → ⊥) → placeOf m (drop i (rulesIn n image)) ≡ suc (placeOf m (drop (i + 1) (rulesIn n image)))
+  place-miss x is e = rw (here image n i h, ne-eqb (numberedAt image i .number) m (λ (q : numberedAt image i .number ≡ m). e (is ∙ q)))
 
 module _ (d : List ℕ) (ok : valid d ≡ true) where
   no : (e : Edit) (n : ℕ) → judged (ledgerOf d) e ≡ declined n 0 → outcome (declined n 0) d ≡ edited d e
@@ -38,9 +39,9 @@ module _ (d : List ℕ) (ok : valid d ≡ true) where
   unfolding edited
   yes e j z h = rw (ok, j, h)
 
-  module _ (count : ℕ) (c : count ≡ two 0 d) where
+  module _ (count : ℕ) (c : count ≡ countOf d) where
     long : length (ledgerOf d .list) ≡ count
-    long = length-listed (two 0 d) (drop 4 d) ∙ sym c
+    long = length-listed (countOf d) (drop 4 d) ∙ sym c
 
     same : rulesIn count d ≡ ledgerOf d .list
     same = ap (λ (n : ℕ). rulesIn n d) c
@@ -60,7 +61,7 @@ module _ (d : List ℕ) (ok : valid d ≡ true) where
           unfolding judged
           add-full u = no (Add r p) 9 (rw (h, long, le-leb _ _ hp, le-ltb _ _ u))
 
-          module _ (u : count < 512) (last : ℕ) (l : last ≡ two 2 d) where
+          module _ (u : count < 512) (last : ℕ) (l : last ≡ lastOf d) where
             pub add-last : 65535 ≤ last → outcome (declined 10 0) d ≡ edited d (Add r p)
             unfolding judged
             add-last v = no (Add r p) 10 (rw (h, long, le-leb _ _ hp, lt-ltb _ _ u, ← l, le-ltb _ _ v))

@@ -8,16 +8,16 @@ use native.Mathlib.Omega.{arith}
 use borrow.Author.Tests.{le-leb, leb-true, ltb-true}
 use lib.ListN.{length, getD}
 use lib.Dec.{leb, ltb}
+use Rattle.rules.proofs.Cases.{and-i}
+use Rattle.image.proofs.Laid.{length-insertAt, length-removeAt}
 use Rattle.rules.specs.Shape.{shape, view}
 use Rattle.rules.specs.declared.Numbered.{Numbered}
-use Rattle.image.specs.State.{Ledger, noNumbered}
-use Rattle.edits.specs.Ledger.{Edit, insertAt, removeAt, placeOf, applied, judged, after, afterBy, afterAll, answersAll, given, issued}
+use Rattle.image.specs.State.{Ledger, noNumbered, insertAt, removeAt}
+use Rattle.edits.specs.Ledger.{Edit, placeOf, applied, judged, after, afterBy, afterAll, answersAll, given, issued}
 use Rattle.edits.specs.Ledger.Edit.{Add, Drop, Move}
 use Rattle.image.specs.Image.{ledgerOf, valid, Edited, Filled}
 use Rattle.edits.specs.Edits.{outcomeBy, edited, FilledEdit, outAll, imageAll}
-use Rattle.edits.proofs.Laid.{length-insertAt, length-removeAt}
 use Rattle.rules.specs.Refusals.{Reply, accepted, declined}
-use Rattle.image.proofs.Tests.{and-i}
 use Rattle.image.proofs.Stored.{Each, none, more, Fine, laid-state, laid-valid, valid-fine}
 use Rattle.edits.proofs.Kept.{entries-more, entries-insert, entries-remove, entries-at, fresh, distinct-insert, distinct-remove, taken-new}
 

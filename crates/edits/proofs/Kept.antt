@@ -8,11 +8,10 @@ use native.Mathlib.Omega.{arith}
 use borrow.Author.Tests.{le-leb, leb-true, eqb-false, ne-eqb}
 use lib.ListN.{length, getD}
 use lib.Dec.{leb, eqb}
+use Rattle.rules.proofs.Cases.{and-l, and-r, and-i, or-l, or-r, or-i, new-l, new-r, new-i}
 use Rattle.rules.specs.Shape.{shape, view}
 use Rattle.rules.specs.declared.Numbered.{Numbered}
-use Rattle.image.specs.State.{noNumbered, entry, entries, member, distinct}
-use Rattle.image.proofs.Tests.{and-l, and-r, and-i, or-l, or-r, or-i, new-l, new-r, new-i}
-use Rattle.edits.specs.Ledger.{insertAt, removeAt}
+use Rattle.image.specs.State.{noNumbered, entry, entries, member, distinct, insertAt, removeAt}
 
 eqb-turn : (m n : ℕ) → eqb m n ≡ false → eqb n m ≡ false
 eqb-turn m n h = ne-eqb n m (λ (e : n ≡ m). eqb-false m n h (sym e))

@@ -1,4 +1,3 @@
-pub mod Laid
 pub mod Answers
 pub mod Kept
 pub mod History

@@ -8,7 +8,7 @@ ghost use Prim.Native.Nat.{ℕ, suc, _+_, _-_, _*_, _<_, _≤_};
 ghost use lib.ListN.{length, drop};
 ghost use lib.Seq.{paste};
 ghost use Rattle.rules.specs.Refusals.{replyOf};
-ghost use Rattle.image.specs.Image.{two, listed, ledgerOf, laid, outcome};
+ghost use Rattle.image.specs.Image.{listed, ledgerOf, laid, outcome, countOf, lastOf};
 ghost use Rattle.edits.specs.Ledger.{Edit, applied, placeOf};
 ghost use Rattle.edits.specs.Edits.{edited};
 
@@ -54,7 +54,7 @@ fn place_of(image: &[u8], count: usize, number: u16) -> usize
 
 // A rule more, before place `p`.
 fn insert(image: &mut [u8], rule: Rule, p: usize, count: usize, last: u16)
-    requires { ⌜ (13316 ≤ length (now image)) × ((count ≡ two 0 (now image)) × ((last ≡ two 2 (now image)) × ((p ≤ count) × ((count < 512) × (last < 65535))))) ⌝ }
+    requires { ⌜ (13316 ≤ length (now image)) × ((count ≡ countOf (now image)) × ((last ≡ lastOf (now image)) × ((p ≤ count) × ((count < 512) × (last < 65535))))) ⌝ }
     ensures { λ _. ⌜ now (image .exit) ≡ laid (applied (ledgerOf (now (image .entry))) (Edit.Add rule p)) (now (image .entry)) ⌝ }
 {
     let at = 4 + 26 * p;
@@ -66,7 +66,7 @@ fn insert(image: &mut [u8], rule: Rule, p: usize, count: usize, last: u16)
 
 // The rule at place `k` leaves.
 fn remove(image: &mut [u8], k: usize, number: u16, count: usize, last: u16)
-    requires { ⌜ (13316 ≤ length (now image)) × ((count ≡ two 0 (now image)) × ((last ≡ two 2 (now image)) × ((k < count) × ((count ≤ 512) × (k ≡ placeOf number (listed count (drop 4 (now image)))))))) ⌝ }
+    requires { ⌜ (13316 ≤ length (now image)) × ((count ≡ countOf (now image)) × ((last ≡ lastOf (now image)) × ((k < count) × ((count ≤ 512) × (k ≡ placeOf number (listed count (drop 4 (now image)))))))) ⌝ }
     ensures { λ _. ⌜ now (image .exit) ≡ laid (applied (ledgerOf (now (image .entry))) (Edit.Drop number)) (now (image .entry)) ⌝ }
 {
     let at = 4 + 26 * k;
@@ -76,7 +76,7 @@ fn remove(image: &mut [u8], k: usize, number: u16, count: usize, last: u16)
 
 // The rule at place `k` is put before place `p` of the rest.
 fn relocate(image: &mut [u8], k: usize, number: u16, p: usize, count: usize, last: u16)
-    requires { ⌜ (13316 ≤ length (now image)) × ((count ≡ two 0 (now image)) × ((last ≡ two 2 (now image)) × ((k < count) × ((count ≤ 512) × ((p < count) × (k ≡ placeOf number (listed count (drop 4 (now image))))))))) ⌝ }
+    requires { ⌜ (13316 ≤ length (now image)) × ((count ≡ countOf (now image)) × ((last ≡ lastOf (now image)) × ((k < count) × ((count ≤ 512) × ((p < count) × (k ≡ placeOf number (listed count (drop 4 (now image))))))))) ⌝ }
     ensures { λ _. ⌜ now (image .exit) ≡ laid (applied (ledgerOf (now (image .entry))) (Edit.Move number p)) (now (image .entry)) ⌝ }
 {
     let x = image::rule_at(image, k);

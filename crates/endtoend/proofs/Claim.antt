@@ -10,13 +10,12 @@ use lib.Dec.{leb}
 use lib.ListN.{length, take, drop}
 use lib.Seq.{take-at}
 use Rattle.rules.specs.Memory.{over}
-use Rattle.rules.proofs.Cases.{byBool}
+use Rattle.rules.proofs.Cases.{byBool, and-l, and-r, and-i}
 use Rattle.rules.specs.Limits.{maxLetter}
 use Rattle.rules.specs.Shape.{allFrom}
 use Rattle.rules.specs.Refusals.{accepted}
 use Rattle.image.specs.State.{Ledger, start, rulesOf}
 use Rattle.image.specs.Image.{imageSize, ledgerOf, valid, entriesOf}
-use Rattle.image.proofs.Tests.{and-l, and-r, and-i}
 use Rattle.edits.specs.Ledger.{afterAll}
 use Rattle.history.specs.Replay.{Replay, FromEmpty, Replayed, replayed}
 use Rattle.reading.specs.Fitting.{Str}

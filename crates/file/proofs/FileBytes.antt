@@ -15,9 +15,9 @@ use Rattle.rules.specs.Shape.{Entry, view, entryOf}
 use Rattle.rules.specs.declared.Numbered.{Numbered}
 use Rattle.rules.proofs.Laws.{length-first}
 use Rattle.image.specs.State.{entry, entries, noNumbered}
-use Rattle.image.specs.Image.{two, entriesOf, valid}
+use Rattle.image.specs.Image.{entriesOf, valid, rulesIn, numberedAt, countOf, lastOf}
 use Rattle.image.proofs.Stored.{valid-fine}
-use Rattle.image.proofs.Scan.{rulesIn, slotIn, slot-get, length-listed}
+use Rattle.image.proofs.Scan.{slot-get, length-listed}
 use Rattle.file.specs.File.{headLine, ruleLine, ruleLines, encode}
 use Rattle.file.specs.Loading.{listingOf, wrote, refused, filing, filed, Short}
 use Rattle.file.proofs.Bodies.{both, bounded, in-range}
@@ -77,7 +77,7 @@ module _ (image : List ℕ) (count : ℕ) where
   full : length (rulesIn count image) ≡ count
   full = length-listed count (drop 4 image)
 
-  next : (i : ℕ) → i < count → (x : Numbered) → x ≡ slotIn image i → lines (i + 1) ≡ lines i ++ ruleLine (entryOf x)
+  next : (i : ℕ) → i < count → (x : Numbered) → x ≡ numberedAt image i → lines (i + 1) ≡ lines i ++ ruleLine (entryOf x)
   next i h x e =
       lines-next (rulesIn count image) i (omega (arith, full))
       ∙ ap (λ (y : Numbered). lines i ++ ruleLine (entryOf y)) (slot-get image count i h ∙ sym e)
@@ -91,7 +91,7 @@ module _ (image : List ℕ) (count : ℕ) where
     pub sum : n ≡ 15 + length (lines i)
     pub small : n ≤ 15 + 2057 * i
 
-  pub sized-next : (n i m : ℕ) (x : Numbered) → Sized n i → i < count → x ≡ slotIn image i → m ≡ length (ruleLine (entryOf x)) → m ≤ 2057 → Sized (n + m) (i + 1)
+  pub sized-next : (n i m : ℕ) (x : Numbered) → Sized n i → i < count → x ≡ numberedAt image i → m ≡ length (ruleLine (entryOf x)) → m ≤ 2057 → Sized (n + m) (i + 1)
   sized-next n i m x s h e f b = record {
     within = omega arith;
     sum = omega (arith, s .sum, ap length (next i h x e), length-append (lines i) (ruleLine (entryOf x)));
@@ -135,7 +135,7 @@ module _ (image : List ℕ) (count : ℕ) where
       pub lined-end : count ≤ i → out ≡ over (take 15 xs ++ ruleLines (map entryOf (rulesIn count image))) xs
       lined-end h = p .written ∙ ap (λ (l : List ℕ). over (take 15 xs ++ l) xs) (all i (p .within) h)
 
-      module _ (h : i < count) (x : Numbered) (e : x ≡ slotIn image i) where
+      module _ (h : i < count) (x : Numbered) (e : x ≡ numberedAt image i) where
         pub lined-short : (last : ℕ) → entries last (rulesIn count image) ≡ true → Short x
         lined-short last ok =
             short last x (ap (entry last) (e ∙ sym (slot-get image count i h)) ∙ entries-at last (rulesIn count image) i ok (omega (arith, full)))
@@ -168,23 +168,23 @@ pub write-none : (image xs : List ℕ) → valid image ≡ false → filing (ref
 unfolding filed
 write-none image xs e = rw e
 
-module _ (image xs : List ℕ) (ok : valid image ≡ true) (count : ℕ) (ec : count ≡ two 0 image) (n : ℕ)
+module _ (image xs : List ℕ) (ok : valid image ≡ true) (count : ℕ) (ec : count ≡ countOf image) (n : ℕ)
     (en : n ≡ 15 + length (ruleLines (map entryOf (rulesIn count image)))) where
-  encoded : encode (listingOf image) ≡ headLine count (two 2 image) ++ ruleLines (map entryOf (rulesIn count image))
+  encoded : encode (listingOf image) ≡ headLine count (lastOf image) ++ ruleLines (map entryOf (rulesIn count image))
   unfolding encode entriesOf
   encoded =
-      let k : length (map entryOf (rulesIn (two 0 image) image)) ≡ two 0 image = length-map (rulesIn (two 0 image) image) entryOf ∙ length-listed (two 0 image) (drop 4 image) in
-      ap (λ (m : ℕ). headLine m (two 2 image) ++ ruleLines (map entryOf (rulesIn (two 0 image) image))) k
-      ∙ ap (λ (m : ℕ). headLine m (two 2 image) ++ ruleLines (map entryOf (rulesIn m image))) (sym ec)
+      let k : length (map entryOf (rulesIn (countOf image) image)) ≡ countOf image = length-map (rulesIn (countOf image) image) entryOf ∙ length-listed (countOf image) (drop 4 image) in
+      ap (λ (m : ℕ). headLine m (lastOf image) ++ ruleLines (map entryOf (rulesIn (countOf image) image))) k
+      ∙ ap (λ (m : ℕ). headLine m (lastOf image) ++ ruleLines (map entryOf (rulesIn m image))) (sym ec)
 
   size : n ≡ length (encode (listingOf image))
-  size = omega (arith, en, ap length encoded, length-append (headLine count (two 2 image)) (ruleLines (map entryOf (rulesIn count image))))
+  size = omega (arith, en, ap length encoded, length-append (headLine count (lastOf image)) (ruleLines (map entryOf (rulesIn count image))))
 
   pub write-room : length xs < n → filing (refused 15 n) xs ≡ filed image xs
   unfolding filed
   write-room h = rw (ok, ← size, lt-leb _ _ h)
 
-  module _ (h : n ≤ length xs) (last : ℕ) (el : last ≡ two 2 image) (w : List ℕ) (ew : w ≡ over (headLine count last) xs) where
+  module _ (h : n ≤ length xs) (last : ℕ) (el : last ≡ lastOf image) (w : List ℕ) (ew : w ≡ over (headLine count last) xs) where
     pub headed-length : length w ≡ length xs
     headed-length = ap length ew ∙ over-length (headLine count last) xs (omega (arith, en))
 
@@ -198,5 +198,5 @@ module _ (image xs : List ℕ) (ok : valid image ≡ true) (count : ℕ) (ec : c
         ∙ (ap (λ (m : ℕ). over (headLine count m ++ body) xs) el ∙ ap (λ (l : List ℕ). over l xs) (sym encoded)))) in
         rw (ok, ← size, le-leb _ _ h) (ap (filing (wrote n)) g)
 
-pub valid-entries : (image : List ℕ) → valid image ≡ true → (count last : ℕ) → count ≡ two 0 image → last ≡ two 2 image → entries last (rulesIn count image) ≡ true
+pub valid-entries : (image : List ℕ) → valid image ≡ true → (count last : ℕ) → count ≡ countOf image → last ≡ lastOf image → entries last (rulesIn count image) ≡ true
 valid-entries image ok count last ec el = rw (ec, el) (valid-fine image ok .each)

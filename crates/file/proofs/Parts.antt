@@ -10,10 +10,11 @@ use borrow.Author.Tests.{leb-true, eqb-true, le-leb, lt-leb, eq-eqb, ne-eqb}
 use lib.ListN.{length, getD, take, drop, set, length-drop, length-take}
 use lib.Seq.{take-suc, getD-drop, length-take-le, drop-drop}
 use lib.Dec.{leb, eqb}
+use Rattle.image.specs.Image.{lastOf}
+use Rattle.numbers.specs.Numbers.{two}
 use Rattle.rules.proofs.Cases.{byBool}
 use Rattle.rules.specs.Shape.{first, Production, view, shape}
 use Rattle.rules.specs.declared.Rule.{Rule}
-use Rattle.image.specs.Image.{two}
 use Rattle.file.specs.declared.heading.Head.{Head}
 use Rattle.file.specs.declared.parsing.Ruled.{Ruled}
 use Rattle.file.specs.Listing.{entry}
@@ -77,7 +78,7 @@ module _ (w : List ℕ) where
       pub head-edition : (getD w 1 0 ≡ 1 → ⊥) → noHead ≡ headIn w
       head-edition c = rw (eq-eqb (length w) 7 a, eq-eqb (getD w 0 0) 1 b, ne-eqb (getD w 1 0) 1 c)
 
-      module _ (c : getD w 1 0 ≡ 1) (n : ℕ) (e : n ≡ two 2 w) where
+      module _ (c : getD w 1 0 ≡ 1) (n : ℕ) (e : n ≡ lastOf w) where
         pub head-many : 512 < n → noHead ≡ headIn w
         head-many h = rw (eq-eqb (length w) 7 a, eq-eqb (getD w 0 0) 1 b, eq-eqb (getD w 1 0) 1 c, ← e, lt-leb n 512 h)
 

@@ -22,7 +22,7 @@ use Rattle.rules.specs.Refusals.{accepted}
 use Rattle.rules.specs.declared.Numbered.{Numbered}
 use Rattle.image.specs.State as S
 use Rattle.image.specs.State.{Ledger}
-use Rattle.image.specs.Image.{imageSize, two, flat, slotStart, ledgerOf, entriesOf, laid, valid, Edited, outcome}
+use Rattle.image.specs.Image.{imageSize, flat, slotStart, ledgerOf, entriesOf, laid, valid, Edited, outcome, lastOf}
 use Rattle.image.proofs.Stored.{Fine, valid-by, valid-fine, listed-flat, length-flat}
 use Rattle.frames.proofs.Lines.{Bytes}
 use Rattle.file.specs.Listing.{Listing, entry, entries, member, distinct, wellFormed}
@@ -73,7 +73,7 @@ formed d h ok =
     is-formed (listingOf d) (record {
       few = omega (arith, f .held, length-map l entryOf);
       small = omega (arith, byte-at d 2 h, byte-at d 3 h);
-      all = sym (entries-of (two 2 d) l) ∙ f .each;
+      all = sym (entries-of (lastOf d) l) ∙ f .each;
       differ = sym (distinct-of l) ∙ f .apart;
     })
 
@@ -162,7 +162,7 @@ written-front d out ok h =
 
 pub record Same (d z : List ℕ) : Type 0 where
   pub entries : entriesOf z ≡ entriesOf d
-  pub last : two 2 z ≡ two 2 d
+  pub last : lastOf z ≡ lastOf d
 
 pub written-read : (d xs : List ℕ) → Bytes d → valid d ≡ true → imageSize ≤ length xs
     → (loaded (encode (listingOf d)) xs .reply ≡ accepted) × Same d (loaded (encode (listingOf d)) xs .image)
@@ -174,7 +174,7 @@ written-read d xs h ok long =
       ap (λ (q : Edited). q .reply) l,
       record {
         entries = ap (λ (q : Edited). entriesOf (q .image)) l ∙ ap (λ (q : Listing). q .rules) k;
-        last = ap (λ (q : Edited). two 2 (q .image)) l ∙ ap (λ (q : Listing). q .last) k;
+        last = ap (λ (q : Edited). lastOf (q .image)) l ∙ ap (λ (q : Listing). q .last) k;
       },
     )
 

@@ -5,9 +5,9 @@ use mathlib.Core.List.{List, [], _∷_, _++_}
 use mathlib.Core.Bool.{Bool, true, false, cond, _&&_}
 use lib.ListN.{length, getD, take, drop}
 use lib.Dec.{leb, eqb}
+use Rattle.numbers.specs.Numbers.{two}
 use Rattle.rules.specs.Limits.{maxRules}
 use Rattle.rules.specs.Shape.{Entry}
-use Rattle.image.specs.Image.{two}
 use Rattle.frames.specs.Lines.{lineOf, framed, Parsed, soundLine}
 use Rattle.frames.specs.Lines.Parsed.{Bad, Good}
 use Rattle.file.specs.Listing.{Listing, entry, member}

@@ -12,7 +12,7 @@ use Rattle.rules.specs.Refusals.{refusalNumber, refusalPlace, Reply, accepted, 
 use Rattle.rules.specs.declared.Rule.{Rule}
 use Rattle.rules.specs.declared.Numbered.{Numbered}
 use Rattle.image.specs.State.{Ledger}
-use Rattle.image.specs.Image.{imageSize, two, laid, entriesOf, valid, Edited, outcome}
+use Rattle.image.specs.Image.{imageSize, laid, entriesOf, valid, Edited, outcome, lastOf}
 use Rattle.frames.specs.Lines.{Parsed}
 use Rattle.frames.specs.Lines.Parsed.{Bad, Good}
 use Rattle.file.specs.declared.Written.{Written}
@@ -73,7 +73,7 @@ loaded file image =
 
 -- the ruleset of an image
 abbrev pub listingOf : List ℕ → Listing
-listingOf image = record { rules = entriesOf image; last = two 2 image }
+listingOf image = record { rules = entriesOf image; last = lastOf image }
 
 -- what a writing says: the bytes of the file, or document 01's number with its place
 pub data Report : Type 0 where

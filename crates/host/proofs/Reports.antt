@@ -11,7 +11,7 @@ use borrow.Author.Tests.{eq-eqb, ne-eqb, lt-leb, le-leb}
 use Rattle.rules.specs.Shape.{shape}
 use Rattle.rules.specs.declared.Rule.{Rule}
 use Rattle.rules.specs.Refusals.{Reply, accepted, declined}
-use Rattle.image.specs.Image.{imageSize, valid, two, ledgerOf, Edited, outcome}
+use Rattle.image.specs.Image.{imageSize, valid, ledgerOf, Edited, outcome, countOf, lastOf}
 use Rattle.image.proofs.Bytes.{four-front, six-front}
 use Rattle.edits.specs.Ledger.{Edit, judged}
 use Rattle.edits.specs.Edits.{edited, outcomeBy}
@@ -37,17 +37,17 @@ checked-is image true h = ap (λ (t : Bool). codeOf (cond t accepted (declined 0
 checked-is image false h = ap (λ (t : Bool). codeOf (cond t accepted (declined 0 0))) h
 
 -- what memory holds, long enough or not
-pub count-long : (image : List ℕ) → 13316 ≤ length image → two 0 image ≡ countIn image
-count-long image h = ap (λ (t : Bool). cond t (two 0 image) 0) (sym (le-leb imageSize (length image) h))
+pub count-long : (image : List ℕ) → 13316 ≤ length image → countOf image ≡ countIn image
+count-long image h = ap (λ (t : Bool). cond t (countOf image) 0) (sym (le-leb imageSize (length image) h))
 
 pub count-short : (image : List ℕ) → length image < 13316 → 0 ≡ countIn image
-count-short image h = ap (λ (t : Bool). cond t (two 0 image) 0) (sym (lt-leb imageSize (length image) h))
+count-short image h = ap (λ (t : Bool). cond t (countOf image) 0) (sym (lt-leb imageSize (length image) h))
 
-pub last-long : (image : List ℕ) → 13316 ≤ length image → two 2 image ≡ lastIn image
-last-long image h = ap (λ (t : Bool). cond t (two 2 image) 0) (sym (le-leb imageSize (length image) h))
+pub last-long : (image : List ℕ) → 13316 ≤ length image → lastOf image ≡ lastIn image
+last-long image h = ap (λ (t : Bool). cond t (lastOf image) 0) (sym (le-leb imageSize (length image) h))
 
 pub last-short : (image : List ℕ) → length image < 13316 → 0 ≡ lastIn image
-last-short image h = ap (λ (t : Bool). cond t (two 2 image) 0) (sym (lt-leb imageSize (length image) h))
+last-short image h = ap (λ (t : Bool). cond t (lastOf image) 0) (sym (lt-leb imageSize (length image) h))
 
 -- a rule from 24 bytes, read one by one
 four : (k : ℕ) (s : List ℕ) → k + 4 ≤ length s

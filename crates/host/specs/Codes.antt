@@ -7,7 +7,7 @@ use lib.Dec.{leb, eqb}
 use lib.ListN.{length, getD, take, drop}
 use Rattle.rules.specs.Refusals.{Reply, accepted, declined}
 use Rattle.rules.specs.declared.Rule.{Rule}
-use Rattle.image.specs.Image.{imageSize, two, valid}
+use Rattle.image.specs.Image.{imageSize, valid, countOf, lastOf}
 use Rattle.reading.specs.Speech.{Told, spoken, refused}
 
 -- ---- a call that only accepts or declines
@@ -27,10 +27,10 @@ checked image = cond (valid image) accepted (declined 0 0)
 
 -- the rule count and `last` that memory holds, ruleset or not; 0 where it is too short for a ruleset
 abbrev pub countIn : List ℕ → ℕ
-countIn image = cond (leb imageSize (length image)) (two 0 image) 0
+countIn image = cond (leb imageSize (length image)) (countOf image) 0
 
 abbrev pub lastIn : List ℕ → ℕ
-lastIn image = cond (leb imageSize (length image)) (two 2 image) 0
+lastIn image = cond (leb imageSize (length image)) (lastOf image) 0
 
 -- ---- a call that speaks a name
 

@@ -70,9 +70,11 @@ pub fn relocate(image: &mut [u8], k: usize, p: usize)
     let to = HEAD + SLOT * p;
     if k < p {
         copy_down(image, from + SLOT, from, SLOT * (p - k));
+        crate::put_rule(image, p, x);
+        crate::put_head(image, count, last);
     } else {
         copy_up(image, to, to + SLOT, SLOT * (k - p));
+        crate::put_rule(image, p, x);
+        crate::put_head(image, count, last);
     }
-    crate::put_rule(image, p, x);
-    crate::put_head(image, count, last);
 }

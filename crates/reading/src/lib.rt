@@ -9,11 +9,11 @@ ghost use lib.ListN.{length, take, drop};
 ghost use lib.Seq.{paste};
 ghost use Rattle.rules.specs.Memory.{over};
 ghost use Rattle.rules.specs.Shape.{first};
-ghost use Rattle.image.specs.Image.{two, entriesOf, valid};
+ghost use Rattle.image.specs.Image.{entriesOf, valid, entryAt, countOf};
 ghost use Rattle.reading.specs.Fitting.{same, starts, ends, frame, fits};
 ghost use Rattle.reading.specs.Reading.{plain};
 ghost use Rattle.reading.specs.Speech.{toldOf, saying, delivered, judgedName, plainSaid};
-ghost use Rattle.reading.specs.Places.{entryAt, Judges, FitAt, ReadInto};
+ghost use Rattle.reading.specs.Places.{Judges, FitAt, ReadInto};
 
 // The answer of a call that speaks a name: how many phones and rule numbers it gave, or why it declined.
 pub enum Speech {
@@ -134,7 +134,7 @@ fn ends_at(image: &[u8], at: usize, len: usize, frame: &[u8], i: usize) -> bool
 
 // Whether the rule at a place fits at `i`. The target is tested first: it decides soonest.
 pub fn fits_at(image: &[u8], place: usize, frame: &[u8], i: usize) -> bool
-    requires { ⌜ (valid (now image) ≡ true) × ((place < two 0 (now image)) × (i ≤ length (now frame))) ⌝ }
+    requires { ⌜ (valid (now image) ≡ true) × ((place < countOf (now image)) × (i ≤ length (now frame))) ⌝ }
     ensures { λ r. ⌜ r ≡ fits (entryAt (now (image .entry)) place .rule) (now (frame .entry)) i ⌝ }
 {
     let at = 4 + 26 * place;
@@ -150,7 +150,7 @@ pub fn fits_at(image: &[u8], place: usize, frame: &[u8], i: usize) -> bool
 
 // The length of the target of the rule at a place.
 pub fn target_len_at(image: &[u8], place: usize) -> usize
-    requires { ⌜ (valid (now image) ≡ true) × (place < two 0 (now image)) ⌝ }
+    requires { ⌜ (valid (now image) ≡ true) × (place < countOf (now image)) ⌝ }
     ensures { λ r. ⌜ (r ≡ length (entryAt (now (image .entry)) place .rule .target)) × ((1 ≤ r) × (r ≤ 4)) ⌝ }
 {
     wide(image[4 + 26 * place + 3])
@@ -158,7 +158,7 @@ pub fn target_len_at(image: &[u8], place: usize) -> usize
 
 // The first rule in order that fits at `i`.
 fn first_fit(image: &[u8], count: usize, frame: &[u8], i: usize) -> Fit
-    requires { ⌜ (valid (now image) ≡ true) × ((count ≡ two 0 (now image)) × (i ≤ length (now frame))) ⌝ }
+    requires { ⌜ (valid (now image) ≡ true) × ((count ≡ countOf (now image)) × (i ≤ length (now frame))) ⌝ }
     ensures { λ r. ⌜ FitAt (now (image .entry)) (now (frame .entry)) i r ⌝ }
 {
     let mut p = 0;

@@ -9,15 +9,14 @@ use mathlib.Core.Bool.{Bool, true, false, cond}
 use mathlib.Core.List.{List, [], _∷_}
 use mathlib.Core.Option.{Option, none, some}
 use lib.ListN.{length, getD, set}
+use Rattle.image.specs.State.{noEntry}
 use Rattle.rules.proofs.Cases.{byBool}
 use Rattle.rules.specs.Shape.{Entry}
 use Rattle.rules.specs.Refusals.{refusalNumber, refusalPlace}
-use Rattle.image.specs.Image.{two, entriesOf, valid}
+use Rattle.image.specs.Image.{entriesOf, valid, entryAt, countOf}
 use Rattle.image.proofs.Entries.{entries-length}
 use Rattle.reading.specs.Fitting.{fits}
 use Rattle.reading.specs.Reading.{Choice, chosen, nothing, unusable, stopped, readFrom}
-use Rattle.reading.specs.Meaning.{noEntry}
-use Rattle.reading.specs.Places.{entryAt}
 use Rattle.reading.proofs.Search.{Targets, valid-targets}
 use Rattle.reading.proofs.Loop.{Going, going-begin, going-next, going-none, going-unusable, going-end, going-few, going-within}
 use Rattle.tables.specs.Walk.{lookup}
@@ -53,22 +52,22 @@ module _ (image ss : List ℕ) (s t : ℕ) (f : List ℕ) (i : ℕ) where
   none-shared e = ap (lookup (λ r. fits (r .rule) f i) (entriesOf image)) e
 
   module _ (p : ℕ) (e : lowestShared ss s t ≡ some p) where
-    pub place-past : two 0 image ≤ p → choiceBy image ss s t f i ≡ unusable
+    pub place-past : countOf image ≤ p → choiceBy image ss s t f i ≡ unusable
     unfolding choiceBy
     place-past h =
         ap (lookup (λ r. fits (r .rule) f i) (entriesOf image)) e
         ∙ lookup-past (λ r. fits (r .rule) f i) (entriesOf image) p (omega (arith, entries-length image))
 
-    place-in : p < two 0 image → choiceBy image ss s t f i ≡ cond (fits (entryAt image p .rule) f i) (chosen (entryAt image p)) unusable
+    place-in : p < countOf image → choiceBy image ss s t f i ≡ cond (fits (entryAt image p .rule) f i) (chosen (entryAt image p)) unusable
     unfolding choiceBy
     place-in h =
         ap (lookup (λ r. fits (r .rule) f i) (entriesOf image)) e
         ∙ lookup-in (λ r. fits (r .rule) f i) (entriesOf image) p (omega (arith, entries-length image))
 
-    pub place-unfit : p < two 0 image → fits (entryAt image p .rule) f i ≡ false → choiceBy image ss s t f i ≡ unusable
+    pub place-unfit : p < countOf image → fits (entryAt image p .rule) f i ≡ false → choiceBy image ss s t f i ≡ unusable
     place-unfit h q = place-in h ∙ ap (λ (b : Bool). cond b (chosen (entryAt image p)) unusable) q
 
-    pub place-fits : p < two 0 image → fits (entryAt image p .rule) f i ≡ true → choiceBy image ss s t f i ≡ chosen (entryAt image p)
+    pub place-fits : p < countOf image → fits (entryAt image p .rule) f i ≡ true → choiceBy image ss s t f i ≡ chosen (entryAt image p)
     place-fits h q = place-in h ∙ ap (λ (b : Bool). cond b (chosen (entryAt image p)) unusable) q
 
 -- ---- the loop of reading, `Going`, with these choices
@@ -93,7 +92,7 @@ module _ (image ss : List ℕ) (base : ℕ) (left right f : List ℕ) where
 
   -- the loop has `places` and `count`, and stands at i
   abbrev pub Gone : List ℕ → ℕ → ℕ → Type 0
-  Gone places count i = Going choose (length f - 2) (entryAt image) (two 0 image) places count i
+  Gone places count i = Going choose (length f - 2) (entryAt image) (countOf image) places count i
 
 module _ (image ss : List ℕ) (base : ℕ) (left right f : List ℕ) (ok : valid image ≡ true) (few : length f - 2 ≤ 64) where
   abbrev made : ℕ → Choice
@@ -107,13 +106,13 @@ module _ (image ss : List ℕ) (base : ℕ) (left right f : List ℕ) (ok : vali
   ahead i r e = lookup-target (λ q. fits (q .rule) f i) (entriesOf image) (valid-targets image ok) (lowestShared ss (8 * getD left i 0) (base + 8 * getD right i 0)) r e
 
   pub begin : (places : List ℕ) → length places ≡ 64 → Read places 0 1
-  begin = going-begin made (length f - 2) ahead (entryAt image) (two 0 image)
+  begin = going-begin made (length f - 2) ahead (entryAt image) (countOf image)
 
   module _ (places : List ℕ) (count i : ℕ) (g : Read places count i) where
     module _ (h : i ≤ length f - 2) where
-      pub next : (p : ℕ) → made i ≡ chosen (entryAt image p) → p < two 0 image → (l : ℕ) → l ≡ length (entryAt image p .rule .target) → 1 ≤ l → l ≤ 4
+      pub next : (p : ℕ) → made i ≡ chosen (entryAt image p) → p < countOf image → (l : ℕ) → l ≡ length (entryAt image p .rule .target) → 1 ≤ l → l ≤ 4
           → Read (set places count p) (count + 1) (i + l)
-      next = going-next made (length f - 2) ahead (entryAt image) (two 0 image) few places count i g h
+      next = going-next made (length f - 2) ahead (entryAt image) (countOf image) few places count i g h
 
       -- no rule is chosen
       pub declines : (x : Chosen) → choiceOf image x ≡ made i → ((p : ℕ) → x ≡ Rule p → ⊥) → ReadBy image made (length f - 2) places (Refused (refusalAt x i))
@@ -128,16 +127,16 @@ module _ (image ss : List ℕ) (base : ℕ) (left right f : List ℕ) (ok : vali
           stops : (x : Chosen) → choiceOf image x ≡ made i → ((p : ℕ) → x ≡ Rule p → ⊥)
               → stopped (refusalNumber (refusalAt x i)) (refusalPlace (refusalAt x i)) ≡ readFrom made (length f - 2) (length f - 2) 1
           stops (Rule p) e other = absurd (other p refl)
-          stops Nothing e other = sym (going-none made (length f - 2) ahead (entryAt image) (two 0 image) few places count i g h (sym e))
-          stops Unusable e other = sym (going-unusable made (length f - 2) ahead (entryAt image) (two 0 image) few places count i g h (sym e))
+          stops Nothing e other = sym (going-none made (length f - 2) ahead (entryAt image) (countOf image) few places count i g h (sym e))
+          stops Unusable e other = sym (going-unusable made (length f - 2) ahead (entryAt image) (countOf image) few places count i g h (sym e))
 
     pub done : length f - 2 < i → ReadBy image made (length f - 2) places (Rules count)
     done h =
         record {
           placed = record {
             sized = g .sized;
-            few = λ k u. let e : count ≡ k = cc in omega (arith, going-few made (length f - 2) ahead (entryAt image) (two 0 image) few places count i g);
-            within = λ k u. let e : count ≡ k = cc in rw (sym e) (going-within made (length f - 2) ahead (entryAt image) (two 0 image) few places count i g);
+            few = λ k u. let e : count ≡ k = cc in omega (arith, going-few made (length f - 2) ahead (entryAt image) (countOf image) few places count i g);
+            within = λ k u. let e : count ≡ k = cc in rw (sym e) (going-within made (length f - 2) ahead (entryAt image) (countOf image) few places count i g);
           };
-          says = sym (going-end made (length f - 2) ahead (entryAt image) (two 0 image) few places count i g h);
+          says = sym (going-end made (length f - 2) ahead (entryAt image) (countOf image) few places count i g h);
         }

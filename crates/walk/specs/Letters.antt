@@ -5,13 +5,14 @@ use mathlib.Core.Path.{_≡_}
 use mathlib.Core.List.{List}
 use mathlib.Core.Option.{Option, none, some}
 use lib.ListN.{length, getD, take}
+use Rattle.numbers.specs.Numbers.{two}
 use Rattle.rules.specs.Refusals.{refusalNumber, refusalPlace}
 use Rattle.rules.specs.declared.Refusal.{Refusal}
 use Rattle.rules.specs.declared.Refusal.the-variants.{NoFit, BadTables}
-use Rattle.image.specs.Image.{two, entriesOf}
+use Rattle.image.specs.Image.{entriesOf, entryAt, countOf}
 use Rattle.reading.specs.Fitting.{fits}
 use Rattle.reading.specs.Reading.{Choice, chosen, nothing, unusable, Reading, finished, stopped, readFrom}
-use Rattle.reading.specs.Places.{entryAt, entriesAt, Within}
+use Rattle.reading.specs.Places.{entriesAt, Within}
 use Rattle.tables.specs.Walk.{lookup}
 use Rattle.tables.specs.Lowest.{lowestFrom, meetWord}
 use Rattle.walk.specs.declared.letters.Found.{Found}
@@ -42,7 +43,7 @@ choiceOf image Unusable = unusable
 
 pub record Chooses (image : List ℕ) (choice : Choice) (r : Chosen) : Type 0 where
   pub is : choiceOf image r ≡ choice
-  pub inside : (p : ℕ) → r ≡ Rule p → p < two 0 image
+  pub inside : (p : ℕ) → r ≡ Rule p → p < countOf image
 
 -- the refusal at position i where no rule is chosen: 3 with the position, or 16
 abbrev pub refusalAt : Chosen → ℕ → Refusal

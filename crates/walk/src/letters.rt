@@ -5,7 +5,8 @@ ghost use mathlib.Core.Path.{_≡_};
 ghost use mathlib.Core.Bool.{true};
 ghost use Prim.Native.Nat.{_+_, _-_, _*_, _<_, _≤_};
 ghost use lib.ListN.{length};
-ghost use Rattle.image.specs.Image.{two, valid};
+ghost use Rattle.numbers.specs.Numbers.{two};
+ghost use Rattle.image.specs.Image.{valid, countOf};
 ghost use Rattle.walk.specs.Letters.{foundOf, lowestShared, choiceBy, Chooses, refusalAt, choicesBy, ReadBy, Bounded};
 
 // The lowest place that two sets share.
@@ -48,7 +49,7 @@ fn choose(
     frame: &[u8],
     i: usize,
 ) -> Chosen
-    requires { ⌜ (s + 8 ≤ length (now sets)) × (t + 8 ≤ length (now sets)) × (valid (now image) ≡ true) × («rules» ≡ two 0 (now image)) × (i ≤ length (now frame)) ⌝ }
+    requires { ⌜ (s + 8 ≤ length (now sets)) × (t + 8 ≤ length (now sets)) × (valid (now image) ≡ true) × («rules» ≡ countOf (now image)) × (i ≤ length (now frame)) ⌝ }
     ensures { λ r. ⌜ Chooses (now (image .entry)) (choiceBy (now (image .entry)) (now (sets .entry)) s t (now (frame .entry)) i) r ⌝ }
 {
     let found = lowest_place(sets, s, t);

@@ -3,7 +3,7 @@
 use Prim.Native.Nat.{_-_, _<_}
 use native.Mathlib.Omega.{arith}
 use borrow.Author.Needs.{needs}
-use Rattle.image.specs.Image.{two}
+use Rattle.image.specs.Image.{countOf}
 use Rattle.image.proofs.Tests.{valid-count}
 use Rattle.build.proofs.Laying.{Laying, begin, fits, lens-room, next, finished, laid-at}
 use Rattle.build.proofs.patterns.Statement.{statement}
@@ -28,7 +28,7 @@ pattern-len-requires c κs =
 slice-write-lens : tie.Need-slice-write-lens Inv-loop μ-loop
 slice-write-lens c =
     let st = c .before .before .before .before .before .before in
-    let h : c .before .before .loop .i < two 0 (st .args .image .now) = omega (arith, st .pre .1, c .before .loop-test .taken) in
+    let h : c .before .before .loop .i < countOf (st .args .image .now) = omega (arith, st .pre .1, c .before .loop-test .taken) in
     lens-room _ _ (st .pre .0) _ _ (st .pre .2) _ _ _ (c .before .before .loop .inv) h _ (c .pattern-len .ensures)
 
 mul-put-pattern : tie.Need-mul-put-pattern Inv-loop μ-loop
@@ -39,7 +39,7 @@ mul-put-pattern c =
 put-pattern-requires : tie.Need-put-pattern-requires Inv-loop μ-loop
 put-pattern-requires c κs =
     let st = c .before .before .before .before .before .before .before in
-    let h : c .before .before .before .loop .i < two 0 (st .args .image .now) = omega (arith, st .pre .1, c .before .before .loop-test .taken) in
+    let h : c .before .before .before .loop .i < countOf (st .args .image .now) = omega (arith, st .pre .1, c .before .before .loop-test .taken) in
     let e = c .before .pattern-len .ensures in
     (st .pre .0, h, e, fits _ _ (st .pre .0) _ _ (st .pre .2) _ _ _ (c .before .before .before .loop .inv) h _ e)
 
@@ -52,7 +52,7 @@ loop-less c = search needs
 loop-again : tie.Need-loop-again Inv-loop μ-loop
 loop-again c =
     let st = c .before .before .before .before .before .before .before .before .before .before in
-    let h : c .before .before .before .before .before .before .loop .i < two 0 (st .args .image .now) = omega (arith, st .pre .1, c .before .before .before .before .before .loop-test .taken) in
+    let h : c .before .before .before .before .before .before .loop .i < countOf (st .args .image .now) = omega (arith, st .pre .1, c .before .before .before .before .before .loop-test .taken) in
     next _ _ (st .pre .0) _ _ (st .pre .2) _ _ _ (c .before .before .before .before .before .before .loop .inv) h _ (c .before .before .before .before .pattern-len .ensures) _ (c .before .before .put-pattern .ensures)
 
 same-length : tie.Need-same-length Inv-loop μ-loop

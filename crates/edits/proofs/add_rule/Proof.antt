@@ -4,7 +4,7 @@ use mathlib.Core.Path.{refl, sym, _∙_}
 use native.Mathlib.Omega.{arith}
 use borrow.Author.Needs.{needs}
 use borrow.Author.Tests.{not-true, not-false}
-use Rattle.image.specs.Image.{two}
+use Rattle.image.specs.Image.{countOf}
 use Rattle.image.proofs.Tests.{valid-long}
 use Rattle.edits.proofs.Answers.{invalid, add-shape, add-place, add-full, add-last, add-yes}
 use Rattle.edits.proofs.add_rule.Statement.{statement}
@@ -26,7 +26,7 @@ same-length-2 : tie.Need-same-length-2
 same-length-2 c = search needs
 
 returns-2 : tie.Need-returns-2
-returns-2 c = add-shape (c .before .before .before .before .before .before .args .image .now) (sym (c .before .before .before .is-ruleset .ensures) ∙ not-false _ (c .before .before .if1 .left)) (two 0 (c .before .before .before .before .before .before .args .image .now)) refl (c .before .before .before .before .before .before .args .rule) (c .before .before .before .before .before .before .args .p) (sym (c .before .well-shaped .ensures) ∙ not-true _ (c .if2 .taken))
+returns-2 c = add-shape (c .before .before .before .before .before .before .args .image .now) (sym (c .before .before .before .is-ruleset .ensures) ∙ not-false _ (c .before .before .if1 .left)) (countOf (c .before .before .before .before .before .before .args .image .now)) refl (c .before .before .before .before .before .before .args .rule) (c .before .before .before .before .before .before .args .p) (sym (c .before .well-shaped .ensures) ∙ not-true _ (c .if2 .taken))
 
 two-at-requires : tie.Need-two-at-requires
 two-at-requires c κs = omega (arith, valid-long (c .before .before .before .before .before .before .before .args .image .now) (sym (c .before .before .before .before .is-ruleset .ensures) ∙ not-false _ (c .before .before .before .if1 .left)))

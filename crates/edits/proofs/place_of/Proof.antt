@@ -5,8 +5,9 @@ use mathlib.Core.Path.{_≡_, ap}
 use native.Mathlib.Omega.{arith}
 use borrow.Author.Needs.{needs}
 use lib.ListN.{drop}
+use Rattle.image.specs.Image.{rulesIn}
 use Rattle.edits.specs.Ledger.{placeOf}
-use Rattle.image.proofs.Scan.{rulesIn, past}
+use Rattle.image.proofs.Scan.{past}
 use Rattle.edits.proofs.Answers.{place-hit, place-miss}
 use Rattle.edits.proofs.place_of.Statement.{statement}
 use Rattle.edits.proofs.place_of.Tie as tie

@@ -1,6 +1,7 @@
 -- `commands::answers::reply_line` meets its contract: the two cases of an answer.
 -- Assumes nothing.
-use Rattle.image.specs.Image.{two}
+use Rattle.image.specs.Image.{lastOf}
+use Rattle.numbers.specs.Numbers.{two}
 use Rattle.commands.proofs.Replies.{gives-last, gives-refusal}
 use borrow.Author.Needs.{needs}
 use Rattle.commands.proofs.answers.reply_line.Statement.{statement}
@@ -25,13 +26,13 @@ same-length : tie.Need-same-length
 same-length c = search needs
 
 returns : tie.Need-returns
-returns c = gives-last (c .before .before .before .before .before .before .before .before .before .args .answer) (two 2 (c .before .before .before .before .before .before .before .before .before .args .image .now)) _ (c .before .before .before .before .before .before .before .before .before .args .out .now) _ (c .before .before .before .before .before .enum-told .given .1) _ (c .before .before .before .before .two-at .ensures .0) (c .before .before .last-line .ensures .0) (c .before .before .last-line .ensures .1)
+returns c = gives-last (c .before .before .before .before .before .before .before .before .before .args .answer) (lastOf (c .before .before .before .before .before .before .before .before .before .args .image .now)) _ (c .before .before .before .before .before .before .before .before .before .args .out .now) _ (c .before .before .before .before .before .enum-told .given .1) _ (c .before .before .before .before .two-at .ensures .0) (c .before .before .last-line .ensures .0) (c .before .before .last-line .ensures .1)
 
 same-length-2 : tie.Need-same-length-2
 same-length-2 c = search needs
 
 returns-2 : tie.Need-returns-2
-returns-2 c = gives-refusal (c .before .before .before .before .before .before .before .before .before .args .answer) (two 2 (c .before .before .before .before .before .before .before .before .before .args .image .now)) _ (c .before .before .before .before .before .before .before .before .before .args .out .now) _ (c .before .before .before .before .before .answer .given .0 .0) (c .before .before .before .before .before .answer .given .1) (c .before .before .refusal-line .ensures .0) (c .before .before .refusal-line .ensures .1)
+returns-2 c = gives-refusal (c .before .before .before .before .before .before .before .before .before .args .answer) (lastOf (c .before .before .before .before .before .before .before .before .before .args .image .now)) _ (c .before .before .before .before .before .before .before .before .before .args .out .now) _ (c .before .before .before .before .before .answer .given .0 .0) (c .before .before .before .before .before .answer .given .1) (c .before .before .refusal-line .ensures .0) (c .before .before .refusal-line .ensures .1)
 
 pub reply-line-spec : {M : Type 1} → statement M
 reply-line-spec =

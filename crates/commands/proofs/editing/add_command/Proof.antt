@@ -2,7 +2,7 @@
 -- Assumes nothing.
 use mathlib.Core.Path.{sym, _∙_}
 use borrow.Author.Tests.{not-true, not-false}
-use Rattle.image.specs.Image.{two}
+use Rattle.numbers.specs.Numbers.{two}
 use Rattle.edits.specs.Ledger.{Edit}
 use Rattle.edits.specs.Edits.{edited}
 use Rattle.commands.specs.Answers.{ruled, added}

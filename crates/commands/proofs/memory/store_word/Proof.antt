@@ -1,7 +1,7 @@
 -- `commands::memory::store_word` meets its contract: one element is stored where its index is inside.
 -- Assumes nothing.
 use lib.ListN.{length}
-use Rattle.image.specs.Image.{two}
+use Rattle.numbers.specs.Numbers.{two}
 use Rattle.commands.specs.Fields.{four}
 use borrow.Author.Needs.{needs}
 use lib.Dec.{eqb}

@@ -1,5 +1,6 @@
 -- `commands::speaking::plain_command` meets its contract: a frame of 5 bytes or more is a reading, a shorter one is malformed.
 -- Assumes nothing.
+use Rattle.numbers.specs.Numbers.{two}
 use Rattle.commands.proofs.Lent.{same-room}
 use Rattle.reading.specs.Speech.{toldOf}
 use native.Mathlib.Omega.{arith}
@@ -7,7 +8,6 @@ use borrow.Author.Needs.{needs}
 use lib.Dec.{leb}
 use lib.ListN.{length, drop}
 use borrow.Author.Tests.{le-leb, lt-leb}
-use Rattle.image.specs.Image.{two}
 use Rattle.commands.specs.Lent.{lentOf, plainIn, plainEffects, plainBy}
 use Rattle.commands.proofs.Replies.{both-not, both-read}
 use Rattle.commands.proofs.speaking.plain_command.Statement.{statement}

@@ -1,5 +1,6 @@
 -- `commands::speaking::walk_command` meets its contract: a frame of 13 bytes or more is a walk, a shorter one is malformed.
 -- Assumes nothing.
+use Rattle.numbers.specs.Numbers.{two}
 use Rattle.commands.proofs.Lent.{same-room}
 use Rattle.reading.specs.Speech.{toldOf}
 use native.Mathlib.Omega.{arith}
@@ -7,7 +8,6 @@ use borrow.Author.Needs.{needs}
 use lib.Dec.{leb}
 use lib.ListN.{length, take, drop}
 use borrow.Author.Tests.{le-leb, lt-leb}
-use Rattle.image.specs.Image.{two}
 use Rattle.commands.specs.Fields.{four}
 use Rattle.commands.specs.Lent.{lentOf, walkIn, walkEffects, walkedBy}
 use Rattle.commands.proofs.Replies.{both-not, both-walked}

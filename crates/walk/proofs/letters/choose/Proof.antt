@@ -5,7 +5,7 @@ use mathlib.Core.Path.{_≡_, refl, sym, _∙_, subst}
 use borrow.Author.Needs.{needs}
 use borrow.Author.Tests.{not-true, not-false}
 use native.Mathlib.Omega.{arith}
-use Rattle.image.specs.Image.{two}
+use Rattle.image.specs.Image.{countOf}
 use Rattle.walk.specs.declared.letters.Chosen.{Chosen}
 use Rattle.walk.specs.declared.letters.Chosen.the-variants.{Rule, Nothing, Unusable}
 use Rattle.walk.proofs.Choosing.{found-none, found-some, none-shared, place-past, place-unfit, place-fits}
@@ -61,12 +61,12 @@ returns-3 c =
 returns-4 : tie.Need-returns-4
 returns-4 c =
     let place = c .before .before .before .before .found .given .0 .0 in
-    let l : place < two 0 (c .before .before .before .before .before .before .before .before .before .before .args .image .now) = omega (arith, c .before .before .before .before .before .before .before .before .before .before .pre .3) in
+    let l : place < countOf (c .before .before .before .before .before .before .before .before .before .before .args .image .now) = omega (arith, c .before .before .before .before .before .before .before .before .before .before .pre .3) in
     record {
       is =
           sym (place-fits (c .before .before .before .before .before .before .before .before .before .before .args .image .now) (c .before .before .before .before .before .before .before .before .before .before .args .sets .now) (c .before .before .before .before .before .before .before .before .before .before .args .s) (c .before .before .before .before .before .before .before .before .before .before .args .t) (c .before .before .before .before .before .before .before .before .before .before .args .frame .now) (c .before .before .before .before .before .before .before .before .before .before .args .i) place (found-some _ _ (sym (c .before .before .before .before .before .before .lowest-place .ensures) ∙ c .before .before .before .before .found .given .1))
           l (sym (c .before .fits-at .ensures) ∙ not-false _ (c .if2 .left)));
-      inside = λ p e. subst (λ (q : ℕ). q < two 0 (c .before .before .before .before .before .before .before .before .before .before .args .image .now)) (same-place place p e) l;
+      inside = λ p e. subst (λ (q : ℕ). q < countOf (c .before .before .before .before .before .before .before .before .before .before .args .image .now)) (same-place place p e) l;
     }
 
 pub choose-spec : {M : Type 1} → statement M

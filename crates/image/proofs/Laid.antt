@@ -1,4 +1,4 @@
--- The edits in place: what the moved bytes are, and that they are the slots of the edited list.
+-- Rules put in, taken out and moved in place: what the moved bytes are, and that they are the slots of the changed list.
 -- Assumes nothing.
 use Prim.Native.Nat.{ℕ, zero, suc, _+_, _-_, _*_, _/_, _%_, _≤_, _<_}
 use mathlib.Core.Path.{_≡_, refl, sym, ap, ap₂, _∙_, subst}
@@ -6,13 +6,11 @@ use mathlib.Core.List.{List, [], _∷_, _++_, append-assoc}
 use native.Mathlib.Omega.{arith}
 use lib.ListN.{length, getD, take, drop, length-drop, take-append-drop}
 use lib.Seq.{paste, take-paste, drop-paste, take-at, drop-at, take-take, take-add, drop-drop, take-append-le, take-append-add, drop-append-add, length-take-le, getD-drop}
-use Rattle.rules.specs.declared.Rule.{Rule}
+use Rattle.rules.specs.Limits.{maxRules}
 use Rattle.rules.specs.declared.Numbered.{Numbered}
-use Rattle.image.specs.State.{Ledger, noNumbered}
-use Rattle.edits.specs.Ledger.{insertAt, removeAt, relocated, placeOf, applied}
-use Rattle.edits.specs.Ledger.Edit.{Add, Drop, Move}
-use Rattle.image.specs.Image.{slotSize, imageSize, two, slotOf, bytesOf, slotStart, listed, flat, headOf, ledgerOf, laid}
-use Rattle.image.proofs.Scan.{length-listed, slot-get, rulesIn, slotIn}
+use Rattle.image.specs.State.{Ledger, noNumbered, insertAt, removeAt, relocated}
+use Rattle.image.specs.Image.{headSize, slotSize, imageSize, slotOf, bytesOf, slotStart, listed, flat, headOf, ledgerOf, laid, withHead, withRule, rulesIn, numberedAt, countOf, lastOf}
+use Rattle.image.proofs.Scan.{length-listed, slot-get}
 
 -- each element is a byte
 abbrev pub Small : List ℕ → Type 0
@@ -268,73 +266,66 @@ laid-by g d f e n l a b h u =
     h ∙ (ap (λ (t : List ℕ). headOf n l ++ t) u
     ∙ ap₂ (λ (i j : ℕ). headOf i j ++ (flat (g .list) ++ drop (slotStart i) d)) (sym a) (sym b))
 
-module _ (d : List ℕ) (small : Small d) (fits : imageSize ≤ length d) (count last : ℕ) (c : count ≡ two 0 d) (l : last ≡ two 2 d) (le : count ≤ 512) where
-  same-list : ledgerOf d .list ≡ rulesIn count d
-  same-list = ap (λ (n : ℕ). listed n (drop 4 d)) (sym c)
+module _ (d : List ℕ) (small : Small d) (fits : imageSize ≤ length d) (count : ℕ) (c : count ≡ countOf d) where
+  same-list : rulesIn count d ≡ ledgerOf d .list
+  same-list = ap (λ (n : ℕ). rulesIn n d) c
 
-  pub insert-laid : (rule : Rule) (p : ℕ) (e f z : List ℕ) → p ≤ count → count < 512
-      → e ≡ paste d (slotStart p + 26) (drop (slotStart p) d) (slotSize * (count - p))
-      → f ≡ take (slotStart p) e ++ (bytesOf (record { number = last + 1; rule = rule }) ++ drop (slotStart p + 26) e)
-      → z ≡ headOf (count + 1) (last + 1) ++ drop 4 f
-      → z ≡ laid (applied (ledgerOf d) (Add rule p)) d
-  insert-laid rule p e f z hp hn he hf hz =
-      let x : Numbered = record { number = last + 1; rule = rule } in
+  -- the state that stands in the memory afterwards, by its list from the first `count` slots
+  laid-as : (change : List Numbered → List Numbered) (last : ℕ) (f z : List ℕ) (n : ℕ) → length (change (rulesIn count d)) ≡ n → z ≡ withHead n last f
+      → drop headSize f ≡ flat (change (rulesIn count d)) ++ drop (slotStart n) d → z ≡ laid (record { list = change (ledgerOf d .list); last = last }) d
+  laid-as change last f z n long hz u =
+      laid-by (record { list = change (rulesIn count d); last = last }) d f z n last long refl hz u
+      ∙ ap (λ (l : List Numbered). laid (record { list = change l; last = last }) d) same-list
+
+  pub insert-laid : (x : Numbered) (last p : ℕ) (e f z : List ℕ) → p ≤ count → count < maxRules
+      → e ≡ paste d (slotStart p + slotSize) (drop (slotStart p) d) (slotSize * (count - p))
+      → f ≡ withRule p x e
+      → z ≡ withHead (count + 1) last f
+      → z ≡ laid (record { list = insertAt p x (ledgerOf d .list); last = last }) d
+  insert-laid x last p e f z hp hn he hf hz =
       let k : p + (count - p) ≡ count = omega arith in
       let s : slotStart (suc (p + (count - p))) ≡ slotStart (count + 1) = omega arith in
-      let g : Ledger = record { list = insertAt p x (rulesIn count d); last = last + 1 } in
-      let same : g ≡ applied (ledgerOf d) (Add rule p) =
-      ap₂ (λ (i j : ℕ). record { list = insertAt p (record { number = j + 1; rule = rule }) (listed i (drop 4 d)); last = j + 1 }) c l in
-      laid-by g d f z (count + 1) (last + 1)
+      laid-as (insertAt p x) last f z (count + 1)
       (length-insertAt p x (rulesIn count d) (omega (arith, length-listed count (drop 4 d))) ∙ ap (λ (i : ℕ). i + 1) (length-listed count (drop 4 d)))
-      refl hz
+      hz
       (opened d e f p (count - p) (slotSize * (count - p)) (bytesOf x) (omega arith) refl he hf
       ∙ (ap (λ (i : ℕ). take (slotSize * p) (drop 4 d) ++ (bytesOf x ++ (run d p (count - p) ++ drop i d))) s
       ∙ (simp append-assoc refl
       ∙ ap (λ (t : List ℕ). t ++ drop (slotStart (count + 1)) d) (sym (insert-body d small count (omega arith) p (count - p) x k)))))
-      ∙ ap (λ (q : Ledger). laid q d) same
 
-  module _ (k n : ℕ) (hk : k < count) (found : k ≡ placeOf n (rulesIn count d)) where
-    at-place : placeOf n (ledgerOf d .list) ≡ k
-    at-place = ap (placeOf n) same-list ∙ sym found
+  module _ (last : ℕ) (l : last ≡ lastOf d) (le : count ≤ maxRules) (k : ℕ) (hk : k < count) where
+    same-last : (list : List Numbered) → laid (record { list = list; last = last }) d ≡ laid (record { list = list; last = lastOf d }) d
+    same-last list = ap (λ (n : ℕ). laid (record { list = list; last = n }) d) l
 
-    pub remove-laid : (e z : List ℕ) → e ≡ paste d (slotStart k) (drop (slotStart k + 26) d) (slotSize * (count - 1 - k))
-        → z ≡ headOf (count - 1) last ++ drop 4 e
-        → z ≡ laid (applied (ledgerOf d) (Drop n)) d
+    removed-long : length (removeAt k (rulesIn count d)) ≡ count - 1
+    removed-long = length-removeAt k (rulesIn count d) (omega (arith, length-listed count (drop 4 d))) ∙ ap (λ (i : ℕ). i - 1) (length-listed count (drop 4 d))
+
+    pub remove-laid : (e z : List ℕ) → e ≡ paste d (slotStart k) (drop (slotStart k + slotSize) d) (slotSize * (count - 1 - k))
+        → z ≡ withHead (count - 1) last e
+        → z ≡ laid (record { list = removeAt k (ledgerOf d .list); last = lastOf d }) d
     remove-laid e z he hz =
         let s : slotStart (k + (count - 1 - k)) ≡ slotStart (count - 1) = omega arith in
         let j : suc k + (count - 1 - k) ≡ count = omega arith in
-        let g : Ledger = record { list = removeAt k (rulesIn count d); last = last } in
-        let same : g ≡ applied (ledgerOf d) (Drop n) =
-        ap₂ (λ (t : List Numbered) (i : ℕ). record { list = removeAt k t; last = i }) (sym same-list) l
-        ∙ ap (λ (i : ℕ). record { list = removeAt i (ledgerOf d .list); last = two 2 d }) (sym at-place) in
-        laid-by g d e z (count - 1) last
-        (length-removeAt k (rulesIn count d) (omega (arith, length-listed count (drop 4 d))) ∙ ap (λ (i : ℕ). i - 1) (length-listed count (drop 4 d)))
-        refl hz
+        laid-as (removeAt k) last e z (count - 1) removed-long hz
         (closed d e k (count - 1 - k) (slotSize * (count - 1 - k)) (omega arith) refl he
         ∙ (ap (λ (i : ℕ). take (slotSize * k) (drop 4 d) ++ (run d (suc k) (count - 1 - k) ++ drop i d)) s
         ∙ (sym (append-assoc (take (slotSize * k) (drop 4 d)) (run d (suc k) (count - 1 - k)) (drop (slotStart (count - 1)) d))
         ∙ ap (λ (t : List ℕ). t ++ drop (slotStart (count - 1)) d) (sym (remove-body d small count (omega arith) k (count - 1 - k) j)))))
-        ∙ ap (λ (q : Ledger). laid q d) same
+        ∙ same-last (removeAt k (ledgerOf d .list))
 
-    module _ (p : ℕ) (hp : p < count) (x : Numbered) (is : x ≡ slotIn d k) (f z : List ℕ) (hz : z ≡ headOf count last ++ drop 4 f) where
-      move-by : drop 4 f ≡ flat (insertAt p x (removeAt k (rulesIn count d))) ++ drop (slotStart count) d → z ≡ laid (applied (ledgerOf d) (Move n p)) d
+    module _ (p : ℕ) (hp : p < count) (x : Numbered) (is : x ≡ numberedAt d k) (f z : List ℕ) (hz : z ≡ withHead count last f) where
+      move-by : drop headSize f ≡ flat (insertAt p x (removeAt k (rulesIn count d))) ++ drop (slotStart count) d
+          → z ≡ laid (record { list = relocated k p (ledgerOf d .list); last = lastOf d }) d
       move-by u =
-          let g : Ledger = record { list = insertAt p x (removeAt k (rulesIn count d)); last = last } in
           let y : x ≡ getD (rulesIn count d) k noNumbered = is ∙ sym (slot-get d count k hk) in
-          let same : g ≡ applied (ledgerOf d) (Move n p) =
-          ap₂ (λ (t : Numbered) (i : ℕ). record { list = insertAt p t (removeAt k (rulesIn count d)); last = i }) y l
-          ∙ (ap (λ (t : List Numbered). record { list = relocated k p t; last = two 2 d }) (sym same-list)
-          ∙ ap (λ (i : ℕ). record { list = relocated i p (ledgerOf d .list); last = two 2 d }) (sym at-place)) in
-          let r : length (removeAt k (rulesIn count d)) ≡ count - 1 =
-          length-removeAt k (rulesIn count d) (omega (arith, length-listed count (drop 4 d))) ∙ ap (λ (i : ℕ). i - 1) (length-listed count (drop 4 d)) in
-          laid-by g d f z count last
-          (omega (arith, length-insertAt p x (removeAt k (rulesIn count d)) (omega arith)))
-          refl hz u
-          ∙ ap (λ (q : Ledger). laid q d) same
+          laid-as (relocated k p) last f z count
+          (omega (arith, removed-long, length-insertAt p (getD (rulesIn count d) k noNumbered) (removeAt k (rulesIn count d)) (omega (arith, removed-long))))
+          hz (u ∙ ap (λ (t : Numbered). flat (insertAt p t (removeAt k (rulesIn count d))) ++ drop (slotStart count) d) y)
+          ∙ same-last (relocated k p (ledgerOf d .list))
 
-      pub up-laid : (e : List ℕ) → k < p → e ≡ paste d (slotStart k) (drop (slotStart k + 26) d) (slotSize * (p - k))
-          → f ≡ take (slotStart p) e ++ (bytesOf x ++ drop (slotStart p + 26) e)
-          → z ≡ laid (applied (ledgerOf d) (Move n p)) d
+      pub up-laid : (e : List ℕ) → k < p → e ≡ paste d (slotStart k) (drop (slotStart k + slotSize) d) (slotSize * (p - k))
+          → f ≡ withRule p x e
+          → z ≡ laid (record { list = relocated k p (ledgerOf d .list); last = lastOf d }) d
       up-laid e lt he hf =
           let w : k + (p - k) ≡ p = omega arith in
           move-by
@@ -343,9 +334,9 @@ module _ (d : List ℕ) (small : Small d) (fits : imageSize ≤ length d) (count
           ∙ (sym (up-body d small count (omega arith) k (p - k) x (omega arith))
           ∙ ap (λ (i : ℕ). flat (insertAt i x (removeAt k (rulesIn count d))) ++ drop (slotStart count) d) w))
 
-      pub down-laid : (e : List ℕ) → p ≤ k → e ≡ paste d (slotStart p + 26) (drop (slotStart p) d) (slotSize * (k - p))
-          → f ≡ take (slotStart p) e ++ (bytesOf x ++ drop (slotStart p + 26) e)
-          → z ≡ laid (applied (ledgerOf d) (Move n p)) d
+      pub down-laid : (e : List ℕ) → p ≤ k → e ≡ paste d (slotStart p + slotSize) (drop (slotStart p) d) (slotSize * (k - p))
+          → f ≡ withRule p x e
+          → z ≡ laid (record { list = relocated k p (ledgerOf d .list); last = lastOf d }) d
       down-laid e ge he hf =
           let w : p + (k - p) ≡ k = omega arith in
           move-by

@@ -1,4 +1,4 @@
--- `edits::copy_up` meets its contract.
+-- `image::slots::copy_up` meets its contract.
 -- Assumes nothing.
 use Prim.Native.Nat.{_+_, _-_, _≤_}
 use mathlib.Core.Path.{_≡_}
@@ -6,9 +6,9 @@ use native.Mathlib.Omega.{arith}
 use borrow.Author.Needs.{needs}
 use lib.ListN.{drop}
 use lib.Seq.{paste}
 use Rattle.image.proofs.Bytes.{up-step, up-begin, up-end, same-within}
-use Rattle.edits.proofs.copy_up.Statement.{statement}
-use Rattle.edits.proofs.copy_up.Tie as tie
+use Rattle.image.proofs.slots.copy_up.Statement.{statement}
+use Rattle.image.proofs.slots.copy_up.Tie as tie
 
 abbrev Inv-loop : tie.InvT-loop
 Inv-loop s₀ src dst n i₀ s i = (i ≤ n) × (s ≡ paste s₀ (dst + i) (drop (src + i) s₀) (n - i))

@@ -1,9 +1,9 @@
--- `host::given::rule_of` meets its contract: the bytes, read one by one.
+-- `image::rule_of` meets its contract: the bytes, read one by one.
 -- Assumes nothing.
-use Rattle.host.proofs.Reports.{rule-of-is}
+use Rattle.image.proofs.Bytes.{rule-is}
 use borrow.Author.Needs.{needs}
-use Rattle.host.proofs.given.rule_of.Statement.{statement}
-use Rattle.host.proofs.given.rule_of.Tie as tie
+use Rattle.image.proofs.rule_of.Statement.{statement}
+use Rattle.image.proofs.rule_of.Tie as tie
 
 shared-slice-read-t3 : tie.Need-shared-slice-read-t3
 shared-slice-read-t3 c = search needs
@@ -78,7 +78,7 @@ shared-slice-read-t52 : tie.Need-shared-slice-read-t52
 shared-slice-read-t52 c = search needs
 
 returns : tie.Need-returns
-returns c = rule-of-is (c .before .before .before .before .before .before .before .before .before .before .before .before .before .before .before .before .before .before .before .before .before .before .before .before .args .s .now) (c .before .before .before .before .before .before .before .before .before .before .before .before .before .before .before .before .before .before .before .before .before .before .before .before .pre)
+returns c = rule-is (c .before .before .before .before .before .before .before .before .before .before .before .before .before .before .before .before .before .before .before .before .before .before .before .before .args .s .now) (c .before .before .before .before .before .before .before .before .before .before .before .before .before .before .before .before .before .before .before .before .before .before .before .before .pre)
 
 pub rule-of-spec : {M : Type 1} → statement M
 rule-of-spec =

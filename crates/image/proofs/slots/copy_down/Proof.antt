@@ -1,4 +1,4 @@
--- `edits::copy_down` meets its contract.
+-- `image::slots::copy_down` meets its contract.
 -- Assumes nothing.
 use Prim.Native.Nat.{_-_, _≤_}
 use mathlib.Core.Path.{_≡_}
@@ -6,9 +6,9 @@ use native.Mathlib.Omega.{arith}
 use borrow.Author.Needs.{needs}
 use lib.ListN.{drop}
 use lib.Seq.{paste, paste-zero}
 use Rattle.image.proofs.Bytes.{down-step, same-within}
-use Rattle.edits.proofs.copy_down.Statement.{statement}
-use Rattle.edits.proofs.copy_down.Tie as tie
+use Rattle.image.proofs.slots.copy_down.Statement.{statement}
+use Rattle.image.proofs.slots.copy_down.Tie as tie
 
 abbrev Inv-loop : tie.InvT-loop
 Inv-loop s₀ src dst n i₀ s i = (i ≤ n) × (s ≡ paste s₀ dst (drop src s₀) i)
