@@ -9,6 +9,7 @@ use borrow.Author.Tests.{eq-eqb, ne-eqb, le-leb, lt-leb, lt-ltb, le-ltb}
 use lib.ListN.{length, drop}
 use Rattle.image.proofs.Laid.{length-removeAt}
 use Rattle.image.specs.State.{removeAt}
+use Rattle.rules.specs.Limits.{maxRules, maxNumber}
 use Rattle.rules.specs.Shape.{shape, view}
 use Rattle.rules.specs.Refusals.{accepted, declined}
 use Rattle.rules.specs.declared.Rule.{Rule}
@@ -57,18 +58,22 @@ module _ (d : List ℕ) (ok : valid d ≡ true) where
         add-place u = no (Add r p) 7 (rw (h, long, lt-leb _ _ u))
 
         module _ (hp : p ≤ count) where
-          pub add-full : 512 ≤ count → outcome (declined 9 0) d ≡ edited d (Add r p)
+          pub add-full : maxRules ≤ count → outcome (declined 9 0) d ≡ edited d (Add r p)
           unfolding judged
           add-full u = no (Add r p) 9 (rw (h, long, le-leb _ _ hp, le-ltb _ _ u))
 
-          module _ (u : count < 512) (last : ℕ) (l : last ≡ lastOf d) where
-            pub add-last : 65535 ≤ last → outcome (declined 10 0) d ≡ edited d (Add r p)
+          module _ (u : count < maxRules) (last : ℕ) (l : last ≡ lastOf d) where
+            pub add-last : maxNumber ≤ last → outcome (declined 10 0) d ≡ edited d (Add r p)
             unfolding judged
             add-last v = no (Add r p) 10 (rw (h, long, le-leb _ _ hp, lt-ltb _ _ u, ← l, le-ltb _ _ v))
 
-            pub add-yes : last < 65535 → (z : List ℕ) → z ≡ laid (applied (ledgerOf d) (Add r p)) d → outcome accepted z ≡ edited d (Add r p)
+            pub add-yes : last < maxNumber → (z : List ℕ)
+                → z ≡ laid (record { list = insertAt p (record { number = last + 1; rule = r }) (ledgerOf d .list); last = last + 1 }) d
+                → outcome accepted z ≡ edited d (Add r p)
             unfolding judged
-            add-yes v = yes (Add r p) (rw (h, long, le-leb _ _ hp, lt-ltb _ _ u, ← l, lt-ltb _ _ v))
+            add-yes v z e =
+                yes (Add r p) (rw (h, long, le-leb _ _ hp, lt-ltb _ _ u, ← l, lt-ltb _ _ v)) z
+                (e ∙ ap (λ (n : ℕ). laid (record { list = insertAt p (record { number = n + 1; rule = r }) (ledgerOf d .list); last = n + 1 }) d) l)
 
     module _ (n k : ℕ) (f : k ≡ placeOf n (rulesIn count d)) where
       found : placeOf n (ledgerOf d .list) ≡ k
@@ -81,9 +86,12 @@ module _ (d : List ℕ) (ok : valid d ≡ true) where
       unfolding judged
       drop-none u = no (Drop n) 8 (rw (found, long, le-ltb _ _ u))
 
-      pub drop-yes : k < count → (z : List ℕ) → z ≡ laid (applied (ledgerOf d) (Drop n)) d → outcome accepted z ≡ edited d (Drop n)
+      pub drop-yes : k < count → (z : List ℕ) → z ≡ laid (record { list = removeAt k (ledgerOf d .list); last = lastOf d }) d
+          → outcome accepted z ≡ edited d (Drop n)
       unfolding judged
-      drop-yes u = yes (Drop n) (rw (found, long, lt-ltb _ _ u))
+      drop-yes u z e =
+          yes (Drop n) (rw (found, long, lt-ltb _ _ u)) z
+          (e ∙ ap (λ (i : ℕ). laid (record { list = removeAt i (ledgerOf d .list); last = lastOf d }) d) (sym found))
 
       pub move-none : (p : ℕ) → count ≤ k → outcome (declined 8 0) d ≡ edited d (Move n p)
       unfolding judged
@@ -93,6 +101,9 @@ module _ (d : List ℕ) (ok : valid d ≡ true) where
       unfolding judged
       move-place p u v = no (Move n p) 7 (rw (found, long, lt-ltb _ _ u, rest u, lt-leb p (count - 1) (omega arith)))
 
-      pub move-yes : (p : ℕ) → k < count → p < count → (z : List ℕ) → z ≡ laid (applied (ledgerOf d) (Move n p)) d → outcome accepted z ≡ edited d (Move n p)
+      pub move-yes : (p : ℕ) → k < count → p < count → (z : List ℕ) → z ≡ laid (record { list = relocated k p (ledgerOf d .list); last = lastOf d }) d
+          → outcome accepted z ≡ edited d (Move n p)
       unfolding judged
-      move-yes p u v = yes (Move n p) (rw (found, long, lt-ltb _ _ u, rest u, le-leb p (count - 1) (omega arith)))
+      move-yes p u v z e =
+          yes (Move n p) (rw (found, long, lt-ltb _ _ u, rest u, le-leb p (count - 1) (omega arith))) z
+          (e ∙ ap (λ (i : ℕ). laid (record { list = relocated i p (ledgerOf d .list); last = lastOf d }) d) (sym found))

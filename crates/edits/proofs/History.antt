@@ -1,25 +1,25 @@
 -- Lists of edits: what the edit functions give, one after the other, is what the ledger gives; no number is issued twice.
 -- Assumes nothing.
 use Prim.Native.Nat.{ℕ, zero, suc, _+_, _≤_, _<_}
-use mathlib.Core.Path.{_≡_, refl, sym, ap, _∙_}
+use mathlib.Core.Path.{_≡_, refl, sym, ap, ap₂, _∙_}
 use mathlib.Core.List.{List, [], _∷_}
 use mathlib.Core.Bool.{Bool, true, false, cond}
 use native.Mathlib.Omega.{arith}
 use borrow.Author.Tests.{le-leb, leb-true, ltb-true}
-use lib.ListN.{length, getD}
+use lib.ListN.{length, getD, length-map}
 use lib.Dec.{leb, ltb}
 use Rattle.rules.proofs.Cases.{and-i}
 use Rattle.image.proofs.Laid.{length-insertAt, length-removeAt}
-use Rattle.rules.specs.Shape.{shape, view}
+use Rattle.rules.specs.Shape.{shape, view, entryOf}
 use Rattle.rules.specs.declared.Numbered.{Numbered}
-use Rattle.image.specs.State.{Ledger, noNumbered, insertAt, removeAt}
+use Rattle.image.specs.State.{Ledger, rulesOf, entries, distinct, noNumbered, noEntry, insertAt, removeAt}
 use Rattle.edits.specs.Ledger.{Edit, placeOf, applied, judged, after, afterBy, afterAll, answersAll, given, issued}
 use Rattle.edits.specs.Ledger.Edit.{Add, Drop, Move}
 use Rattle.image.specs.Image.{ledgerOf, valid, Edited, Filled}
 use Rattle.edits.specs.Edits.{outcomeBy, edited, FilledEdit, outAll, imageAll}
 use Rattle.rules.specs.Refusals.{Reply, accepted, declined}
 use Rattle.image.proofs.Stored.{Each, none, more, Fine, laid-state, laid-valid, valid-fine}
-use Rattle.edits.proofs.Kept.{entries-more, entries-insert, entries-remove, entries-at, fresh, distinct-insert, distinct-remove, taken-new}
+use Rattle.edits.proofs.Kept.{entries-more, entries-insert, entries-remove, entries-at, fresh, distinct-insert, distinct-remove, taken-new, map-insert, map-remove, map-at}
 
 each-insert : (p : ℕ) (x : Numbered) {l : List Numbered} → Filled (x .rule) → Each l → Each (insertAt p x l)
 each-insert zero x f h = more f h
@@ -57,18 +57,23 @@ applied-fine g (Add r p) full f j =
     record {
       held = omega (arith, length-insertAt p x (g .list) h2);
       each =
-          entries-insert (g .last + 1) p x (g .list)
+          ap (entries (g .last + 1)) (map-insert p x (g .list))
+          ∙ entries-insert (g .last + 1) p (entryOf x) (rulesOf g)
           (and-i h1 (and-i (le-leb 1 (g .last + 1) (omega arith)) (le-leb (g .last + 1) (g .last + 1) (omega arith))))
-          (entries-more (g .last) (g .last + 1) (g .list) (omega arith) (f .each));
-      apart = distinct-insert p x (g .list) (fresh (g .last) (g .last + 1) (g .list) (omega arith) (f .each)) (f .apart);
+          (entries-more (g .last) (g .last + 1) (rulesOf g) (omega arith) (f .each));
+      apart =
+          ap distinct (map-insert p x (g .list))
+          ∙ distinct-insert p (entryOf x) (rulesOf g) (fresh (g .last) (g .last + 1) (rulesOf g) (omega arith) (f .each)) (f .apart);
       filled = each-insert p x full (f .filled);
     }
 applied-fine g (Drop n) full f j =
     let k : placeOf n (g .list) < length (g .list) = ltb-true _ _ (acc-l (ltb (placeOf n (g .list)) (length (g .list))) _ _ _ j) in
     record {
       held = omega (arith, f .held, length-removeAt (placeOf n (g .list)) (g .list) k);
-      each = entries-remove (g .last) (placeOf n (g .list)) (g .list) (f .each);
-      apart = distinct-remove (placeOf n (g .list)) (g .list) (f .apart);
+      each =
+          ap (entries (g .last)) (map-remove (placeOf n (g .list)) (g .list))
+          ∙ entries-remove (g .last) (placeOf n (g .list)) (rulesOf g) (f .each);
+      apart = ap distinct (map-remove (placeOf n (g .list)) (g .list)) ∙ distinct-remove (placeOf n (g .list)) (rulesOf g) (f .apart);
       filled = each-remove (placeOf n (g .list)) (f .filled);
     }
 applied-fine g (Move n p) full f j =
@@ -76,6 +81,10 @@ applied-fine g (Move n p) full f j =
     let k : i < length (g .list) = ltb-true _ _ (acc-l (ltb (placeOf n (g .list)) (length (g .list))) _ _ _ j) in
     let j1 = acc-r (ltb (placeOf n (g .list)) (length (g .list))) _ _ _ j in
     let q : p ≤ length (removeAt i (g .list)) = leb-true _ _ (acc-l (leb p (length (removeAt i (g .list)))) _ _ _ j1) in
+    let kept : rulesOf (applied g (Move n p)) ≡ insertAt p (getD (rulesOf g) i noEntry) (removeAt i (rulesOf g)) =
+    map-insert p (getD (g .list) i noNumbered) (removeAt i (g .list))
+    ∙ ap₂ (insertAt p) (sym (map-at i (g .list) k)) (map-remove i (g .list)) in
+    let k′ : i < length (rulesOf g) = omega (arith, length-map (g .list) entryOf) in
     record {
       held =
           omega (
@@ -85,11 +94,13 @@ applied-fine g (Move n p) full f j =
             length-insertAt p (getD (g .list) i noNumbered) (removeAt i (g .list)) q,
           );
       each =
-          entries-insert (g .last) p (getD (g .list) i noNumbered) (removeAt i (g .list)) (entries-at (g .last) i (g .list) k (f .each))
-          (entries-remove (g .last) i (g .list) (f .each));
+          ap (entries (g .last)) kept
+          ∙ entries-insert (g .last) p (getD (rulesOf g) i noEntry) (removeAt i (rulesOf g)) (entries-at (g .last) i (rulesOf g) k′ (f .each))
+          (entries-remove (g .last) i (rulesOf g) (f .each));
       apart =
-          distinct-insert p (getD (g .list) i noNumbered) (removeAt i (g .list)) (taken-new i (g .list) k (f .apart))
-          (distinct-remove i (g .list) (f .apart));
+          ap distinct kept
+          ∙ distinct-insert p (getD (rulesOf g) i noEntry) (removeAt i (rulesOf g)) (taken-new i (rulesOf g) k′ (f .apart))
+          (distinct-remove i (rulesOf g) (f .apart));
       filled = each-insert p (getD (g .list) i noNumbered) (each-at i k (f .filled)) (each-remove i (f .filled));
     }
 

@@ -1,42 +1,26 @@
 -- The edits of document 01's ledger: their refusals in order, and the state after them. Places count from 0.
 -- Assumes nothing.
 use mathlib.Core.Bool.{cond}
-use Prim.Native.Nat.{ℕ, zero, suc, _+_}
+use Prim.Native.Nat.{ℕ, suc, _+_}
 use mathlib.Core.List.{List, [], _∷_}
-use lib.ListN.{length, getD}
+use lib.ListN.{length}
 use lib.Dec.{leb, ltb, eqb}
 use Rattle.rules.specs.Limits.{maxRules, maxNumber}
 use Rattle.rules.specs.Shape.{shape, view}
 use Rattle.rules.specs.Refusals.{Reply, accepted, declined}
 use Rattle.rules.specs.declared.Rule.{Rule}
 use Rattle.rules.specs.declared.Numbered.{Numbered}
-use Rattle.image.specs.State.{Ledger, noNumbered}
+use Rattle.image.specs.State.{Ledger, insertAt, removeAt, relocated}
 
 pub data Edit : Type 0 where
   Add : Rule → ℕ → Edit
   Drop : ℕ → Edit
   Move : ℕ → ℕ → Edit
 
--- l with x put before place p
-abbrev pub insertAt {ℓ} : {A : Type ℓ} → ℕ → A → List A → List A
-insertAt zero x l = x ∷ l
-insertAt (suc p) x [] = x ∷ []
-insertAt (suc p) x (y ∷ l) = y ∷ insertAt p x l
-
--- l without what stands at place k
-abbrev pub removeAt {ℓ} : {A : Type ℓ} → ℕ → List A → List A
-removeAt k [] = []
-removeAt zero (y ∷ l) = l
-removeAt (suc k) (y ∷ l) = y ∷ removeAt k l
-
 -- the place of the rule numbered n, or the length where there is none
 abbrev pub placeOf : ℕ → List Numbered → ℕ
 placeOf n [] = 0
 placeOf n (x ∷ l) = cond (eqb (x .number) n) 0 (suc (placeOf n l))
-
--- l with what stands at place k taken out and put before place p of the remaining list
-abbrev pub relocated : ℕ → ℕ → List Numbered → List Numbered
-relocated k p l = insertAt p (getD l k noNumbered) (removeAt k l)
 
 -- the answer of an edit: Add 6, 7, 9, 10; Drop 8; Move 8, 7 (against the remaining list)
 unfoldable pub judged : Ledger → Edit → Reply
