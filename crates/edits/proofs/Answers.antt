@@ -8,7 +8,7 @@ use native.Mathlib.Omega.{arith}
 use borrow.Author.Tests.{eq-eqb, ne-eqb, le-leb, lt-leb, lt-ltb, le-ltb}
 use lib.ListN.{length, drop}
 use Rattle.image.proofs.Laid.{length-removeAt}
-use Rattle.image.specs.State.{removeAt}
+use Rattle.image.specs.State.{insertAt, removeAt, relocated}
 use Rattle.rules.specs.Limits.{maxRules, maxNumber}
 use Rattle.rules.specs.Shape.{shape, view}
 use Rattle.rules.specs.Refusals.{accepted, declined}

@@ -28,41 +28,41 @@ same-length-2 c = search needs
 returns-2 : tie.Need-returns-2
 returns-2 c = add-shape (c .before .before .before .before .before .before .args .image .now) (sym (c .before .before .before .is-ruleset .ensures) ∙ not-false _ (c .before .before .if1 .left)) (countOf (c .before .before .before .before .before .before .args .image .now)) refl (c .before .before .before .before .before .before .args .rule) (c .before .before .before .before .before .before .args .p) (sym (c .before .well-shaped .ensures) ∙ not-true _ (c .if2 .taken))
 
-two-at-requires : tie.Need-two-at-requires
-two-at-requires c κs = omega (arith, valid-long (c .before .before .before .before .before .before .before .args .image .now) (sym (c .before .before .before .before .is-ruleset .ensures) ∙ not-false _ (c .before .before .before .if1 .left)))
-
-cast-count : tie.Need-cast-count
-cast-count c = search needs
+rule-count-requires : tie.Need-rule-count-requires
+rule-count-requires c κs = valid-long (c .before .before .before .before .before .before .before .args .image .now) (sym (c .before .before .before .before .is-ruleset .ensures) ∙ not-false _ (c .before .before .before .if1 .left))
 
 same-length-3 : tie.Need-same-length-3
 same-length-3 c = search needs
 
 returns-3 : tie.Need-returns-3
-returns-3 c = add-place (c .before .before .before .before .before .before .before .before .before .args .image .now) (sym (c .before .before .before .before .before .before .is-ruleset .ensures) ∙ not-false _ (c .before .before .before .before .before .if1 .left)) _ (c .before .two-at .ensures) (c .before .before .before .before .before .before .before .before .before .args .rule) (c .before .before .before .before .before .before .before .before .before .args .p) (sym (c .before .before .before .before .well-shaped .ensures) ∙ not-false _ (c .before .before .before .if2 .left)) (c .if3 .taken)
+returns-3 c = add-place (c .before .before .before .before .before .before .before .before .before .args .image .now) (sym (c .before .before .before .before .before .before .is-ruleset .ensures) ∙ not-false _ (c .before .before .before .before .before .if1 .left)) _ (c .before .rule-count .ensures .0) (c .before .before .before .before .before .before .before .before .before .args .rule) (c .before .before .before .before .before .before .before .before .before .args .p) (sym (c .before .before .before .before .well-shaped .ensures) ∙ not-false _ (c .before .before .before .if2 .left)) (c .if3 .taken)
 
 same-length-4 : tie.Need-same-length-4
 same-length-4 c = search needs
 
 returns-4 : tie.Need-returns-4
-returns-4 c = add-full (c .before .before .before .before .before .before .before .before .before .before .args .image .now) (sym (c .before .before .before .before .before .before .before .is-ruleset .ensures) ∙ not-false _ (c .before .before .before .before .before .before .if1 .left)) _ (c .before .before .two-at .ensures) (c .before .before .before .before .before .before .before .before .before .before .args .rule) (c .before .before .before .before .before .before .before .before .before .before .args .p) (sym (c .before .before .before .before .before .well-shaped .ensures) ∙ not-false _ (c .before .before .before .before .if2 .left)) (c .before .if3 .left) (c .if4 .taken)
+returns-4 c = add-full (c .before .before .before .before .before .before .before .before .before .before .args .image .now) (sym (c .before .before .before .before .before .before .before .is-ruleset .ensures) ∙ not-false _ (c .before .before .before .before .before .before .if1 .left)) _ (c .before .before .rule-count .ensures .0) (c .before .before .before .before .before .before .before .before .before .before .args .rule) (c .before .before .before .before .before .before .before .before .before .before .args .p) (sym (c .before .before .before .before .before .well-shaped .ensures) ∙ not-false _ (c .before .before .before .before .if2 .left)) (c .before .if3 .left) (c .if4 .taken)
 
-two-at-requires-2 : tie.Need-two-at-requires-2
-two-at-requires-2 c κs = omega (arith, valid-long (c .before .before .before .before .before .before .before .before .before .before .before .args .image .now) (sym (c .before .before .before .before .before .before .before .before .is-ruleset .ensures) ∙ not-false _ (c .before .before .before .before .before .before .before .if1 .left)))
+last-issued-requires : tie.Need-last-issued-requires
+last-issued-requires c κs = valid-long (c .before .before .before .before .before .before .before .before .before .before .before .args .image .now) (sym (c .before .before .before .before .before .before .before .before .is-ruleset .ensures) ∙ not-false _ (c .before .before .before .before .before .before .before .if1 .left))
 
 same-length-5 : tie.Need-same-length-5
 same-length-5 c = search needs
 
 returns-5 : tie.Need-returns-5
-returns-5 c = add-last (c .before .before .before .before .before .before .before .before .before .before .before .before .before .args .image .now) (sym (c .before .before .before .before .before .before .before .before .before .before .is-ruleset .ensures) ∙ not-false _ (c .before .before .before .before .before .before .before .before .before .if1 .left)) _ (c .before .before .before .before .before .two-at .ensures) (c .before .before .before .before .before .before .before .before .before .before .before .before .before .args .rule) (c .before .before .before .before .before .before .before .before .before .before .before .before .before .args .p) (sym (c .before .before .before .before .before .before .before .before .well-shaped .ensures) ∙ not-false _ (c .before .before .before .before .before .before .before .if2 .left)) (c .before .before .before .before .if3 .left) (c .before .before .before .if4 .left) _ (c .before .two-at2 .ensures) (c .if5 .taken)
+returns-5 c = add-last (c .before .before .before .before .before .before .before .before .before .before .before .before .before .args .image .now) (sym (c .before .before .before .before .before .before .before .before .before .before .is-ruleset .ensures) ∙ not-false _ (c .before .before .before .before .before .before .before .before .before .if1 .left)) _ (c .before .before .before .before .before .rule-count .ensures .0) (c .before .before .before .before .before .before .before .before .before .before .before .before .before .args .rule) (c .before .before .before .before .before .before .before .before .before .before .before .before .before .args .p) (sym (c .before .before .before .before .before .before .before .before .well-shaped .ensures) ∙ not-false _ (c .before .before .before .before .before .before .before .if2 .left)) (c .before .before .before .before .if3 .left) (c .before .before .before .if4 .left) _ (c .before .last-issued .ensures) (c .if5 .taken)
+
+add-number : tie.Need-add-number
+add-number c = search needs
 
 insert-requires : tie.Need-insert-requires
-insert-requires c κs = (valid-long (c .before .before .before .before .before .before .before .before .before .before .before .before .before .before .args .image .now) (sym (c .before .before .before .before .before .before .before .before .before .before .before .is-ruleset .ensures) ∙ not-false _ (c .before .before .before .before .before .before .before .before .before .before .if1 .left)), (c .before .before .before .before .before .before .two-at .ensures, (c .before .before .two-at2 .ensures, (omega arith, (omega arith, omega arith)))))
+insert-requires c κs = (valid-long (c .before .before .before .before .before .before .before .before .before .before .before .before .before .before .args .image .now) (sym (c .before .before .before .before .before .before .before .before .before .before .before .is-ruleset .ensures) ∙ not-false _ (c .before .before .before .before .before .before .before .before .before .before .if1 .left)), (omega (arith, c .before .before .before .before .before .before .rule-count .ensures .0, c .before .before .before .before .before .if3 .left), omega (arith, c .before .before .before .before .before .before .rule-count .ensures .0, c .before .before .before .before .if4 .left)))
 
 same-length-6 : tie.Need-same-length-6
 same-length-6 c = search needs
 
 returns-6 : tie.Need-returns-6
-returns-6 c = add-yes (c .before .before .before .before .before .before .before .before .before .before .before .before .before .before .before .before .before .args .image .now) (sym (c .before .before .before .before .before .before .before .before .before .before .before .before .before .before .is-ruleset .ensures) ∙ not-false _ (c .before .before .before .before .before .before .before .before .before .before .before .before .before .if1 .left)) _ (c .before .before .before .before .before .before .before .before .before .two-at .ensures) (c .before .before .before .before .before .before .before .before .before .before .before .before .before .before .before .before .before .args .rule) (c .before .before .before .before .before .before .before .before .before .before .before .before .before .before .before .before .before .args .p) (sym (c .before .before .before .before .before .before .before .before .before .before .before .before .well-shaped .ensures) ∙ not-false _ (c .before .before .before .before .before .before .before .before .before .before .before .if2 .left)) (c .before .before .before .before .before .before .before .before .if3 .left) (c .before .before .before .before .before .before .before .if4 .left) _ (c .before .before .before .before .before .two-at2 .ensures) (c .before .before .before .before .if5 .left) _ (c .before .before .insert .ensures)
+returns-6 c = add-yes (c .before .before .before .before .before .before .before .before .before .before .before .before .before .before .before .before .before .args .image .now) (sym (c .before .before .before .before .before .before .before .before .before .before .before .before .before .before .is-ruleset .ensures) ∙ not-false _ (c .before .before .before .before .before .before .before .before .before .before .before .before .before .if1 .left)) _ (c .before .before .before .before .before .before .before .before .before .rule-count .ensures .0) (c .before .before .before .before .before .before .before .before .before .before .before .before .before .before .before .before .before .args .rule) (c .before .before .before .before .before .before .before .before .before .before .before .before .before .before .before .before .before .args .p) (sym (c .before .before .before .before .before .before .before .before .before .before .before .before .well-shaped .ensures) ∙ not-false _ (c .before .before .before .before .before .before .before .before .before .before .before .if2 .left)) (c .before .before .before .before .before .before .before .before .if3 .left) (c .before .before .before .before .before .before .before .if4 .left) _ (c .before .before .before .before .before .last-issued .ensures) (c .before .before .before .before .if5 .left) _ (c .before .before .insert .ensures)
 
 pub add-rule-spec : {M : Type 1} → statement M
 add-rule-spec =
@@ -74,15 +74,15 @@ add-rule-spec =
     well-shaped-requires
     same-length-2
     returns-2
-    two-at-requires
-    cast-count
+    rule-count-requires
     same-length-3
     returns-3
     same-length-4
     returns-4
-    two-at-requires-2
+    last-issued-requires
     same-length-5
     returns-5
+    add-number
     insert-requires
     same-length-6
     returns-6)

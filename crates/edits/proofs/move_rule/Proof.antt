@@ -18,38 +18,32 @@ same-length c = search needs
 returns : tie.Need-returns
 returns c = invalid (c .before .before .before .before .args .image .now) _ (sym (c .before .is-ruleset .ensures) ∙ not-true _ (c .if1 .taken))
 
-two-at-requires : tie.Need-two-at-requires
-two-at-requires c κs = omega (arith, valid-long (c .before .before .before .before .before .args .image .now) (sym (c .before .before .is-ruleset .ensures) ∙ not-false _ (c .before .if1 .left)))
-
-cast-count : tie.Need-cast-count
-cast-count c = search needs
-
-two-at-requires-2 : tie.Need-two-at-requires-2
-two-at-requires-2 c κs = omega (arith, valid-long (c .before .before .before .before .before .before .before .args .image .now) (sym (c .before .before .before .before .is-ruleset .ensures) ∙ not-false _ (c .before .before .before .if1 .left)))
+rule-count-requires : tie.Need-rule-count-requires
+rule-count-requires c κs = valid-long (c .before .before .before .before .before .args .image .now) (sym (c .before .before .is-ruleset .ensures) ∙ not-false _ (c .before .if1 .left))
 
 place-of-requires : tie.Need-place-of-requires
-place-of-requires c κs = (omega (arith, c .before .before .before .two-at .ensures, valid-count (c .before .before .before .before .before .before .before .before .before .args .image .now) (sym (c .before .before .before .before .before .before .is-ruleset .ensures) ∙ not-false _ (c .before .before .before .before .before .if1 .left))), valid-long (c .before .before .before .before .before .before .before .before .before .args .image .now) (sym (c .before .before .before .before .before .before .is-ruleset .ensures) ∙ not-false _ (c .before .before .before .before .before .if1 .left)))
+place-of-requires c κs = (omega (arith, c .before .rule-count .ensures .0, valid-count (c .before .before .before .before .before .before .before .args .image .now) (sym (c .before .before .before .before .is-ruleset .ensures) ∙ not-false _ (c .before .before .before .if1 .left))), valid-long (c .before .before .before .before .before .before .before .args .image .now) (sym (c .before .before .before .before .is-ruleset .ensures) ∙ not-false _ (c .before .before .before .if1 .left)))
 
 same-length-2 : tie.Need-same-length-2
 same-length-2 c = search needs
 
 returns-2 : tie.Need-returns-2
-returns-2 c = move-none (c .before .before .before .before .before .before .before .before .before .before .before .args .image .now) (sym (c .before .before .before .before .before .before .before .before .is-ruleset .ensures) ∙ not-false _ (c .before .before .before .before .before .before .before .if1 .left)) _ (c .before .before .before .before .before .two-at .ensures) (c .before .before .before .before .before .before .before .before .before .before .before .args .number) _ (c .before .place-of .ensures) (c .before .before .before .before .before .before .before .before .before .before .before .args .p) (c .if2 .taken)
+returns-2 c = move-none (c .before .before .before .before .before .before .before .before .before .args .image .now) (sym (c .before .before .before .before .before .before .is-ruleset .ensures) ∙ not-false _ (c .before .before .before .before .before .if1 .left)) _ (c .before .before .before .rule-count .ensures .0) (c .before .before .before .before .before .before .before .before .before .args .number) _ (c .before .place-of .ensures) (c .before .before .before .before .before .before .before .before .before .args .p) (c .if2 .taken)
 
 same-length-3 : tie.Need-same-length-3
 same-length-3 c = search needs
 
 returns-3 : tie.Need-returns-3
-returns-3 c = move-place (c .before .before .before .before .before .before .before .before .before .before .before .before .args .image .now) (sym (c .before .before .before .before .before .before .before .before .before .is-ruleset .ensures) ∙ not-false _ (c .before .before .before .before .before .before .before .before .if1 .left)) _ (c .before .before .before .before .before .before .two-at .ensures) (c .before .before .before .before .before .before .before .before .before .before .before .before .args .number) _ (c .before .before .place-of .ensures) (c .before .before .before .before .before .before .before .before .before .before .before .before .args .p) (c .before .if2 .left) (c .if3 .taken)
+returns-3 c = move-place (c .before .before .before .before .before .before .before .before .before .before .args .image .now) (sym (c .before .before .before .before .before .before .before .is-ruleset .ensures) ∙ not-false _ (c .before .before .before .before .before .before .if1 .left)) _ (c .before .before .before .before .rule-count .ensures .0) (c .before .before .before .before .before .before .before .before .before .before .args .number) _ (c .before .before .place-of .ensures) (c .before .before .before .before .before .before .before .before .before .before .args .p) (c .before .if2 .left) (c .if3 .taken)
 
 relocate-requires : tie.Need-relocate-requires
-relocate-requires c κs = (valid-long (c .before .before .before .before .before .before .before .before .before .before .before .before .before .args .image .now) (sym (c .before .before .before .before .before .before .before .before .before .before .is-ruleset .ensures) ∙ not-false _ (c .before .before .before .before .before .before .before .before .before .if1 .left)), (c .before .before .before .before .before .before .before .two-at .ensures, (c .before .before .before .before .before .two-at2 .ensures, (omega arith, (omega (arith, c .before .before .before .before .before .before .before .two-at .ensures, valid-count (c .before .before .before .before .before .before .before .before .before .before .before .before .before .args .image .now) (sym (c .before .before .before .before .before .before .before .before .before .before .is-ruleset .ensures) ∙ not-false _ (c .before .before .before .before .before .before .before .before .before .if1 .left))), (omega arith, c .before .before .before .place-of .ensures))))))
+relocate-requires c κs = (valid-long (c .before .before .before .before .before .before .before .before .before .before .before .args .image .now) (sym (c .before .before .before .before .before .before .before .before .is-ruleset .ensures) ∙ not-false _ (c .before .before .before .before .before .before .before .if1 .left)), (omega (arith, c .before .before .before .before .before .rule-count .ensures .0, c .before .before .if2 .left), (omega (arith, c .before .before .before .before .before .rule-count .ensures .0, c .before .if3 .left), valid-count (c .before .before .before .before .before .before .before .before .before .before .before .args .image .now) (sym (c .before .before .before .before .before .before .before .before .is-ruleset .ensures) ∙ not-false _ (c .before .before .before .before .before .before .before .if1 .left)))))
 
 same-length-4 : tie.Need-same-length-4
 same-length-4 c = search needs
 
 returns-4 : tie.Need-returns-4
-returns-4 c = move-yes (c .before .before .before .before .before .before .before .before .before .before .before .before .before .before .before .before .args .image .now) (sym (c .before .before .before .before .before .before .before .before .before .before .before .before .before .is-ruleset .ensures) ∙ not-false _ (c .before .before .before .before .before .before .before .before .before .before .before .before .if1 .left)) _ (c .before .before .before .before .before .before .before .before .before .before .two-at .ensures) (c .before .before .before .before .before .before .before .before .before .before .before .before .before .before .before .before .args .number) _ (c .before .before .before .before .before .before .place-of .ensures) (c .before .before .before .before .before .before .before .before .before .before .before .before .before .before .before .before .args .p) (c .before .before .before .before .before .if2 .left) (c .before .before .before .before .if3 .left) _ (c .before .before .relocate .ensures)
+returns-4 c = move-yes (c .before .before .before .before .before .before .before .before .before .before .before .before .before .before .args .image .now) (sym (c .before .before .before .before .before .before .before .before .before .before .before .is-ruleset .ensures) ∙ not-false _ (c .before .before .before .before .before .before .before .before .before .before .if1 .left)) _ (c .before .before .before .before .before .before .before .before .rule-count .ensures .0) (c .before .before .before .before .before .before .before .before .before .before .before .before .before .before .args .number) _ (c .before .before .before .before .before .before .place-of .ensures) (c .before .before .before .before .before .before .before .before .before .before .before .before .before .before .args .p) (c .before .before .before .before .before .if2 .left) (c .before .before .before .before .if3 .left) _ (c .before .before .relocate .ensures)
 
 pub move-rule-spec : {M : Type 1} → statement M
 move-rule-spec =
@@ -58,9 +52,7 @@ move-rule-spec =
     is-ruleset-requires
     same-length
     returns
-    two-at-requires
-    cast-count
-    two-at-requires-2
+    rule-count-requires
     place-of-requires
     same-length-2
     returns-2
