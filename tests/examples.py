@@ -8,23 +8,28 @@ import sys
 HERE = os.path.dirname(os.path.abspath(__file__))
 sys.path.insert(0, os.path.join(HERE, "..", "tools"))
 
-import frames
+import inputs
+import programs
 import reference as ref
+import ruletext
 
 
 def example(name):
-    with open(os.path.join(HERE, "..", "examples", name), encoding="utf-8") as file:
-        return file.read()
+    return inputs.read_bytes(programs.example(name))
+
+
+def example_text(name):
+    return inputs.read_text(programs.example(name))
 
 
 def main():
     check = ref.Check()
     alphabets = {}
     for name in ("six", "basque"):
-        alphabets[name], rules = frames.read_rules(example(name + ".rules"))
-        check.equal(name + ".hex is its source's", example(name + ".hex"), frames.rule_file(rules))
-    check.equal("six.hex", example("six.hex").encode(), ref.SIX_FILE)
-    rs = ref.read_file(example("basque.hex").encode())
+        alphabets[name], rules = ruletext.read_rules(example_text(name + ".rules"), name)
+        check.equal(name + ".hex is its source's", example(name + ".hex"), ruletext.rule_file(rules))
+    check.equal("six.hex", example("six.hex"), ref.SIX_FILE)
+    rs = ref.read_file(example("basque.hex"))
     check.equal("basque.hex is a ruleset", isinstance(rs, ref.Ruleset), True)
     check.equal("100 rules or more", len(rs.rules) >= 100, True)
     for letter in sorted(set(alphabets["basque"].letters.values())):
@@ -32,7 +37,7 @@ def main():
         check.equal(f"letter {letter:02X} alone is spoken", isinstance(alone, ref.Spoken), True)
     words, sets = ref.build(rs, ref.SAY_WORDS, ref.SAY_SETS)
     applied = set()
-    for line in example("basque.names").splitlines():
+    for line in example_text("basque.names").splitlines():
         name, _, rest = line.partition(";")
         if not name.strip():
             continue

@@ -26,124 +26,20 @@ Numbers are decimal or 0x hexadecimal. All that is not lent by name=N is lent wh
 """
 
 import argparse
-import inspect
-import os
+import contextlib
 import re
 import subprocess
 import sys
-import tempfile
 
+import commands
 import frames
-from frames import Mistake, four, two
+import inputs
+import programs
+import ruletext
+from frames import number_of
+from inputs import Failure, Mistake
 
-ALL = 0xFFFFFFFF
-
-
-def number(text, bits):
-    try:
-        value = int(text, 0)
-    except ValueError:
-        raise Mistake(f"'{text}' is no number") from None
-    if not 0 <= value < 1 << bits:
-        raise Mistake(f"{text} does not fit into {bits // 8} bytes")
-    return value
-
-
-def lent_of(typed, **defaults):
-    """Takes name=N out of what was typed: (the rest, the lent lengths in the defaults' order)."""
-    rest, lent = [], dict(defaults)
-    for word in typed:
-        name, equals, value = word.partition("=")
-        if equals and name in lent:
-            lent[name] = number(value, 32 if defaults[name] == ALL else 16)
-        else:
-            rest.append(word)
-    return rest, list(lent.values())
-
-
-class Commands:
-    """One method a command: its words to the bytes of its frame."""
-
-    def __init__(self, alphabet):
-        self.alphabet = alphabet
-
-    def add(self, place, *rule):
-        rule = frames.rule_of(" ".join(rule), self.alphabet)
-        if max(map(len, rule)) > 255:
-            raise Mistake("a length has one byte")
-        return b"\x10" + two(number(place, 16)) + bytes(map(len, rule)) + b"".join(rule)
-
-    def drop(self, which):
-        return b"\x11" + two(number(which, 16))
-
-    def move(self, which, place):
-        return b"\x12" + two(number(which, 16)) + two(number(place, 16))
-
-    def read(self):
-        return b"\x13"
-
-    def write(self, *typed):
-        _, (room,) = self.only_lent(typed, bytes=ALL)
-        return b"\x14" + four(room)
-
-    def build(self, *typed):
-        _, (room, set_room) = self.only_lent(typed, words=ALL, sets=ALL)
-        return b"\x15" + four(room) + four(set_room)
-
-    def say(self, *typed):
-        name, (room, set_room, phones, numbers) = lent_of(typed, words=ALL, sets=ALL, phones=256, numbers=64)
-        return (b"\x16" + four(room) + four(set_room) + two(phones) + two(numbers)
-                + self.alphabet.name(" ".join(name)))
-
-    def plain(self, *typed):
-        name, (phones, numbers) = lent_of(typed, phones=256, numbers=64)
-        return b"\x17" + two(phones) + two(numbers) + self.alphabet.name(" ".join(name))
-
-    def store(self, what, index, value):
-        if what == "word":
-            return b"\x18" + four(number(index, 32)) + two(number(value, 16))
-        if what == "set":
-            return b"\x19" + four(number(index, 32)) + number(value, 64).to_bytes(8, "big")
-        raise Mistake("store word or store set")
-
-    def show(self, what, *words):
-        if what in ("phones", "numbers") and not words:
-            return b"\x1C" if what == "phones" else b"\x1D"
-        if what in ("words", "sets") and len(words) == 2:
-            kind = b"\x1A" if what == "words" else b"\x1B"
-            return kind + four(number(words[0], 32)) + bytes([number(words[1], 8)])
-        raise Mistake("show words INDEX COUNT, show sets INDEX COUNT, show phones or show numbers")
-
-    def force(self, place, which, count, last):
-        return b"\x1E" + b"".join(two(number(field, 16)) for field in (place, which, count, last))
-
-    def clear(self):
-        return b"\x1F"
-
-    def frame(self, *words):
-        return frames.phone_bytes(" ".join(words))
-
-    def only_lent(self, typed, **defaults):
-        rest, lent = lent_of(typed, **defaults)
-        if rest:
-            raise Mistake(f"unknown: {' '.join(rest)}")
-        return rest, lent
-
-
-def line_for(text, alphabet):
-    """The line that a text command stands for."""
-    word, *rest = text.split()
-    if word == "line":
-        return text.partition("line")[2].strip() + "\n"
-    known = [name for name in vars(Commands) if not name.startswith("_") and name != "only_lent"]
-    if word not in known:
-        raise Mistake(f"unknown command {word}: see help")
-    call = getattr(Commands(alphabet), word)
-    try:
-        inspect.signature(call).bind(*rest)
-    except TypeError:
-        raise Mistake(f"{word} has other fields: see help") from None
-    return frames.frame(call(*rest))
+GREETING = "help lists the commands; Ctrl-D ends."
 
 
 def shown_text(command, data):
@@ -151,7 +47,7 @@ def shown_text(command, data):
     kind = command[0]
     width = {0x1A: 2, 0x1B: 8, 0x1C: 1, 0x1D: 2}.get(kind, 1)
     each = {1: 16, 2: 16, 8: 4}[width]
-    start = int.from_bytes(command[1:5], "big") if kind in (0x1A, 0x1B) else 0
+    start = number_of(command[1:5]) if kind in (0x1A, 0x1B) else 0
     items = [data[k:k + width].hex().upper() for k in range(0, len(data), width)]
     alike = len(items)      # where the run of equal items at the end begins, if it is worth a line of its own
     while alike > 0 and items[alike - 1] == items[-1]:
@@ -167,9 +63,9 @@ def answer_text(sent, answer, alphabet):
     body = frames.body_of(answer)
     try:
         command = frames.body_of(sent)
-    except Mistake:
+    except Failure:                     # an unsound line was sent on purpose
         command = b"\0"
-    fields = [int.from_bytes(body[k:k + 2], "big") for k in range(1, len(body), 2)]
+    fields = [number_of(body[k:k + 2]) for k in range(1, len(body), 2)]
     if body[0] == 0x06 and len(fields) == 2:
         lefts, rights = fields
         states = lefts + rights
@@ -181,82 +77,89 @@ def answer_text(sent, answer, alphabet):
     return frames.answer_text(answer, alphabet)
 
 
-def repeated(text):
-    """(times, command)."""
-    word, _, rest = text.partition(" ")
-    times, _, command = rest.strip().partition(" ")
-    return (number(times, 16), command.strip()) if word == "repeat" and command else (1, text)
-
-
 def converse(child, text, alphabet):
     """Sends one command and reads its whole answer: of a file, as many lines as its head says."""
-    sent = line_for(text, alphabet)
-    child.stdin.write(sent)
-    child.stdin.flush()
-    answer = child.stdout.readline()
-    if not answer:
-        raise EOFError
-    if not answer.startswith("01"):
+    sent = commands.line_for(text, alphabet)
+    try:
+        child.stdin.write(sent)
+        child.stdin.flush()
+    except BrokenPipeError:
+        with contextlib.suppress(BrokenPipeError):
+            child.stdin.close()         # drops what could not be sent
+        raise Failure("the program has ended") from None
+    answer = answer_line(child)
+    if not answer.startswith(b"01"):
         return answer_text(sent, answer, alphabet)
-    count = int.from_bytes(frames.body_of(answer)[2:4], "big")
-    return (answer + "".join(child.stdout.readline() for _ in range(count))).rstrip("\n")
+    count = number_of(frames.body_of(answer)[2:4])
+    return (answer + b"".join(answer_line(child) for _ in range(count))).decode().rstrip("\n")
 
 
-def commands_in(stream):
-    """Commands as typed; what comes from a pipe is shown, so that the output reads as a conversation."""
-    typed = stream.isatty()
-    while True:
-        if typed:
-            print("> ", end="", flush=True)
-        line = stream.readline()
-        if not line:
-            return
-        line = line.split(";")[0].strip()
-        if line and not typed:
-            print(f"> {line}")
-        if line == "help":
-            print(re.sub(r"(?s)\n    python3.*", "", __doc__.partition("\n\n")[2]))
-        elif line == "quit":
-            return
-        elif line:
-            yield line
+def answer_line(child):
+    line = child.stdout.readline()
+    if not line:
+        raise Failure("the program has ended")
+    return line
 
 
-def talk(folder, program, alphabet):
-    with subprocess.Popen(program, cwd=folder, text=True, stdin=subprocess.PIPE, stdout=subprocess.PIPE) as child:
-        for text in commands_in(sys.stdin):
+def obey(child, text, alphabet):
+    """One command as typed, to its last answer."""
+    if text == "help":
+        return re.sub(r"(?s)\n    python3.*", "", __doc__.partition("\n\n")[2])
+    times, command = commands.repeated(text)
+    answers = [converse(child, command, alphabet) for _ in range(times)]
+    return answers[-1] if answers else ""
+
+
+def talk(child, alphabet):
+    """Commands to their answers. What comes from a pipe is shown, so that the output reads as a conversation.
+
+    The exit status: a mistake at the terminal is mended there, one in a pipe is told at the end too.
+    """
+    status = 0
+    for number, line in inputs.input_lines(GREETING):
+        try:
+            text = inputs.decoded_line(number, line)
+            if text and not inputs.at_terminal():
+                print(f"> {text}")
+            if text == "quit":
+                break
+            if text:
+                print(obey(child, text, alphabet), flush=True)
+        except Failure:
+            raise
+        except Mistake as mistake:
+            print(f"monitor: {mistake}", flush=True)
+            status = Mistake.status
+    return 0 if inputs.at_terminal() else status
+
+
+def print_frames(alphabet):
+    for number, line in inputs.input_lines(GREETING):
+        text = inputs.decoded_line(number, line)
+        if text:
             try:
-                times, command = repeated(text)
-                answers = [converse(child, command, alphabet) for _ in range(times)]
-                print(*answers[-1:], flush=True)
+                times, command = commands.repeated(text)
+                sys.stdout.buffer.write(times * commands.line_for(command, alphabet))
             except Mistake as mistake:
-                print(f"monitor: {mistake}", flush=True)
-            except (EOFError, BrokenPipeError):
-                sys.exit("monitor: the program has ended")
-        child.stdin.close()
+                raise Mistake(f"standard input: line {number}: {mistake}") from None
 
 
 def main():
-    parser = argparse.ArgumentParser(description=__doc__, formatter_class=argparse.RawDescriptionHelpFormatter)
-    parser.add_argument("--rules", help="what `read` finds: a rule file or a readable text (default: the folder's rules.hex)")
-    parser.add_argument("--program", default=frames.program("monitor"), help="default: target/bin/monitor")
+    parser = argparse.ArgumentParser(description=__doc__, epilog=inputs.STATUSES,
+                                     formatter_class=argparse.RawDescriptionHelpFormatter)
+    parser.add_argument("--rules", metavar="FILE", help="what `read` finds: a rule file, NAME.hex, or readable rules "
+                                                        "(tools/rules2hex.py --help); default: the folder's rules.hex")
+    parser.add_argument("--program", metavar="PATH", help="what to run; default: target/bin/monitor")
     parser.add_argument("--frames", action="store_true", help="print each command's line, start no program")
     given = parser.parse_args()
-    alphabet, rule_file = frames.load_rules(given.rules) if given.rules else (frames.Alphabet(), None)
+    alphabet, rule_file = ruletext.load_rules(given.rules) if given.rules else (ruletext.Alphabet(), None)
     if given.frames:
-        for text in sys.stdin:
-            text = text.split(";")[0].strip()
-            if text:
-                times, command = repeated(text)
-                sys.stdout.write(times * line_for(command, alphabet))
-        return
-    program = frames.command(given.program)
-    with tempfile.TemporaryDirectory() as folder:
-        if rule_file is not None:
-            with open(os.path.join(folder, "rules.hex"), "w", encoding="ascii") as file:
-                file.write(rule_file)
-        talk(folder if rule_file is not None else None, program, alphabet)
+        return print_frames(alphabet)
+    command = programs.command(given.program, "monitor")
+    with programs.folder_with(rule_file) if given.rules else contextlib.nullcontext() as folder:
+        with subprocess.Popen(command, cwd=folder, stdin=subprocess.PIPE, stdout=subprocess.PIPE) as child:
+            return talk(child, alphabet)
 
 
 if __name__ == "__main__":
-    frames.run(main, "monitor")
+    inputs.run(main, "monitor")

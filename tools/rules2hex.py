@@ -12,16 +12,21 @@ phones are hexadecimal, ; starts a comment. 'letter 1B ñ' names a letter of the
 import argparse
 import sys
 
-import frames
+import inputs
+import ruletext
 
 
 def main():
-    parser = argparse.ArgumentParser(description=__doc__, formatter_class=argparse.RawDescriptionHelpFormatter)
+    parser = argparse.ArgumentParser(description=__doc__, epilog=inputs.STATUSES,
+                                     formatter_class=argparse.RawDescriptionHelpFormatter)
     parser.add_argument("rules", help="the readable rules, - for standard input")
     given = parser.parse_args()
-    text = sys.stdin.read() if given.rules == "-" else frames.read_text(given.rules)
-    sys.stdout.write(frames.rule_file(frames.read_rules(text)[1]))
+    if given.rules == "-":
+        _, rules = ruletext.read_rules(inputs.read_input(), "standard input")
+    else:
+        _, rules = ruletext.read_rules(inputs.read_text(given.rules), given.rules)
+    sys.stdout.buffer.write(ruletext.rule_file(rules))
 
 
 if __name__ == "__main__":
-    frames.run(main, "rules2hex")
+    inputs.run(main, "rules2hex")

@@ -1,0 +1,244 @@
+#!/usr/bin/env python3
+"""The tools from outside, on good and bad input and from another folder, with the programs in target/bin.
+
+    python3 tests/tools.py
+
+Ends with a message at the first difference.
+"""
+
+import os
+import pty
+import shutil
+import subprocess
+import sys
+import tempfile
+import termios
+
+ROOT = os.path.dirname(os.path.dirname(os.path.realpath(__file__)))
+SAY = os.path.join(ROOT, "target", "bin", "say")
+KNEE, NAB = "knee -> 6E 69 by rules 1 6 4, 10 steps\n", "nab -> refused 3 at 2: no rule fits the letter at that position\n"
+UNSOUND = "a line is missing, not ended, or not sound"
+PROVING = "Proving and building `say` from its sources. This is done once and takes some minutes.\n"
+
+
+def example(name):
+    with open(os.path.join(ROOT, "examples", name), "rb") as file:
+        return file.read()
+
+
+SIX = example("six.hex")
+FILES = {       # in the folder that the tools are called in
+    "six.hex": SIX,
+    "rules.hex": SIX,
+    "six.rules": example("six.rules"),
+    "crlf.hex": SIX.replace(b"\n", b"\r\n"),
+    "lower.hex": SIX.lower(),
+    "latin.hex": SIX.replace(b"0B", b"\xE7B"),
+    "unended.hex": SIX[:-1],
+    "long.hex": SIX.ljust(32_769, b"\n"),
+    "longest.hex": SIX.ljust(32_768, b"\n"),
+    "empty.hex": b"",
+    "sum.hex": SIX.replace(b"F2", b"F3"),
+    "large.rules": "".join(f"[{a}{b}] = 61\n" for a in "abcdefghijklmnopqrs" for b in "abcdefghijklmnopqrstuvwxyz").encode(),
+    "source.rules": b"[k] = 6B\n[e] = \xE7",
+    "beside.hex": SIX,
+    "beside.rules": b"letter 1B \xE7\n",
+    "latin.names": b"knee\r\nna\xE7\r\n",
+    "some.names": "\ufeffknee  ; a joint\r\n\r\n; nothing\r\nnab\r\n".encode(),
+    "none.names": b"; none\n",
+}
+
+
+class Tools:
+    """Runs the tools of one copy of the project in a folder."""
+
+    def __init__(self, root, folder, path=os.environ["PATH"]):
+        self.root, self.folder, self.passed = root, folder, 0
+        self.environment = {**os.environ, "PATH": path, "PYTHONDONTWRITEBYTECODE": "1", "PYTHONUTF8": "1"}
+
+    def command(self, words):
+        name, *rest = words
+        return [sys.executable, os.path.join(self.root, "tools", name), *rest]
+
+    def run(self, words, given=b""):
+        done = subprocess.run(self.command(words), cwd=self.folder, env=self.environment, input=given, capture_output=True)
+        return done.returncode, done.stdout.decode(), done.stderr.decode()
+
+    def at_terminal(self, words, typed):
+        """The same with a terminal for all three; it does not repeat what is typed."""
+        here, there = pty.openpty()
+        attributes = termios.tcgetattr(there)
+        attributes[3] &= ~termios.ECHO
+        termios.tcsetattr(there, termios.TCSANOW, attributes)
+        with subprocess.Popen(self.command(words), cwd=self.folder, env=self.environment,
+                              stdin=there, stdout=there, stderr=there) as child:
+            os.close(there)
+            os.write(here, typed)
+            shown = b""
+            try:
+                while data := os.read(here, 4096):
+                    shown += data
+            except OSError:         # so Linux says that the other end is closed
+                pass
+        os.close(here)
+        return child.returncode, shown.decode().replace("\r\n", "\n")
+
+    def expect(self, words, status, out="", err="", given=b""):
+        self.compare(words, self.run(words, given), (status, out, err))
+
+    def compare(self, what, got, wanted):
+        if got != wanted:
+            sys.exit(f"FAILED {what}\n   got {got!r}\nwanted {wanted!r}")
+        self.passed += 1
+
+
+def names(tools):
+    tools.expect(["speak.py", "knee", "nab"], 0, KNEE + NAB)
+    tools.expect(["speak.py"], 0, KNEE + NAB, given=b"knee\nnab\n")
+    tools.expect(["speak.py"], 0)
+    tools.expect(["speak.py", "--names", "some.names"], 0, KNEE + NAB)
+    tools.expect(["speak.py", "--names", "none.names"], 0, given=b"knee\n")
+    tools.expect(["speak.py", "--names", "latin.names"], 2, err="speak: latin.names: line 2, column 3: byte E7 is not UTF-8\n")
+    tools.expect(["speak.py"], 2, err="speak: standard input: line 2, column 3: byte E7 is not UTF-8\n", given=FILES["latin.names"])
+    tools.expect(["speak.py", "--names", "missing"], 2, err="speak: missing: No such file or directory\n")
+    tools.expect(["speak.py", "--names", "."], 2, err="speak: .: Is a directory\n")
+    cedilla = "no letter for 'ç' (U+00E7 LATIN SMALL LETTER C WITH CEDILLA)\n"
+    tools.expect(["speak.py", "ça", "knee"], 2, "ça -> not sent: " + cedilla + KNEE)
+    tools.expect(["speak.py", "a\tb"], 2, "a\tb -> not sent: no letter for U+0009\n")
+    tools.expect(["speak.py", b"\xE7"], 2, "\\udce7 -> not sent: no letter for the byte E7, which is not UTF-8\n")
+    tools.expect(["speak.py", "\\40"], 0, "\\40 -> refused 1 at 0: a byte of the name is no letter\n")
+    # `say` takes 32,768 bytes: 2,519 lines of 13 bytes and one of 21 are just that; 2,520 and one of 9 are a byte more.
+    for count, last, said in [(2519, b"kkkkkkkk", "kkkkkkkk -> 6B 6B 6B 6B 6B 6B 6B 6B by rules 2 2 2 2 2 2 2 2, 18 steps\n"),
+                              (2520, b"kk", "kk -> 6B 6B by rules 2 2, 6 steps\n")]:
+        tools.expect(["speak.py"], 0, (KNEE * count + said) * 2, given=(b"knee\n" * count + last + b"\n") * 2)
+    long = "k" * 16_382
+    tools.expect(["speak.py"], 2, f"{long} -> not sent: its line has 32,769 bytes, `say` takes 32,768\n", given=long.encode())
+    tools.expect(["speak.py"], 0, f"{long[1:]} -> refused 2 at 0: the name has more than 64 letters\n", given=long[1:].encode())
+
+
+def rule_files(tools):
+    for rules in ("six.hex", "six.rules", os.path.join("..", os.path.basename(tools.folder), "six.hex")):
+        tools.expect(["speak.py", "--rules", rules, "knee"], 0, KNEE)
+    for name, fault in [
+            ("crlf.hex", f"refused 13 at 0: {UNSOUND} (line 1, column 15: byte 0D, but a line ends in 0A alone)"),
+            ("lower.hex", f"refused 13 at 0: {UNSOUND} (line 1, column 13: byte 66 is none of the digits 0-9 and A-F)"),
+            ("latin.hex", f"refused 13 at 15: {UNSOUND} (line 2, column 17: byte E7 is none of the digits 0-9 and A-F)"),
+            ("unended.hex", f"refused 13 at 124: {UNSOUND} (line 7, not ended by 0A)"),
+            ("empty.hex", f"refused 13 at 0: {UNSOUND} (line 1, missing)"),
+            ("sum.hex", f"refused 13 at 0: {UNSOUND} (line 1, sum not zero)"),
+            ("long.hex", f"refused 13 at 32768: {UNSOUND} (the file has 32,769 bytes, `say` takes 32,768)"),
+            ("longest.hex", "refused 14 at 145: a sound line breaks the file's form (line 8, under 2 bytes)"),
+            # 19 times 26 targets: 1 left state; right the empty string, 26 letters and 494 targets.
+            ("large.rules", "refused 11 at 33410: too few words for the tables (they need 33,410, `say` has 32,768)"),
+            ("missing.hex", "No such file or directory"),
+            ("missing.rules", "No such file or directory"),
+            (".", "Is a directory"),
+            ("source.rules", "line 2, column 7: byte E7 is not UTF-8")]:
+        tools.expect(["speak.py", "--rules", name, "knee"], 2, err=f"speak: {name}: {fault}\n")
+    tools.expect(["speak.py", "--rules", "beside.hex", "e"], 2, err="speak: beside.rules: line 1, column 11: byte E7 is not UTF-8\n")
+    if os.geteuid():        # the superuser may read all
+        os.chmod(os.path.join(tools.folder, "six.hex"), 0)
+        tools.expect(["speak.py", "--rules", "six.hex", "knee"], 2, err="speak: six.hex: Permission denied\n")
+        os.chmod(os.path.join(tools.folder, "six.hex"), 0o600)
+
+
+def readable_rules(tools):
+    tools.expect(["rules2hex.py", "six.rules"], 0, SIX.decode())
+    tools.expect(["rules2hex.py", "-"], 0, SIX.decode(), given=FILES["six.rules"].replace(b"\n", b"\r\n"))
+    tools.expect(["rules2hex.py", "source.rules"], 2, err="rules2hex: source.rules: line 2, column 7: byte E7 is not UTF-8\n")
+    tools.expect(["rules2hex.py", "missing"], 2, err="rules2hex: missing: No such file or directory\n")
+    for text, place, fault in [
+            ("[k] = 6B\n [e] = 6\n", "line 2, column 8", "'6' is not bytes in hexadecimal, two digits each"),
+            ("; one\n[k] 6B", "line 2, column 1", "a rule has one =, before its phones"),
+            ("[k] = 6B = 6B", "line 1, column 10", "a rule has one =, before its phones"),
+            ("[k = 6B", "line 1, column 1", "write left [target] right = phones"),
+            ("( [ e e ] = 69 )\n( [ k ]\n  7 = 6B )", "line 3, column 3", "no letter for '7'"),
+            ("( [ e ] = 69\n( [ k ] = 6B )", "line 1, column 1", "no closing parenthesis"),
+            ("()", "line 1, column 2", "a rule has one =, before its phones"),
+            ("n\u0303", "line 1, column 1", "a rule has one =, before its phones"),
+            ("n\u0303 [k] = 6B", "line 1, column 1", "no letter for 'ñ' (U+00F1 LATIN SMALL LETTER N WITH TILDE)"),
+            ("e [kkkkk] = 6B", "line 1, column 4", "at most 4 in the target, not 5"),
+            ("e [] = 6B", "line 1, column 4", "the target is empty"),
+            ("[k]  #e = 6B", "line 1, column 6", "# may stand only first in a left context or last in a right one"),
+            ("[k] \\40 = 6B", "line 1, column 5", "letters are 01 to 3F"),
+            ("[k] = 6B 00", "line 1, column 7", "phones are 01 to FF"),
+            ("letter 40 x", "line 1, column 8", "'40' is no byte from 01 to 3F"),
+            ("letter 1B xy", "line 1, column 11", "a letter is one character, not 'xy'"),
+            ("phone 69", "line 1, column 1", "write phone, a byte, its text"),
+            ("[k] = 6B\n" * 513, "line 513, column 1", "at most 512 rules")]:
+        tools.expect(["rules2hex.py", "-"], 2, err=f"rules2hex: standard input: {place}: {fault}\n", given=text.encode())
+
+
+def monitor(tools):
+    tools.expect(["monitor.py", "--rules", "six.hex"], 0, "> read\ndone, last 6\n> plain e\nnothing by rule 3, 0 steps\n> quit\n",
+                 given=b"read ; all\n\nplain e\nquit\nread\n")
+    tools.expect(["monitor.py"], 0, "> read\ndone, last 6\n", given=b"read\n")
+    tools.expect(["monitor.py", "--rules", "crlf.hex"], 0, f"> read\nrefused 13 at 0: {UNSOUND}\n", given=b"read\n")
+    tools.expect(["monitor.py"], 2, "monitor: standard input: line 1, column 5: byte E7 is not UTF-8\n> clear\ndone\n",
+                 given=b"say \xE7\nclear\n")
+    tools.expect(["monitor.py"], 2, "> say 7\nmonitor: no letter for '7'\n", given=b"say 7\n")
+    tools.expect(["monitor.py", "--rules", "missing.hex"], 2, err="monitor: missing.hex: No such file or directory\n")
+    tools.expect(["monitor.py", "--program", "true one"], 1, "> read\n", "monitor: the program has ended\n", given=b"read\n")
+    tools.expect(["monitor.py", "--frames"], 2, "1FE1\n", "monitor: standard input: line 2: unknown command fly: see help\n",
+                 given=b"clear\nfly\n")
+
+
+def terminal(tools):
+    words = ["try", "--program", SAY]
+    tools.compare("prompt", tools.at_terminal(words, b"knee\n\nn\xE7\n7\nnab ; no\n\x04"), (
+        0, f"Names, one a line; Ctrl-D ends.\n> {KNEE}> > standard input: line 3, column 2: byte E7 is not UTF-8\n"
+           f"> 7 -> not sent: no letter for '7'\n> {NAB}> \n"))
+    tools.compare("no prompt", tools.at_terminal(words + ["knee"], b""), (0, KNEE))
+    tools.compare("rules before prompt", tools.at_terminal(words + ["--rules", "empty.hex"], b"\x04"), (
+        2, f"try: empty.hex: refused 13 at 0: {UNSOUND} (line 1, missing)\n"))
+    tools.compare("monitor's prompt", tools.at_terminal(["monitor.py"], b"clear\nfly\n\x04"), (
+        0, "help lists the commands; Ctrl-D ends.\n> done\n> monitor: unknown command fly: see help\n> \n"))
+
+
+def proving(folder):
+    """tools/try in a copy of the project, with an `rt` that proves nothing."""
+    root, bin_folder = os.path.join(folder, "project"), os.path.join(folder, "bin")
+    for part in ("tools", "examples"):
+        shutil.copytree(os.path.join(ROOT, part), os.path.join(root, part))
+    os.mkdir(bin_folder)
+    tools = Tools(root, folder, bin_folder)
+    built = os.path.join(root, "target", "bin", "say")
+    tools.expect(["speak.py", "knee"], 2, err=f"speak: no program at {built}: `rt check say` in {root} proves and builds it, "
+                                              "or name one with --program\n")
+    tools.expect(["try", "--rules", "missing.hex"], 2, err="try: missing.hex: No such file or directory\n")
+    tools.expect(["try", "knee"], 2, err="try: `rt`, the Rattle toolchain, is not on the PATH; tools/speak.py needs none where "
+                                         f"{built} was built before\n")
+    status, _, _ = tools.run(["try", "--help"])
+    tools.compare("help needs no proof", status, 0)
+    write_rt(bin_folder, "echo 'note'; echo 'rt: refused'; exit 3")
+    tools.expect(["try", "knee"], 1, err=PROVING + "rt: refused\nnote\nrt: refused\ntry: `say` is not proved: rt check ended with 3\n")
+    write_rt(bin_folder, "exit 0")
+    tools.expect(["try", "knee"], 1, err=PROVING + f"try: `say` was proved before, but {built} is gone: "
+                                                   f"remove {os.path.join(root, 'target')} and try again\n")
+    write_rt(bin_folder, f"test \"$*\" = 'check say' && mkdir -p target/bin && cp '{SAY}' target/bin/say && echo 'rt: say proved'")
+    tools.environment["PATH"] += os.pathsep + os.environ["PATH"]
+    tools.expect(["try", "knee"], 0, KNEE, PROVING + "rt: say proved\n")
+    tools.expect(["try", "knee"], 0, KNEE)
+    return tools.passed
+
+
+def write_rt(folder, script):
+    path = os.path.join(folder, "rt")
+    with open(path, "w", encoding="utf-8") as file:
+        file.write("#!/bin/sh\n" + script + "\n")
+    os.chmod(path, 0o755)
+
+
+def main():
+    with tempfile.TemporaryDirectory() as folder, tempfile.TemporaryDirectory() as other:
+        for name, data in FILES.items():
+            with open(os.path.join(folder, name), "wb") as file:
+                file.write(data)
+        tools = Tools(ROOT, folder)
+        for part in (names, rule_files, readable_rules, monitor, terminal):
+            part(tools)
+        print(f"tools: {tools.passed + proving(other)} passed")
+
+
+if __name__ == "__main__":
+    main()

@@ -1,0 +1,217 @@
+"""Letters and rules as text, and the rule file made of them.
+
+Rules as text, one a line, or in Festival's writing in parentheses; ; starts a comment:
+
+    # [k] n =                  left context, [target], right context = phones in hexadecimal
+    ( [ e e ] = 69 )
+    letter 1B ñ                a letter of the team's own
+    phone 69 i                 what a phone byte sounds like, for readable answers
+
+# is the word boundary, _ the space bar (3F), \\1D the letter 1D. Spaces between symbols are free.
+"""
+
+import os
+import re
+import unicodedata
+
+import inputs
+from frames import frame, two
+from inputs import Mistake
+
+BOUNDARY, SPACE = 0x00, 0x3F
+LIMITS = {"left context": 6, "target": 4, "right context": 6, "phones": 4}
+MOST_RULES = 512
+
+
+# Letters -----------------------------------------------------------------------
+
+class Alphabet:
+    """Letters as text and back; phones as sounds."""
+
+    def __init__(self):
+        self.letters = {chr(ord("a") + k): k + 1 for k in range(26)}
+        self.letters.update({" ": SPACE, "_": SPACE})
+        self.phones = {}
+
+    def name(self, text):
+        """The bytes of a typed name."""
+        return codes(composed(text), ".", self.letters)
+
+    def symbols(self, text, at=0):
+        """A context or target: letters, # and _, spaces between them free."""
+        return codes(text, r"\S", {**self.letters, "#": BOUNDARY}, at)
+
+
+def codes(text, character, letters, at=0):
+    """The bytes of a text, one for each match of `character`; \\40 stands for the byte 40, a letter or not."""
+    out = bytearray()
+    for found in re.finditer(r"\\([0-9A-Fa-f]{2})|" + character, text, re.S):
+        letter = found[0].lower()
+        if not found[1] and letter not in letters:
+            raise Mistake(f"no letter for {shown(found[0])}", at + found.start())
+        out.append(int(found[1], 16) if found[1] else letters[letter])
+    return bytes(out)
+
+
+def composed(text):
+    """ñ may come as n and a tilde."""
+    return unicodedata.normalize("NFC", text)
+
+
+def shown(character):
+    """A character for a message: with its code where it may look like another one or like none."""
+    code = ord(character)
+    if 0xDC80 <= code <= 0xDCFF:        # how Python hands on what is not UTF-8 on a command line
+        return f"the byte {code - 0xDC00:02X}, which is not UTF-8"
+    if character.isascii() and character.isprintable():
+        return f"'{character}'"
+    named = f"U+{code:04X} {unicodedata.name(character, '')}".strip()
+    return f"'{character}' ({named})" if character.isprintable() else named
+
+
+# Rules ---------------------------------------------------------------------------
+# Every part of a rule is read together with its place in the source, so that a mistake is told with line and column.
+
+def words_in(text, at=0):
+    """(place, word) of each word."""
+    return [(at + found.start(), found[0]) for found in re.finditer(r"\S+", text)]
+
+
+def byte_of(text, least, most, at=0):
+    if not re.fullmatch(r"[0-9A-Fa-f]{2}", text) or not least <= int(text, 16) <= most:
+        raise Mistake(f"'{text}' is no byte from {least:02X} to {most:02X}", at)
+    return int(text, 16)
+
+
+def hex_bytes(text, at=0):
+    words = words_in(text, at)
+    for place, word in words:
+        if not re.fullmatch(r"([0-9A-Fa-f]{2})+", word):
+            raise Mistake(f"'{word}' is not bytes in hexadecimal, two digits each", place)
+    return bytes.fromhex("".join(word for _, word in words))
+
+
+def parts_of(text, at=0):
+    """(place, text) of left context, target, right context and phones.
+
+    left [target] right = phones. Without brackets: left target right, - for an empty one; or a target alone.
+    """
+    symbols, _, phones = text.partition("=")
+    if text.count("=") != 1:
+        raise Mistake("a rule has one =, before its phones", at + max(0, text.rfind("=")))
+    found = re.fullmatch(r"([^\[\]]*)\[([^\[\]]*)\]([^\[\]]*)", symbols)
+    if found:
+        parts = [(at + found.start(k), found[k]) for k in (1, 2, 3)]
+    else:
+        parts = words_in(symbols, at)
+        if "[" in symbols or "]" in symbols or len(parts) not in (1, 3):
+            raise Mistake("write left [target] right = phones", at)
+        parts = [(at, ""), parts[0], (at, "")] if len(parts) == 1 else [(k, "" if p == "-" else p) for k, p in parts]
+    return parts + [(at + len(symbols) + 1, phones)]
+
+
+def rule_of(text, alphabet, at=0):
+    """The rule that a text says, of a rule's shape or not: the bytes of its four parts."""
+    *symbols, (place, phones) = parts_of(text, at)
+    return tuple(alphabet.symbols(part, start) for start, part in symbols) + (hex_bytes(phones, place),)
+
+
+def shape_fault(rule):
+    """(which part, why) of a rule that breaks the shape, or None."""
+    for which, ((what, most), field) in enumerate(zip(LIMITS.items(), rule)):
+        if len(field) > most:
+            return which, f"at most {most} in the {what}, not {len(field)}"
+        if which < 3 and field and max(field) > SPACE:
+            return which, f"letters are 01 to {SPACE:02X}"
+    left, target, right, phones = rule
+    if not target:
+        return 1, "the target is empty"
+    for which, inner in enumerate((left[1:], target, right[:-1])):
+        if BOUNDARY in inner:
+            return which, "# may stand only first in a left context or last in a right one"
+    if 0 in phones:
+        return 3, "phones are 01 to FF"
+    return None
+
+
+def shaped_rule(text, alphabet, at=0):
+    """The rule that a text says, if it has a rule's shape."""
+    rule = rule_of(text, alphabet, at)
+    fault = shape_fault(rule)
+    if fault:
+        which, why = fault
+        start, part = parts_of(text, at)[which]
+        raise Mistake(why, start + len(part) - len(part.lstrip()))
+    return rule
+
+
+def statements(text):
+    """(place, statement); what stands in parentheses may run over lines."""
+    text = re.sub(r";[^\n]*", lambda comment: " " * len(comment[0]), text).rstrip()
+    at = 0
+    while at < len(text):
+        found = re.compile(r"\s*(?:\((?P<inside>[^()]*)\)|(?P<line>[^(\s][^\n]*))").match(text, at)
+        if not found:
+            raise Mistake("no closing parenthesis", text.index("(", at))
+        yield found.start(found.lastgroup), found[found.lastgroup]
+        at = found.end()
+
+
+def name_letter_or_phone(statement, alphabet, at):
+    """letter 1B ñ, phone 69 i."""
+    words = words_in(statement, at)
+    kind = words[0][1]
+    if len(words) != 3:
+        raise Mistake(f"write {kind}, a byte, its text", words[0][0])
+    (place, byte), (text_place, text) = words[1:]
+    if kind == "phone":
+        alphabet.phones[byte_of(byte, 0x01, 0xFF, place)] = text
+    elif len(text) != 1:
+        raise Mistake(f"a letter is one character, not '{text}'", text_place)
+    else:
+        alphabet.letters[text.lower()] = byte_of(byte, 0x01, SPACE, place)
+
+
+def parse_rules(text):
+    """(alphabet, rules); a mistake has its place in the text."""
+    alphabet, rules = Alphabet(), []
+    for at, statement in statements(text):
+        if re.match(r"(letter|phone)\s[^=]*$", statement):
+            name_letter_or_phone(statement, alphabet, at)
+        elif len(rules) == MOST_RULES:
+            raise Mistake(f"at most {MOST_RULES} rules", at)
+        else:
+            rules.append(shaped_rule(statement, alphabet, at))
+    return alphabet, rules
+
+
+def read_rules(text, source):
+    """(alphabet, rules) of a readable rule text."""
+    text = composed(text)
+    try:
+        return parse_rules(text)
+    except Mistake as mistake:
+        raise Mistake(f"{source}: {inputs.place_in(text, mistake.at)}: {mistake}") from None
+
+
+# Files -----------------------------------------------------------------------------
+
+def rule_file(rules):
+    """The rule file: rules numbered from 1 in order."""
+    head = frame(b"\x01\x01" + two(len(rules)) * 2)
+    return head + b"".join(frame(b"\x02" + two(number) + bytes(map(len, rule)) + b"".join(rule))
+                           for number, rule in enumerate(rules, 1))
+
+
+def load_rules(path):
+    """(alphabet, rule file) from a readable rule text or from a rule file, whose bytes are handed on as they are.
+
+    Beside NAME.hex, NAME.rules tells the letters and sounds.
+    """
+    name, kind = os.path.splitext(path)
+    if kind.lower() != ".hex":
+        alphabet, rules = read_rules(inputs.read_text(path), path)
+        return alphabet, rule_file(rules)
+    data, beside = inputs.read_bytes(path), name + ".rules"
+    alphabet = read_rules(inputs.read_text(beside), beside)[0] if os.path.exists(beside) else Alphabet()
+    return alphabet, data
