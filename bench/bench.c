@@ -2,8 +2,8 @@
  * The library beside the hand-written baseline, in one run: the same rulesets, the same names, and the
  * answers compared. Times are the best of many rounds. Built and run by bench/run.
  */
-#include "../host/pirrozketa.h"
 #include "baseline.h"
+#include "pirrozketa.h"
 
 #include <stdio.h>
 #include <stdlib.h>
@@ -36,6 +36,8 @@ static void must(int holds, const char *what)
     }
 }
 
+static void accept(uint8_t code, const char *what) { must(PIRROZKETA_OK(code), what); }
+
 /* The best time so far of a statement in nanoseconds, over `per` pieces of work; it is run three times, so that its own data is in the caches. */
 #define TIME(best, per, work) for (int again_ = 0; again_ < 3; again_++) { double t = now(); work; t = (now() - t) / (per); if (t < best) best = t; }
 
@@ -46,12 +48,12 @@ static void must(int holds, const char *what)
 static unsigned draw(unsigned n) { return rand() % n; }
 
 /* Common letters more often, so that contexts are met. */
-static uint8_t letter(void) { return draw(3) ? "\1\5\11\17\25\16\24\22\23\14"[draw(10)] : 1 + draw(26); }
+static uint8_t letter(void) { return draw(3) ? (uint8_t)"\1\5\11\17\25\16\24\22\23\14"[draw(10)] : (uint8_t)(1 + draw(26)); }
 
 /* n rules: the last 26 fit a letter each, so that every name is spoken; or all of the greatest length. */
 static void rules(int n, int longest)
 {
-    pirrozketa_clear(image, sizeof image);
+    accept(pirrozketa_clear(image, sizeof image), "no empty ruleset");
     int plain = longest ? 0 : n < 26 ? n : 26;
     for (int k = 0; k < n; k++) {
         uint8_t r[PIRROZKETA_RULE] = { 0 };
@@ -67,9 +69,9 @@ static void rules(int n, int longest)
             r[i] = letter();
         if (k >= n - plain)
             r[10] = 1 + k - (n - plain);
-        must(pirrozketa_add(image, sizeof image, r, sizeof r, k, &place) == PIRROZKETA_ACCEPTED, "a rule is refused");
+        accept(pirrozketa_add(image, sizeof image, r, sizeof r, k, &place), "a rule is refused");
     }
-    must(pirrozketa_write_file(image, sizeof image, file, sizeof file, &bytes) == PIRROZKETA_ACCEPTED, "no file");
+    accept(pirrozketa_write_file(image, sizeof image, file, sizeof file, &bytes), "no file");
     must(base_read(file, bytes, &rs) == 0, "the baseline reads no file");
 }
 
@@ -90,17 +92,21 @@ static size_t draw_names(int n)
     return at;
 }
 
-static void build(void)
+static void build_in(size_t words_len, size_t sets_len)
 {
-    must(pirrozketa_build(image, sizeof image, words, PIRROZKETA_WORDS, sets, PIRROZKETA_SETS, &place)
-         == PIRROZKETA_ACCEPTED, "no tables");
+    accept(pirrozketa_build(image, sizeof image, words, words_len, sets, sets_len, &place), "no tables");
 }
+
+static void build(void) { build_in(PIRROZKETA_WORDS, PIRROZKETA_SETS); }
+
+static void check_ruleset(void) { accept(pirrozketa_check(image, sizeof image), "no ruleset"); }
 
 static void many(size_t length)
 {
-    must(pirrozketa_speak_many(image, sizeof image, words, PIRROZKETA_WORDS, sets, PIRROZKETA_SETS, names, length, phones,
-         sizeof phones, numbers, sizeof numbers / 2, replies, sizeof replies / sizeof *replies, &count)
-         == PIRROZKETA_ACCEPTED && count == NAMES, "names are not all answered");
+    accept(pirrozketa_speak_many(image, sizeof image, words, PIRROZKETA_WORDS, sets, PIRROZKETA_SETS, names, length,
+           phones, sizeof phones, numbers, sizeof numbers / 2, replies, sizeof replies / sizeof *replies, &count),
+           "no ruleset");
+    must(count == NAMES, "names are not all answered");
 }
 
 static void base_many(void)
@@ -115,7 +121,7 @@ static void compare(void)
     size_t at = 0, from = 0;
     for (int k = 0; k < NAMES; k++) {
         const size_t *r = replies + PIRROZKETA_REPLY * k;
-        must(r[0] == PIRROZKETA_ACCEPTED && r[1] == spoken[k].phone_count && r[2] == spoken[k].rule_count
+        must(PIRROZKETA_OK(r[0]) && r[1] == spoken[k].phone_count && r[2] == spoken[k].rule_count
              && r[3] == spoken[k].steps && !memcmp(phones + at, spoken[k].phones, r[1])
              && !memcmp(numbers + from, spoken[k].numbers, 2 * r[2]), "the answers differ");
         at += r[1];
@@ -154,16 +160,15 @@ int main(void)
     PAIR(mine, base, 1, build(), base_build(&rs, base_words, base_sets));
     row("(c) build, 320 rules", mine, base);
     size_t least_words = 2 + 64 * (size_t)(words[0] + words[1]), least_sets = 8 * (size_t)(words[0] + words[1]);
-    PAIR(mine, base, 1, pirrozketa_build(image, sizeof image, words, least_words, sets, least_sets, &place),
-         base_build(&rs, base_words, base_sets));
+    PAIR(mine, base, 1, build_in(least_words, least_sets), base_build(&rs, base_words, base_sets));
     row("(c) the same in the least memory, so that states are counted first", mine, base);
 
     PAIR(mine, base, NAMES,
          for (int k = 0; k < NAMES; k++)
-             pirrozketa_read_name(image, sizeof image, names + starts[k] + 1, names[starts[k]], said, sizeof said, by,
-                                  PIRROZKETA_NUMBERS, &given, &applied),
+             accept(pirrozketa_read_name(image, sizeof image, names + starts[k] + 1, names[starts[k]], said,
+                    sizeof said, by, PIRROZKETA_NUMBERS, &given, &applied), "a name is refused"),
          for (int k = 0; k < NAMES; k++) base_plain(&rs, names + starts[k] + 1, names[starts[k]], &spoken[k]));
-    PAIR(check, none, NAMES, for (int k = 0; k < NAMES; k++) pirrozketa_check(image, sizeof image), (void)0);
+    PAIR(check, none, NAMES, for (int k = 0; k < NAMES; k++) check_ruleset(), (void)0);
     row("(d) plain reading, 320 rules, the check of the ruleset taken off", mine - check, base);
     row("(d) the same with the check of the ruleset", mine, base);
 
@@ -173,20 +178,22 @@ int main(void)
     base_build(&rs, base_words, base_sets);
     PAIR(mine, base, NAMES,
          for (int k = 0; k < NAMES; k++)
-             pirrozketa_speak(image, sizeof image, words, PIRROZKETA_WORDS, sets, PIRROZKETA_SETS, names + starts[k] + 1,
-                              names[starts[k]], said, sizeof said, by, PIRROZKETA_NUMBERS, &given, &applied, &steps),
+             accept(pirrozketa_speak(image, sizeof image, words, PIRROZKETA_WORDS, sets, PIRROZKETA_SETS,
+                    names + starts[k] + 1, names[starts[k]], said, sizeof said, by, PIRROZKETA_NUMBERS, &given,
+                    &applied, &steps), "a name is refused"),
          base_many());
-    PAIR(check, none, NAMES, for (int k = 0; k < NAMES; k++) pirrozketa_check(image, sizeof image), (void)0);
+    PAIR(check, none, NAMES, for (int k = 0; k < NAMES; k++) check_ruleset(), (void)0);
     row("(b) one name, checked, 512 rules", mine, base);
     printf("| (b) of which the check of the ruleset | %.0f ns | | |\n", check);
 
     rules(512, 1);
-    must(pirrozketa_read_file(file, bytes, back, sizeof back, &place) == PIRROZKETA_ACCEPTED, "the file is refused");
     char what[80];
     snprintf(what, sizeof what, "(f) read a file of %zu bytes", bytes);
-    PAIR(mine, base, 1, pirrozketa_read_file(file, bytes, back, sizeof back, &place), base_read(file, bytes, &again));
+    PAIR(mine, base, 1, accept(pirrozketa_read_file(file, bytes, back, sizeof back, &place), "the file is refused"),
+         base_read(file, bytes, &again));
     row(what, mine, base);
-    PAIR(mine, base, 1, pirrozketa_write_file(image, sizeof image, other, sizeof other, &place), base_write(&rs, other));
+    PAIR(mine, base, 1, accept(pirrozketa_write_file(image, sizeof image, other, sizeof other, &place), "no file"),
+         base_write(&rs, other));
     row("(f) write it", mine, base);
 
     printf("\n| rules | a name, many at once | baseline | ratio |\n|---|---|---|---|\n");

@@ -1,6 +1,6 @@
 /*
  * A small host: it reads a rule file, adds a rule, writes the file back, builds the tables and speaks
- * names, one at a time and all at once. Built and run by host/build, or by hand:
+ * names, one at a time and many at once. Built and run by host/build, or by hand:
  *
  *     rt staticlib host
  *     gcc -O2 -Wall -Ihost host/example.c target/staticlib/libhost.a -o target/example
@@ -12,111 +12,196 @@
 #include <stdlib.h>
 #include <string.h>
 
-/* All that is lent. A firmware would place it where it likes; the tables may be smaller. */
+enum {
+    LONGEST = 255,      /* bytes of a name that can stand among many: its length is one byte */
+    LOT = 8             /* names that one call speaks; room is lent for the most that they can give */
+};
+
+/* All that is lent for long. A firmware would place it where it likes; the tables may be smaller. */
 static uint8_t image[PIRROZKETA_IMAGE];
 static uint16_t words[PIRROZKETA_WORDS];
 static uint64_t sets[PIRROZKETA_SETS];
-static uint8_t text[PIRROZKETA_FILE];
 
-static void judge(const char *what, uint8_t code, size_t place)
+/* Names that one call speaks. A reply does not say whose it is: the k-th belongs to typed[k]. */
+struct lot {
+    const char *typed[LOT];
+    size_t count;
+    uint8_t names[LOT * (1 + LONGEST)];
+    size_t used;
+};
+
+static void stop(const char *what)
 {
-    if (code == PIRROZKETA_ACCEPTED)
-        return;
-    fprintf(stderr, "%s: refusal %u at %zu\n", what, code, place);
+    fprintf(stderr, "%s\n", what);
     exit(1);
 }
 
-/* a is 1, b is 2; a space is 63. Other bytes become 0, which no name may have. */
-static size_t letters(const char *typed, uint8_t *name)
+/* The code is kept before the place is read: C evaluates a call's arguments in any order. */
+static void judge(const char *what, uint8_t code, size_t place)
 {
-    size_t n = strlen(typed);
-    for (size_t i = 0; i < n; i++)
-        name[i] = typed[i] >= 'a' && typed[i] <= 'z' ? typed[i] - 'a' + 1 : typed[i] == ' ' ? 63 : 0;
-    return n;
+    if (PIRROZKETA_OK(code))
+        return;
+    fprintf(stderr, "%s: refusal %u at %zu\n", what, (unsigned)code, place);
+    exit(1);
 }
 
-static void print(const char *typed, uint8_t code, size_t given, size_t applied, const uint8_t *phones,
+/* The typed name's letters and their number: a is 1, b is 2, a space is 63; another byte becomes 0, which no
+   name may have, so that the library refuses it. False for a name over LONGEST, which is said to be skipped. */
+static int letters(const char *typed, uint8_t name[LONGEST], size_t *length)
+{
+    *length = strlen(typed);
+    if (*length > LONGEST) {
+        printf("\"%.8s..\": skipped, it has %zu letters\n", typed, *length);
+        return 0;
+    }
+    for (size_t i = 0; i < *length; i++)
+        name[i] = (uint8_t)(typed[i] >= 'a' && typed[i] <= 'z' ? typed[i] - 'a' + 1 : typed[i] == ' ' ? 63 : 0);
+    return 1;
+}
+
+static void print(const char *typed, size_t code, size_t given, size_t applied, const uint8_t *phones,
                   const uint16_t *numbers)
 {
-    printf("%s:", typed);
-    if (code != PIRROZKETA_ACCEPTED) {
-        printf(" refusal %u at %zu\n", code, given);
+    if (!PIRROZKETA_OK(code)) {
+        printf("\"%s\": refusal %zu at %zu\n", typed, code, given);
         return;
     }
+    printf("\"%s\": %zu phones", typed, given);
     for (size_t i = 0; i < given; i++)
-        printf(" %02X", phones[i]);
-    printf(", by rules");
+        printf(" %02X", (unsigned)phones[i]);
+    printf(", %zu rules", applied);
     for (size_t i = 0; i < applied; i++)
-        printf(" %u", numbers[i]);
+        printf(" %u", (unsigned)numbers[i]);
     printf("\n");
+}
+
+static void read_rules(const char *path)
+{
+    /* one byte more than the longest file has, so that a longer one is refused and not cut */
+    static uint8_t file[PIRROZKETA_FILE + 1];
+    size_t length, place;
+    uint8_t code;
+    FILE *in = fopen(path, "rb");
+    if (!in)
+        stop("the rule file cannot be opened");
+    length = fread(file, 1, sizeof file, in);
+    if (ferror(in))
+        stop("the rule file cannot be read");
+    fclose(in);
+    code = pirrozketa_read_file(file, length, image, sizeof image, &place);
+    judge("read", code, place);
+}
+
+/* One rule more, at the end: [q] gives 6B, the phone of k. */
+static void add_rule(void)
+{
+    static const uint8_t rule[PIRROZKETA_RULE] = {
+        0, 1, 0, 1,             /* the lengths */
+        0, 0, 0, 0, 0, 0,       /* left context */
+        17, 0, 0, 0,            /* target: q */
+        0, 0, 0, 0, 0, 0,       /* right context */
+        0x6B, 0, 0, 0           /* phones */
+    };
+    size_t place, end = pirrozketa_count(image, sizeof image);
+    uint8_t code = pirrozketa_add(image, sizeof image, rule, sizeof rule, end, &place);
+    judge("add", code, place);
+    printf("rule %u added\n", (unsigned)pirrozketa_last(image, sizeof image));
+}
+
+static void write_rules(void)
+{
+    static uint8_t file[PIRROZKETA_FILE];
+    size_t bytes;
+    uint8_t code = pirrozketa_write_file(image, sizeof image, file, sizeof file, &bytes);
+    judge("write", code, bytes);
+    printf("the file has %zu bytes\n", bytes);
+}
+
+/* Due after every edit and every read of a file: nothing tells that tables are old. */
+static void build_tables(void)
+{
+    size_t place;
+    /* what is needed is asked for first: no words are lent, and the pointer is a valid one all the same */
+    uint8_t code = pirrozketa_build(image, sizeof image, words, 0, sets, PIRROZKETA_SETS, &place);
+    if (code != PIRROZKETA_WORDS_ROOM)
+        judge("build", code, place);
+    printf("the tables need %zu words\n", place);
+    code = pirrozketa_build(image, sizeof image, words, PIRROZKETA_WORDS, sets, PIRROZKETA_SETS, &place);
+    judge("build", code, place);
+}
+
+/* One name by the tables and by the rules, which agree where the tables were built. */
+static void speak_one(const char *typed)
+{
+    uint8_t name[LONGEST], phones[PIRROZKETA_PHONES], read_phones[PIRROZKETA_PHONES];
+    uint16_t numbers[PIRROZKETA_NUMBERS], read_numbers[PIRROZKETA_NUMBERS];
+    size_t length, given, applied, steps, read_given, read_applied;
+    uint8_t code, read_code;
+    if (!letters(typed, name, &length))
+        return;
+    code = pirrozketa_speak(image, sizeof image, words, PIRROZKETA_WORDS, sets, PIRROZKETA_SETS, name, length, phones,
+                            PIRROZKETA_PHONES, numbers, PIRROZKETA_NUMBERS, &given, &applied, &steps);
+    read_code = pirrozketa_read_name(image, sizeof image, name, length, read_phones, PIRROZKETA_PHONES, read_numbers,
+                                     PIRROZKETA_NUMBERS, &read_given, &read_applied);
+    if (read_code != code || read_given != given || read_applied != applied
+        || (PIRROZKETA_OK(code) && (memcmp(phones, read_phones, given)
+                                    || memcmp(numbers, read_numbers, applied * sizeof *numbers))))
+        stop("the tables are not those of the rules");
+    print(typed, code, given, applied, phones, numbers);
+}
+
+/* Speaks the names of a lot in one call, prints each answer under its own name, and empties the lot. */
+static void speak_lot(struct lot *lot)
+{
+    static uint8_t phones[LOT * PIRROZKETA_PHONES];
+    static uint16_t numbers[LOT * PIRROZKETA_NUMBERS];
+    static size_t replies[LOT * PIRROZKETA_REPLY];
+    size_t count, phone = 0, number = 0;
+    uint8_t code = pirrozketa_speak_many(image, sizeof image, words, PIRROZKETA_WORDS, sets, PIRROZKETA_SETS,
+                                         lot->names, lot->used, phones, LOT * PIRROZKETA_PHONES, numbers,
+                                         LOT * PIRROZKETA_NUMBERS, replies, LOT * PIRROZKETA_REPLY, &count);
+    judge("speak many", code, 0);
+    if (count != lot->count)
+        stop("speak many: names are left without a reply");
+    for (size_t k = 0; k < count; k++) {
+        const size_t *reply = replies + PIRROZKETA_REPLY * k;
+        print(lot->typed[k], reply[0], reply[1], reply[2], phones + phone, numbers + number);
+        if (PIRROZKETA_OK(reply[0])) {
+            phone += reply[1];
+            number += reply[2];
+        }
+    }
+    lot->count = lot->used = 0;
+}
+
+/* Puts a name into the lot, which is spoken when it is full. */
+static void take(struct lot *lot, const char *typed)
+{
+    size_t length;
+    if (!letters(typed, lot->names + lot->used + 1, &length))
+        return;
+    lot->names[lot->used] = (uint8_t)length;
+    lot->used += 1 + length;
+    lot->typed[lot->count++] = typed;
+    if (lot->count == LOT)
+        speak_lot(lot);
 }
 
 int main(int argc, char **argv)
 {
-    size_t place, bytes;
-    if (argc < 2) {
-        fprintf(stderr, "usage: example RULES.hex NAME..\n");
-        return 2;
-    }
-
-    /* the rule file, and one rule more: q gives the phone of k, 6B */
-    static uint8_t file[PIRROZKETA_FILE + 1];
-    FILE *in = fopen(argv[1], "rb");
-    size_t length = in ? fread(file, 1, sizeof file, in) : 0;
-    if (in)
-        fclose(in);
-    judge("read", pirrozketa_read_file(file, length, image, sizeof image, &place), place);
-    const uint8_t rule[PIRROZKETA_RULE] = { [1] = 1, [3] = 1, [10] = 17, [20] = 0x6B };
-    size_t end = pirrozketa_count(image, sizeof image);
-    judge("add", pirrozketa_add(image, sizeof image, rule, sizeof rule, end, &place), place);
-    unsigned number = pirrozketa_last(image, sizeof image);
-    judge("write", pirrozketa_write_file(image, sizeof image, text, sizeof text, &bytes), bytes);
-    printf("rule %u added; the file has %zu bytes\n", number, bytes);
-
-    /* the words that the tables need are asked for first */
-    pirrozketa_build(image, sizeof image, words, 0, sets, PIRROZKETA_SETS, &place);
-    printf("the tables need %zu words\n", place);
-    judge("build", pirrozketa_build(image, sizeof image, words, PIRROZKETA_WORDS, sets, PIRROZKETA_SETS, &place), place);
-
-    /* names one at a time, by the tables and by the rules, which must agree */
-    uint8_t phones[PIRROZKETA_PHONES], again[PIRROZKETA_PHONES], name[255];
-    uint16_t numbers[PIRROZKETA_NUMBERS], others[PIRROZKETA_NUMBERS];
-    uint8_t lot[4096];
-    size_t used = 0, given, applied, steps, told, taken;
-    for (int i = 2; i < argc; i++) {
-        if (strlen(argv[i]) > sizeof name)
-            continue;
-        size_t n = letters(argv[i], name);
-        uint8_t code = pirrozketa_speak(image, sizeof image, words, PIRROZKETA_WORDS, sets, PIRROZKETA_SETS, name, n,
-                                        phones, sizeof phones, numbers, PIRROZKETA_NUMBERS, &given, &applied, &steps);
-        print(argv[i], code, given, applied, phones, numbers);
-        uint8_t plain = pirrozketa_read_name(image, sizeof image, name, n, again, sizeof again, others,
-                                             PIRROZKETA_NUMBERS, &told, &taken);
-        if (plain != code || told != given || taken != applied
-            || (code == PIRROZKETA_ACCEPTED && memcmp(phones, again, given)))
-            return 1;
-        if (used + 1 + n <= sizeof lot) {
-            lot[used] = n;
-            memcpy(lot + used + 1, name, n);
-            used += 1 + n;
-        }
-    }
-
-    /* the same names all at once */
-    static uint8_t all[16 * PIRROZKETA_PHONES];
-    static uint16_t rules[16 * PIRROZKETA_NUMBERS];
-    static size_t replies[64 * PIRROZKETA_REPLY];
-    size_t count, at = 0, from = 0;
-    judge("speak many", pirrozketa_speak_many(image, sizeof image, words, PIRROZKETA_WORDS, sets, PIRROZKETA_SETS, lot,
-          used, all, sizeof all, rules, 16 * PIRROZKETA_NUMBERS, replies, 64 * PIRROZKETA_REPLY, &count), 0);
-    printf("all at once, %zu:\n", count);
-    for (size_t k = 0; k < count; k++) {
-        const size_t *r = replies + PIRROZKETA_REPLY * k;
-        print(argv[2 + k], r[0], r[1], r[2], all + at, rules + from);
-        if (r[0] == PIRROZKETA_ACCEPTED) {
-            at += r[1];
-            from += r[2];
-        }
-    }
+    static struct lot lot;
+    if (argc < 2)
+        stop("usage: example RULES.hex NAME..");
+    read_rules(argv[1]);
+    add_rule();
+    write_rules();
+    build_tables();
+    printf("one at a time:\n");
+    for (int i = 2; i < argc; i++)
+        speak_one(argv[i]);
+    printf("many at once:\n");
+    for (int i = 2; i < argc; i++)
+        take(&lot, argv[i]);
+    speak_lot(&lot);
     return 0;
 }

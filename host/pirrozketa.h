@@ -1,23 +1,66 @@
 /*
  * Pirrozketa: a ruleset that turns typed names into phones, in memory that the host lends.
  *
- * Every call answers with a code: PIRROZKETA_ACCEPTED, or the number of the refusal. A refusal has a
- * place, and leaves all lent memory as it was (pirrozketa_speak_many writes its replies all the same).
- * No call allocates, keeps a pointer, or has any state of its own, so calls on different memory may run
- * at the same time. Whatever the lent memory holds, a call is safe: memory that is no ruleset is
- * refusal 0, and tables that were not built, or not from this ruleset, are refusal 16 at worst.
+ * ANSWERS. Every call but pirrozketa_count and pirrozketa_last answers with a code: PIRROZKETA_ACCEPTED,
+ * which is 255, or the number of the refusal, which may be 0. So test it by PIRROZKETA_OK(code), never as a
+ * truth value; compilers warn where it is not looked at. A refusal has a place, and leaves all lent memory
+ * as it was (pirrozketa_speak_many writes its replies all the same). The numbers that a call gives through
+ * pointers are written in every case. What lies past the bytes, phones, numbers or words that a call gives
+ * keeps its contents.
  *
- * A slice is a pointer and its length in items. The pointer must be aligned and not null, also where
- * the length is 0; slices of one call must not overlap, save that those which are only read may be
- * the same. The numbers that a call gives are written in every case.
+ * TABLES. Call pirrozketa_build after every edit and every read of a file, before the next name is spoken.
+ * Until then pirrozketa_speak and pirrozketa_speak_many may speak a name by rules that the old tables
+ * choose wrongly, with no refusal, and nothing in this interface tells the host. An example: the rules [z],
+ * [a] 61 and [x] 58 are built, rule 1 is dropped and [a]x 62 added at place 0. Not built again, "ax" is
+ * spoken 61 58; by the rules it is 62 58. pirrozketa_read_name uses no tables, so it is right at once.
  *
- * What lies past the bytes, phones, numbers or words that a call gives keeps its contents.
+ * MEMORY. Whatever the lent memory holds, every call ends and stays inside it: memory that is no ruleset is
+ * refusal 0; tables that lead to a state or rule that is none, or to a rule that does not fit, are refusal
+ * 16. The host sees to this:
+ *   - A slice is a pointer and its length in items. The pointer is aligned for its items and NOT NULL, also
+ *     where the length is 0: to lend nothing, lend any array of the type with length 0.
+ *   - A slice that a call writes (not const) overlaps no other slice of the call. Slices that it only reads
+ *     (const) may overlap each other.
+ *   - A pointer to a number that a call gives (place, bytes, given, applied, steps, count) is NOT NULL, and
+ *     points into no slice of the call and to no other number that it gives.
+ *
+ * THREADS. No call allocates, keeps a pointer or has any state of its own, so calls may run at the same
+ * time. Memory that they only read may be shared: many threads may speak by one ruleset and its tables.
+ * Memory that a call writes, the numbers that it gives included, is that call's alone until it returns.
  */
 #ifndef PIRROZKETA_H
 #define PIRROZKETA_H
 
 #include <stddef.h>
 #include <stdint.h>
+
+/*
+ * The version of this interface. MAJOR rises where a host has to change: a call is withdrawn or means
+ * something else. MINOR rises where something is added. 2.0 withdrew pirrozketa_load of 1.0, which could
+ * refuse after it had replaced the ruleset: call pirrozketa_read_file, look at its code, then pirrozketa_build.
+ */
+#define PIRROZKETA_VERSION_MAJOR 2
+#define PIRROZKETA_VERSION_MINOR 0
+
+/* The library is compiled for x86-64, and its lengths are numbers of 8 bytes. */
+#if !defined(__x86_64__) && !defined(_M_X64)
+#error "the Pirrozketa library is for x86-64 only"
+#endif
+#ifdef __cplusplus
+static_assert(sizeof(size_t) == 8, "the Pirrozketa library has lengths of 8 bytes");
+#else
+_Static_assert(sizeof(size_t) == 8, "the Pirrozketa library has lengths of 8 bytes");
+#endif
+
+/* A code must be looked at: 0 is a refusal, against C's habit. */
+#define PIRROZKETA_OK(code) ((code) == PIRROZKETA_ACCEPTED)
+#if defined(__cplusplus) && __cplusplus >= 201703L
+#define PIRROZKETA_MUST_CHECK [[nodiscard]]
+#elif defined(__GNUC__)
+#define PIRROZKETA_MUST_CHECK __attribute__((warn_unused_result))
+#else
+#define PIRROZKETA_MUST_CHECK
+#endif
 
 #ifdef __cplusplus
 extern "C" {
@@ -46,27 +89,33 @@ enum {
     PIRROZKETA_ACCEPTED = 255
 };
 
-/* What to lend, at most. */
+/* The least to lend: bytes of a ruleset. More may be lent, and is not looked at. */
+enum { PIRROZKETA_IMAGE = 13316 };
+
+/* Exact sizes. */
 enum {
-    PIRROZKETA_IMAGE = 13316,       /* bytes of a ruleset; more may be lent, and is not looked at */
     PIRROZKETA_RULE = 24,           /* bytes of a rule to add */
-    PIRROZKETA_WORDS = 524418,      /* 2 + 64 (L + R) words of 16 bits, for L and R states of the two tables */
-    PIRROZKETA_SETS = 65552,        /* 8 (L + R) set words of 64 bits */
-    PIRROZKETA_NAME = 64,           /* letters of a name */
-    PIRROZKETA_PHONES = 256,        /* phones that one name can give */
-    PIRROZKETA_NUMBERS = 64,        /* rules that one name can apply */
-    PIRROZKETA_FILE = 29199,        /* bytes of the longest rule file */
     PIRROZKETA_REPLY = 4            /* numbers of a reply in pirrozketa_speak_many */
 };
 
+/* The most that is ever needed. Less may be lent: a call for which it is too little says what it needs. */
+enum {
+    PIRROZKETA_WORDS = 524418,      /* 2 + 64 (L + R) words of 16 bits, for L and R states of the two tables */
+    PIRROZKETA_SETS = 65552,        /* 8 (L + R) set words of 64 bits */
+    PIRROZKETA_NAME = 64,           /* letters of a name; a longer one is refusal 2 */
+    PIRROZKETA_PHONES = 256,        /* phones that one name can give */
+    PIRROZKETA_NUMBERS = 64,        /* rules that one name can apply */
+    PIRROZKETA_FILE = 29199         /* bytes of the longest rule file */
+};
+
 /*
- * Stack that each call uses, in bytes, as host/stack.c measures it on x86-64 with 512 rules and a name of
- * 64 letters: clear, count, last none to speak of; check 8,216; drop 8,248; move 8,360; add 8,376;
- * write_file 8,376; speak 8,392; speak_many 8,440; read_name 8,536; read_file 8,652; build 31,592; load
- * 31,640.
+ * Stack: no call uses more than 32,768 bytes, to which host/build holds what host/stack.c measures with 512
+ * rules and a name of 64 letters. In bytes: clear, count, last none to speak of; check 8,200; drop 8,232;
+ * move 8,344; add and write_file 8,360; speak 8,392; speak_many 8,440; read_name 8,536; read_file 8,636;
+ * build 31,592.
  */
 
-/* ---- the ruleset: `image` is PIRROZKETA_IMAGE bytes or more */
+/* ---- the ruleset: `image` is PIRROZKETA_IMAGE bytes or more. Tables built before a change of it are old. */
 
 /*
  * Its layout: the rule count (2 bytes), `last` (2), then 512 slots of 26 bytes in the order of the rules:
@@ -77,9 +126,11 @@ enum {
  */
 
 /* Makes the memory, whatever it holds, the empty ruleset with `last` 0. Refusal 0 where it is too short. */
+PIRROZKETA_MUST_CHECK
 uint8_t pirrozketa_clear(uint8_t *image, size_t image_len);
 
 /* Whether the memory is a ruleset: accepted, or refusal 0. */
+PIRROZKETA_MUST_CHECK
 uint8_t pirrozketa_check(const uint8_t *image, size_t image_len);
 
 /* The rule count that stands in the memory, and `last`, the last number issued. They are meant for a
@@ -90,57 +141,62 @@ uint16_t pirrozketa_last(const uint8_t *image, size_t image_len);
 /* Adds a rule before place p, counted from 0; p equal to the count puts it at the end. The rule is 24
    bytes: the lengths of left context, target, right context and phones, then 6, 4, 6 and 4 bytes for
    them. *place: the refusal's place, or 0. Refusals 0, 6, 7, 9, 10. */
+PIRROZKETA_MUST_CHECK
 uint8_t pirrozketa_add(uint8_t *image, size_t image_len, const uint8_t *rule, size_t rule_len, size_t p, size_t *place);
 
 /* Drops the rule with the number. *place as above. Refusals 0, 8. */
+PIRROZKETA_MUST_CHECK
 uint8_t pirrozketa_drop(uint8_t *image, size_t image_len, uint16_t number, size_t *place);
 
 /* Takes the rule with the number out and puts it before place p of the rest. Refusals 0, 8, 7. */
+PIRROZKETA_MUST_CHECK
 uint8_t pirrozketa_move(uint8_t *image, size_t image_len, uint16_t number, size_t p, size_t *place);
 
 /* ---- the rule file */
 
-/* Reads a rule file into the memory, whatever it holds. *place: the refusal's place, or 0. Refusals 0
-   (memory too short), 13, 14. */
+/* Reads a rule file into the memory, whatever it holds; build the tables next. *place: the refusal's
+   place, or 0. Refusals 0 (memory too short), 13, 14. */
+PIRROZKETA_MUST_CHECK
 uint8_t pirrozketa_read_file(const uint8_t *file, size_t file_len, uint8_t *image, size_t image_len, size_t *place);
 
 /* Writes the rule file. *bytes: the bytes written, or the refusal's place. Refusals 0, 15. */
+PIRROZKETA_MUST_CHECK
 uint8_t pirrozketa_write_file(const uint8_t *image, size_t image_len, uint8_t *out, size_t out_len, size_t *bytes);
 
 /* ---- the tables */
 
-/* Builds the tables. Lend no words at all to learn how many are needed. The tables hold for the ruleset
-   as it is now: build again after an edit. *place: the refusal's place, or 0. Refusals 0, 11, 12. */
+/* Builds the tables of the ruleset as it is now: build again after every edit and every read of a file
+   (TABLES above). Lend no words to learn how many are needed, by refusal 11; the pointer is not null all
+   the same. *place: the refusal's place, or 0. Refusals 0, 11, 12. */
+PIRROZKETA_MUST_CHECK
 uint8_t pirrozketa_build(const uint8_t *image, size_t image_len, uint16_t *words, size_t words_len, uint64_t *sets,
                          size_t sets_len, size_t *place);
-
-/* Two calls in one, what a host does first: pirrozketa_read_file, and where it is accepted pirrozketa_build,
-   which need not check the ruleset again. Refusals of the reading keep everything; those of the build (11, 12)
-   keep the words and set words, and the ruleset is then the one that was read. */
-uint8_t pirrozketa_load(const uint8_t *file, size_t file_len, uint8_t *image, size_t image_len, uint16_t *words,
-                        size_t words_len, uint64_t *sets, size_t sets_len, size_t *place);
 
 /* ---- names: letters from 1, a, to 63; phones from 1 to 255 */
 
 /* Reads a name by trying the rules in order, without tables. *given: the phones given, or the refusal's
    place; *applied: the rule numbers given, 0 with a refusal. Refusals 0, 2, 1, 3, 4, 5. */
+PIRROZKETA_MUST_CHECK
 uint8_t pirrozketa_read_name(const uint8_t *image, size_t image_len, const uint8_t *name, size_t name_len,
                              uint8_t *phones, size_t phones_len, uint16_t *numbers, size_t numbers_len,
                              size_t *given, size_t *applied);
 
 /* Speaks a name by the tables. *given and *applied as above; *steps: the table entries looked up, 0 with
    the refusals 0, 1, 2 and 16. Refusals 0, 2, 1, 16, 3, 4, 5. */
+PIRROZKETA_MUST_CHECK
 uint8_t pirrozketa_speak(const uint8_t *image, size_t image_len, const uint16_t *words, size_t words_len,
                          const uint64_t *sets, size_t sets_len, const uint8_t *name, size_t name_len, uint8_t *phones,
                          size_t phones_len, uint16_t *numbers, size_t numbers_len, size_t *given, size_t *applied,
                          size_t *steps);
 
 /* Speaks many names, with the ruleset checked once. `names` has each name after a byte that says its
-   length. The reply to the k-th name stands at replies[4 k]: its code, the phones given or the place, the
-   numbers given, the steps, as pirrozketa_speak gives them. Its phones and numbers follow those of the
-   names before it; a refused name takes none. *count: how many names were answered, which ends at a name
-   that is cut off or has no room for its reply. Refusal 0 once for all, with *count 0 and nothing
-   written. */
+   length, so of 255 bytes at most. The reply to the k-th name stands at replies[4 k]: its code, the phones
+   given or the place, the numbers given, the steps, as pirrozketa_speak gives them with the room that the
+   names before it left. Its phones and numbers follow those of the names before it; a refused name takes
+   none. A reply does not say whose it is: keep the k-th name beside it. *count: how many names were
+   answered, which ends at a name that is cut off or has no room for its reply. Refusal 0 once for all, with
+   *count 0 and nothing written. */
+PIRROZKETA_MUST_CHECK
 uint8_t pirrozketa_speak_many(const uint8_t *image, size_t image_len, const uint16_t *words, size_t words_len,
                               const uint64_t *sets, size_t sets_len, const uint8_t *names, size_t names_len,
                               uint8_t *phones, size_t phones_len, uint16_t *numbers, size_t numbers_len,

@@ -1,7 +1,9 @@
 /*
  * How much stack each call uses: it runs in a thread whose stack is painted, and what it changed is
- * counted, less what a call that does nothing changes. Built and run by host/build.
+ * counted, less what a call that does nothing changes. Fails where a call uses over LIMIT bytes, or is
+ * refused, since it is then not measured whole. Built and run by host/build.
  */
+#define _XOPEN_SOURCE 700       /* for pthread_attr_setstack */
 #include "pirrozketa.h"
 
 #include <pthread.h>
@@ -9,105 +11,129 @@
 #include <stdlib.h>
 #include <string.h>
 
-enum { STACK = 1 << 20, PAINT = 0xA5 };
+enum { LIMIT = 32768, STACK = 1 << 20, PAGE = 4096, PAINT = 0xA5, RULES = 512 };
 
 static uint8_t image[PIRROZKETA_IMAGE], copy[PIRROZKETA_IMAGE], file[PIRROZKETA_FILE];
 static uint16_t words[PIRROZKETA_WORDS], numbers[PIRROZKETA_NUMBERS];
 static uint64_t sets[PIRROZKETA_SETS];
-static uint8_t name[PIRROZKETA_NAME], names[PIRROZKETA_NAME + 1], phones[PIRROZKETA_PHONES];
-static size_t place, given, applied, steps, count, bytes, replies[PIRROZKETA_REPLY];
-static uint8_t rule[PIRROZKETA_RULE], code;
+static uint8_t names[1 + PIRROZKETA_NAME], *name = names + 1, phones[PIRROZKETA_PHONES];
+static size_t place, given, applied, steps, count, bytes, states, replies[PIRROZKETA_REPLY];
 
-static void nothing(void) {}
-static void clear(void) { code = pirrozketa_clear(copy, sizeof copy); }
-static void check(void) { code = pirrozketa_check(image, sizeof image); }
-static void add(void) { code = pirrozketa_add(copy, sizeof copy, rule, sizeof rule, 0, &place); }
-static void drop(void) { code = pirrozketa_drop(copy, sizeof copy, 1, &place); }
-static void move(void) { code = pirrozketa_move(copy, sizeof copy, 1, 400, &place); }
-static void write_file(void) { code = pirrozketa_write_file(image, sizeof image, file, sizeof file, &bytes); }
-static void read_file(void) { code = pirrozketa_read_file(file, bytes, copy, sizeof copy, &place); }
-static void build(void)
+/* Of one letter, a, and the phones given: the last of the 512 rules, and the one that is added. */
+static const uint8_t rule[PIRROZKETA_RULE] = { 0, 1, 0, 4, 0, 0, 0, 0, 0, 0, 1, 0, 0, 0, 0, 0, 0, 0, 0, 0, 9, 9, 9, 9 };
+
+static uint8_t nothing(void) { return PIRROZKETA_ACCEPTED; }
+static uint8_t clear(void) { return pirrozketa_clear(copy, sizeof copy); }
+static uint8_t check(void) { return pirrozketa_check(image, sizeof image); }
+static uint8_t count_rules(void) { return pirrozketa_count(image, sizeof image) == RULES ? PIRROZKETA_ACCEPTED : 0; }
+static uint8_t last(void) { return pirrozketa_last(image, sizeof image) == RULES ? PIRROZKETA_ACCEPTED : 0; }
+static uint8_t drop(void) { return pirrozketa_drop(copy, sizeof copy, 1, &place); }
+static uint8_t add(void) { return pirrozketa_add(copy, sizeof copy, rule, sizeof rule, 0, &place); }
+static uint8_t move_rule(void) { return pirrozketa_move(copy, sizeof copy, RULES, 0, &place); }
+static uint8_t write_file(void) { return pirrozketa_write_file(image, sizeof image, file, sizeof file, &bytes); }
+static uint8_t read_file(void) { return pirrozketa_read_file(file, bytes, copy, sizeof copy, &place); }
+static uint8_t build(void)
 {
-    code = pirrozketa_build(image, sizeof image, words, PIRROZKETA_WORDS, sets, PIRROZKETA_SETS, &place);
+    return pirrozketa_build(image, sizeof image, words, PIRROZKETA_WORDS, sets, PIRROZKETA_SETS, &place);
 }
-static void build_least(void)
+static uint8_t build_least(void)
 {
-    code = pirrozketa_build(image, sizeof image, words, 2 + 64 * (size_t)(words[0] + words[1]), sets,
-                            8 * (size_t)(words[0] + words[1]), &place);
+    states = (size_t)words[0] + words[1];
+    return pirrozketa_build(image, sizeof image, words, 2 + 64 * states, sets, 8 * states, &place);
 }
-static void load(void)
+static uint8_t read_name(void)
 {
-    code = pirrozketa_load(file, bytes, copy, sizeof copy, words, PIRROZKETA_WORDS, sets, PIRROZKETA_SETS, &place);
-}
-static void read_name(void)
-{
-    code = pirrozketa_read_name(image, sizeof image, name, sizeof name, phones, sizeof phones, numbers,
+    return pirrozketa_read_name(image, sizeof image, name, PIRROZKETA_NAME, phones, sizeof phones, numbers,
                                 PIRROZKETA_NUMBERS, &given, &applied);
 }
-static void speak(void)
+static uint8_t speak(void)
 {
-    code = pirrozketa_speak(image, sizeof image, words, PIRROZKETA_WORDS, sets, PIRROZKETA_SETS, name, sizeof name,
+    return pirrozketa_speak(image, sizeof image, words, PIRROZKETA_WORDS, sets, PIRROZKETA_SETS, name, PIRROZKETA_NAME,
                             phones, sizeof phones, numbers, PIRROZKETA_NUMBERS, &given, &applied, &steps);
 }
-static void speak_many(void)
+static uint8_t speak_many(void)
 {
-    code = pirrozketa_speak_many(image, sizeof image, words, PIRROZKETA_WORDS, sets, PIRROZKETA_SETS, names,
+    return pirrozketa_speak_many(image, sizeof image, words, PIRROZKETA_WORDS, sets, PIRROZKETA_SETS, names,
                                  sizeof names, phones, sizeof phones, numbers, PIRROZKETA_NUMBERS, replies,
                                  PIRROZKETA_REPLY, &count);
 }
 
-static void *run(void *call)
+/* In this order: `add` has room after `drop`, `read_file` reads what `write_file` wrote, `build_least` needs the counts. */
+static const struct { const char *name; uint8_t (*call)(void); } calls[] = {
+    { "clear", clear }, { "check", check }, { "count", count_rules }, { "last", last }, { "drop", drop }, { "add", add },
+    { "move", move_rule }, { "write_file", write_file }, { "read_file", read_file }, { "build", build },
+    { "build, least", build_least }, { "read_name", read_name }, { "speak", speak }, { "speak_many", speak_many }
+};
+
+struct task { uint8_t (*call)(void); uint8_t code; };
+
+static void *run(void *given_task)
 {
-    (*(void (**)(void))call)();
+    struct task *task = (struct task *)given_task;
+    task->code = task->call();
     return NULL;
 }
 
-static size_t used(void (*call)(void))
+static void must(int holds, const char *what)
 {
-    static uint8_t stack[STACK] __attribute__((aligned(4096)));
-    pthread_attr_t attr;
+    if (!holds) {
+        fprintf(stderr, "stack: %s\n", what);
+        exit(1);
+    }
+}
+
+/* The bytes of a thread's stack that are used where it makes the call. */
+static size_t used(uint8_t (*call)(void), uint8_t *stack)
+{
+    struct task task = { call, 0 };
+    pthread_attr_t attributes;
     pthread_t thread;
-    memset(stack, PAINT, sizeof stack);
-    pthread_attr_init(&attr);
-    if (pthread_attr_setstack(&attr, stack, sizeof stack) || pthread_create(&thread, &attr, run, &call))
-        exit(2);
-    pthread_join(thread, NULL);
-    size_t free = 0;
-    while (stack[free] == PAINT)
-        free++;
-    return sizeof stack - free;
+    size_t untouched = 0;
+    memset(stack, PAINT, STACK);
+    must(!pthread_attr_init(&attributes) && !pthread_attr_setstack(&attributes, stack, STACK)
+         && !pthread_create(&thread, &attributes, run, &task) && !pthread_join(thread, NULL)
+         && !pthread_attr_destroy(&attributes), "no thread");
+    must(PIRROZKETA_OK(task.code), "a call is refused");
+    while (untouched < STACK && stack[untouched] == PAINT)
+        untouched++;
+    return STACK - untouched;
+}
+
+/* 512 long rules; the last fits every a, so that a name of 64 times a applies it 64 times. */
+static void prepare(void)
+{
+    must(PIRROZKETA_OK(pirrozketa_clear(image, sizeof image)), "no empty ruleset");
+    srand(1);
+    for (size_t k = 0; k < RULES; k++) {
+        uint8_t longest[PIRROZKETA_RULE] = { 6, 4, 6, 4 };
+        for (size_t i = 4; i < sizeof longest; i++)
+            longest[i] = (uint8_t)(2 + rand() % 60);
+        must(PIRROZKETA_OK(pirrozketa_add(image, sizeof image, k + 1 < RULES ? longest : rule, sizeof rule, k, &place)),
+             "a rule is refused");
+    }
+    names[0] = PIRROZKETA_NAME;
+    memset(name, 1, PIRROZKETA_NAME);
+    memcpy(copy, image, sizeof copy);
 }
 
 int main(void)
 {
-    static const struct { const char *name; void (*call)(void); } calls[] = {
-        { "clear", clear }, { "check", check }, { "add", add }, { "drop", drop }, { "move", move },
-        { "write_file", write_file }, { "read_file", read_file }, { "build", build }, { "build, least", build_least },
-        { "load", load }, { "read_name", read_name }, { "speak", speak }, { "speak_many", speak_many },
-    };
-    /* 512 long rules; the last fits every a, so that a name of 64 times a applies 64 rules */
-    srand(1);
-    pirrozketa_clear(image, sizeof image);
-    for (int k = 0; k < 512; k++) {
-        uint8_t r[PIRROZKETA_RULE] = { 6, 4, 6, 4 };
-        for (int i = 4; i < PIRROZKETA_RULE; i++)
-            r[i] = 2 + rand() % 60;
-        if (k == 511)
-            memcpy(r, (uint8_t[PIRROZKETA_RULE]){ [1] = 1, [3] = 4, [10] = 1, [20] = 9, 9, 9, 9 }, sizeof r);
-        if (pirrozketa_add(image, sizeof image, r, sizeof r, k, &place) != PIRROZKETA_ACCEPTED)
-            return 1;
-    }
-    memset(name, 1, sizeof name);
-    names[0] = sizeof name;
-    memset(names + 1, 1, sizeof name);
-    memcpy(rule, (uint8_t[PIRROZKETA_RULE]){ [1] = 1, [10] = 1 }, sizeof rule);
-    size_t base = used(nothing);
+    void *stack;
+    size_t none, most = 0;
+    must(!posix_memalign(&stack, PAGE, STACK), "no memory");
+    prepare();
+    used(nothing, (uint8_t *)stack);        /* what only the first thread of a process does is not measured */
+    none = used(nothing, (uint8_t *)stack);
     for (size_t k = 0; k < sizeof calls / sizeof *calls; k++) {
-        memcpy(copy, image, sizeof copy);
-        if (calls[k].call == add)
-            pirrozketa_drop(copy, sizeof copy, 7, &place);
-        size_t n = used(calls[k].call);
-        printf("%-12s %6zu bytes of stack%s\n", calls[k].name, n - base, code == PIRROZKETA_ACCEPTED ? "" : ", refused");
+        if (calls[k].call == drop)
+            memcpy(copy, image, sizeof copy);
+        size_t more = used(calls[k].call, (uint8_t *)stack);
+        more = more > none ? more - none : 0;
+        printf("%-12s %6zu bytes of stack\n", calls[k].name, more);
+        most = more > most ? more : most;
     }
+    free(stack);
+    must(most <= LIMIT, "a call uses more than 32,768 bytes");
+    must(most > 0, "nothing is measured");
     return 0;
 }

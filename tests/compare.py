@@ -1,5 +1,5 @@
 #!/usr/bin/env python3
-"""Runs a program on random whole runs and compares its output with reference.py's, byte for byte.
+"""Runs a program on whole runs, fixed and random, and compares its output with reference.py's, byte for byte.
 
     python3 tests/compare.py PROGRAM say --count 500 --seed 1
     python3 tests/compare.py PROGRAM monitor --count 200 --seed 1 --converse
@@ -151,10 +151,10 @@ def clipped(data, width=160, most=30):
     return "\n".join(shown + ([f"    .. {len(lines)} lines in all"] if len(lines) > most else [])) or "    (nothing)"
 
 
-def report(runner, seed, rules_hex, lines, save):
+def report(runner, which, rules_hex, lines, save):
     rules_hex, lines = minimal(runner, rules_hex, lines)
     expected, got = fails(runner, rules_hex, lines) or (b"", "not the same twice")
-    print(f"FAILED with --seed {seed}\n  rules.hex" + (":" if rules_hex is not None else ": missing"))
+    print(f"FAILED: {which}\n  rules.hex" + (":" if rules_hex is not None else ": missing"))
     if rules_hex is not None:
         print(clipped(rules_hex))
     for what, data in [("standard input", b"".join(lines)), ("expected", expected), ("got", got)]:
@@ -185,14 +185,15 @@ def main():
         parser.error("--converse is for monitor: say judges its whole input first")
     manner = "converse" if given.converse else "pieces" if given.pieces else "whole"
     runner = Runner(command, given.program, manner, given.limit)
-    for seed in range(given.seed, given.seed + given.count):
-        rules_hex, lines, expected = generate.CASES[given.program](seed)
+    passed = 0
+    for which, (rules_hex, lines, expected) in generate.runs(given.program, given.count, given.seed):
         if runner.run(rules_hex, lines) != expected:
-            report(runner, seed, rules_hex, lines, given.save)
-            print(f"{seed - given.seed} passed, 1 failed")
+            report(runner, which, rules_hex, lines, given.save)
+            print(f"{passed} passed, 1 failed")
             return 1
-    print(f"{given.count} passed, 0 failed")
-    return 0
+        passed += 1
+    print(f"{passed} passed, 0 failed")
+    return 0 if passed else 1
 
 
 if __name__ == "__main__":

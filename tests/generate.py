@@ -374,8 +374,8 @@ class Source:
             if self.chance(0.04):
                 line = self.line_damage(line)
             elif self.chance(0.005):
-                name = self.symbols(alphabet, self.pick([2033, 2035]))      # 4,094 and 4,098 digits
-                line = frame_line(b"\x16" + bytes(12) + name)
+                size = ref.MONITOR_LINE // 2 + self.pick([-1, 0, 1])
+                line = speech_line(self.pick([0x16, 0x17]), size, self.pick(alphabet))
             for part in split_lines(line):
                 if part.endswith(b"\n") and self.settled(held, part[:-1]):
                     lines.append(part)
@@ -488,6 +488,39 @@ def monitor_case(seed):
 
 
 CASES = {"say": say_case, "monitor": monitor_case}
+
+
+# Fixed runs ---------------------------------------------------------------------------
+
+def speech_line(command, size, letter=5):
+    """A sound line of so many bytes that walks (16) or reads (17) a name over 64 letters: refusal 2, where the line is taken."""
+    _, *sizes = ref.Monitor.COMMANDS[command]
+    head = bytes([command]) + bytes(sum(sizes))
+    return frame_line(head + bytes([letter]) * (size - len(head) - 1))
+
+
+def long_lines():
+    """Lines about the monitor's limit of 4,096 digits, each followed by a short one. Refusal 2 tells a line that is taken
+    from one that is unsound (13), which is never cut to a sound line or into several."""
+    most, lines = ref.MONITOR_LINE // 2, []
+    for command in (0x16, 0x17):
+        longest = speech_line(command, most)[:-1]
+        for text in [speech_line(command, most - 1)[:-1] + b"0", longest, longest + b"0", longest + b"00",
+                     speech_line(command, most + 1)[:-1], longest + b"\r", longest + longest, longest + b"13ED",
+                     b"0" * 100_000]:
+            lines += [text + b"\n", frame_line(b"\x17" + bytes(4))]
+    return None, lines, ref.monitor(None, b"".join(lines))
+
+
+FIXED = {"say": {}, "monitor": {"long lines": long_lines}}
+
+
+def runs(program, count, seed):
+    """(which, case) for every run of a comparison: the fixed ones first."""
+    for name, case in FIXED[program].items():
+        yield name, case()
+    for k in range(seed, seed + count):
+        yield f"--seed {k}", CASES[program](k)
 
 
 def stats(count, seed):

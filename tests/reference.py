@@ -934,6 +934,10 @@ def check_programs(check, six):
                   else frame_line(bytes.fromhex(wanted)))
         check.equal("monitor: " + what, answer, wanted)
     check.equal("monitor: phones", held.answer(b"1CE4"), frame_line(b"\x0A\x6E\x69" + b"\xEE" * 254))
+    too_long = frame_line(bytes.fromhex("050200000000"))
+    for digits, wanted in [(4_095, UNSOUND), (4_096, too_long), (4_097, UNSOUND), (4_098, UNSOUND)]:
+        line = frame_line(b"\x17" + bytes(4) + b"\5" * (digits // 2 - 6))[:-1].ljust(digits, b"0")
+        check.equal(f"monitor: a line of {len(line)} digits", held.answer(line), wanted)
 
 
 def self_test():

@@ -1,11 +1,10 @@
 #!/usr/bin/env python3
-"""Does the random comparison bite? Each planted fault in a copy of reference.py must show in some run.
+"""Does the comparison bite? Each planted fault in a copy of reference.py must show in some run.
 
     python3 tests/teeth.py [--count N] [--seed S]
 """
 
 import argparse
-import os
 import sys
 import types
 
@@ -66,7 +65,14 @@ FAULTS = [
     ("sets past the needed cleared", "        self.sets[:len(sets)] = sets\n",
      "        self.sets[:len(sets) + 1] = sets + array('Q', [0])\n", "monitor"),
     ("place 512 overwritten", "        if place < MAX_RULES:\n", "        place %= MAX_RULES\n        if place < MAX_RULES:\n", "monitor"),
-    ("a line of 4,098 bytes", "len(line) > MONITOR_LINE:\n", "len(line) > MONITOR_LINE + 2:\n", "monitor"),
+    ("a line of 4,095 digits at most", "MONITOR_LINE = 4_096\n", "MONITOR_LINE = 4_095\n", "monitor"),
+    ("a line of 4,098 digits", "MONITOR_LINE = 4_096\n", "MONITOR_LINE = 4_098\n", "monitor"),
+    ("a longer line cut to 4,096 digits",
+     "        if line is None or len(line) > MONITOR_LINE:\n            return UNSOUND\n        body = sound(line)\n",
+     "        if line is None:\n            return UNSOUND\n        body = sound(line[:MONITOR_LINE])\n", "monitor"),
+    ("a longer line cut into several", "    return b\"\".join(held.answer(line) for line in lines_of(data))\n",
+     "    cut = lambda line: [line[k:k + MONITOR_LINE] for k in range(0, len(line), MONITOR_LINE)] if line else [line]\n"
+     "    return b\"\".join(held.answer(part) for line in lines_of(data) for part in cut(line))\n", "monitor"),
     ("lent bytes above 29,199", "min(room, LONGEST_FILE)", "room & 0xFFFF", "monitor"),
 ]
 
@@ -82,13 +88,13 @@ def faulty(old, new):
 
 
 def shown_by(module, program, cases):
-    """The seed of the first run in which the fault shows, or None."""
-    for seed, (rules_hex, lines, expected) in cases:
+    """The first run in which the fault shows, or None."""
+    for which, (rules_hex, lines, expected) in cases:
         try:
             if getattr(module, program)(rules_hex, b"".join(lines)) != expected:
-                return seed
+                return which
         except Exception:       # a fault that stops the copy shows too
-            return seed
+            return which
     return None
 
 
@@ -97,15 +103,14 @@ def main():
     parser.add_argument("--count", type=int, default=300)
     parser.add_argument("--seed", type=int, default=1)
     given = parser.parse_args()
-    seeds = range(given.seed, given.seed + given.count)
-    cases = {program: [(seed, case(seed)) for seed in seeds] for program, case in generate.CASES.items()}
+    cases = {program: list(generate.runs(program, given.count, given.seed)) for program in generate.CASES}
     passed = failed = 0
     for what, old, new, programs in FAULTS:
         module = faulty(old, new)
         for program in programs.split():
-            seed = shown_by(module, program, cases[program])
-            passed, failed = passed + (seed is not None), failed + (seed is None)
-            print(f"{what}: " + (f"{program} run {seed}" if seed is not None else f"NOT SHOWN by {program}"), flush=True)
+            which = shown_by(module, program, cases[program])
+            passed, failed = passed + (which is not None), failed + (which is None)
+            print(f"{what}: " + (f"{program}, {which}" if which is not None else f"NOT SHOWN by {program}"), flush=True)
     print(f"{passed} passed, {failed} failed")
     return 1 if failed else 0
 

@@ -29,7 +29,7 @@ pub fn fixed(tally: &mut Tally) {
     }
 }
 
-/// A ruleset loaded by the library from a rule file, with its tables.
+/// A ruleset that the library read from a rule file, and the tables that it built then.
 struct Loaded {
     image: Lent<u8>,
     compiled: Compiled,
@@ -46,7 +46,8 @@ impl Loaded {
     fn new(tally: &mut Tally, text: &[u8], words: usize, sets: usize, random: &mut Random) -> Loaded {
         let mut image = Lent::any(IMAGE, random);
         let mut compiled = Compiled::any(words, sets, random);
-        lent::load(tally, &Lent::new(text, random), &mut image, &mut compiled);
+        lent::read_file(tally, &Lent::new(text, random), &mut image);
+        lent::build(tally, &image, &mut compiled);
         Loaded { image, compiled }
     }
 

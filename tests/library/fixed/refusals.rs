@@ -20,7 +20,6 @@ pub fn refusals(tally: &mut Tally, random: &mut Random) {
 /// Every call on memory too short for a ruleset: 0 comes before all else.
 fn short(tally: &mut Tally, random: &mut Random) {
     let six = Loaded::new(tally, SIX_RULES, SIX_WORDS, SIX_SETS, random);
-    let mut compiled = six.compiled;
     let rule = Lent::new(&rule(&[]).0, random);
     let (good, bad) = (Lent::new(SIX_RULES, random), Lent::new(b"", random));
     let (name, names) = (Lent::new(&[0x40; 65], random), Lent::new(&[1, 5, 1, 5], random));
@@ -34,13 +33,12 @@ fn short(tally: &mut Tally, random: &mut Random) {
         lent::shift(tally, &mut image, 9, 9);
         for text in [&good, &bad] {
             lent::read_file(tally, text, &mut image);
-            lent::load(tally, text, &mut image, &mut compiled);
         }
         lent::write_file(tally, &image, &mut Lent::any(0, random));
         lent::build(tally, &image, &mut Compiled::any(0, 0, random));
         lent::read_name(tally, &image, &name, &mut room);
-        lent::speak(tally, &image, &compiled, &name, &mut room);
-        lent::speak_many(tally, &image, &compiled, &names, &mut room, &mut Lent::any(8, random));
+        lent::speak(tally, &image, &six.compiled, &name, &mut room);
+        lent::speak_many(tally, &image, &six.compiled, &names, &mut room, &mut Lent::any(8, random));
     }
 }
 
@@ -118,8 +116,7 @@ fn edits(tally: &mut Tally, random: &mut Random) {
 
 fn rooms(tally: &mut Tally, random: &mut Random) {
     for (words, sets) in [(641, 80), (642, 79), (641, 79), (642, 80), (0, 0)] {
-        let six = Loaded::new(tally, SIX_RULES, words, sets, random);
-        lent::build(tally, &six.image, &mut Compiled::any(words, sets, random));
+        Loaded::new(tally, SIX_RULES, words, sets, random);
     }
     let mut empty = Lent::any(IMAGE, random);
     lent::clear(tally, &mut empty);
@@ -151,7 +148,6 @@ fn files(tally: &mut Tally, random: &mut Random) {
     ];
     for (text, number, place) in cases {
         tally.equal("the reference's reading", file::read(&text).map(|_| ()), refuse(number, place));
-        lent::read_file(tally, &Lent::new(&text, random), &mut Lent::any(IMAGE, random));
         Loaded::new(tally, &text, SIX_WORDS, SIX_SETS, random);
     }
 }

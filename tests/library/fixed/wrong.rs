@@ -13,6 +13,7 @@ pub fn wrong(tally: &mut Tally, random: &mut Random) {
     ends_inside(tally, random);
     last_after_drop(tally, random);
     words_decide(tally, random);
+    old_tables(tally, random);
     name_inside_image(tally, random);
 }
 
@@ -69,6 +70,32 @@ fn words_decide(tally: &mut Tally, random: &mut Random) {
         let (heard, steps) = lent::speak(tally, &six.image, &compiled, &name, &mut room);
         tally.equal("altered set words", Spoken::new(heard, steps, &room), wanted);
     }
+}
+
+/// The header's example of tables that were not built again after edits: a name is spoken by the wrong
+/// rule, and nothing refuses it.
+fn old_tables(tally: &mut Tally, random: &mut Random) {
+    let text = [
+        line(&[1, 1, 0, 3, 0, 3]),
+        line(&[2, 0, 1, 0, 1, 0, 0, 0x1A]),
+        line(&[2, 0, 2, 0, 1, 0, 1, 1, 0x61]),
+        line(&[2, 0, 3, 0, 1, 0, 1, 0x18, 0x58]),
+    ];
+    let mut loaded = Loaded::new(tally, &text.concat(), 2 + 64 * 5, 8 * 5, random);
+    let mut rule = [0; 24];
+    (rule[1], rule[2], rule[3], rule[10], rule[14], rule[20]) = (1, 1, 1, 1, 0x18, 0x62);
+    lent::drop(tally, &mut loaded.image, 1);
+    lent::add(tally, &mut loaded.image, &Lent::new(&rule, random), 0);
+    let name = Lent::new(&letters("ax"), random);
+    let mut room = Room::any(2, 2, random);
+    let (heard, steps) = lent::speak(tally, &loaded.image, &loaded.compiled, &name, &mut room);
+    let (phones, numbers) = (vec![0x61, 0x58], vec![2, 3]);
+    tally.equal("old tables", Spoken::new(heard, steps, &room), Spoken::Said { phones, numbers, steps: 6 });
+
+    lent::build(tally, &loaded.image, &mut loaded.compiled);
+    let said = loaded.speak(tally, &letters("ax"), 2, 2, random);
+    let (phones, numbers) = (vec![0x62, 0x58], vec![4, 3]);
+    tally.equal("tables built again", said, Spoken::Said { phones, numbers, steps: 6 });
 }
 
 /// Slices that are only read may be the same memory: names that are bytes of the ruleset, its head and the

@@ -38,17 +38,6 @@ extern "C" {
         sets_len: usize,
         place: *mut usize,
     ) -> u8;
-    pub fn pirrozketa_load(
-        file: *const u8,
-        file_len: usize,
-        image: *mut u8,
-        image_len: usize,
-        words: *mut u16,
-        words_len: usize,
-        sets: *mut u64,
-        sets_len: usize,
-        place: *mut usize,
-    ) -> u8;
     pub fn pirrozketa_read_name(
         image: *const u8,
         image_len: usize,

@@ -1,15 +1,13 @@
-//! The rule file read and written, and read with the tables built.
+//! The rule file read and written.
 
 use super::binding::*;
 use super::memory::Lent;
-use super::tables::Compiled;
 use super::{code_and_place, UNWRITTEN};
-use crate::reference::ruleset::Ruleset;
-use crate::reference::{file as text, image as layout, refuse, tables, Answer};
+use crate::reference::{file as text, image as layout, refuse, Answer};
 use crate::tally::Tally;
 
 pub fn read_file(tally: &mut Tally, file: &Lent<u8>, image: &mut Lent<u8>) {
-    let wanted = taken(file, image).map(|_| 0);
+    let wanted = taken(file, image);
     let mut place = UNWRITTEN;
     let code = unsafe {
         pirrozketa_read_file(file.pointer(), file.len(), image.pointer_mut(), image.len(), &mut place)
@@ -17,30 +15,6 @@ pub fn read_file(tally: &mut Tally, file: &Lent<u8>, image: &mut Lent<u8>) {
     tally.answer("read_file", code, (code, place), code_and_place(&wanted));
     image.check(tally, "read_file's image");
     file.check(tally, "read_file's file");
-}
-
-/// The two calls in one: the build's refusals leave the ruleset that was read.
-pub fn load(tally: &mut Tally, file: &Lent<u8>, image: &mut Lent<u8>, compiled: &mut Compiled) {
-    let wanted = taken(file, image).and_then(|set| compiled.taken(&tables::build(&set)));
-    let mut place = UNWRITTEN;
-    let (words, sets) = (&mut compiled.words, &mut compiled.sets);
-    let code = unsafe {
-        pirrozketa_load(
-            file.pointer(),
-            file.len(),
-            image.pointer_mut(),
-            image.len(),
-            words.pointer_mut(),
-            words.len(),
-            sets.pointer_mut(),
-            sets.len(),
-            &mut place,
-        )
-    };
-    tally.answer("load", code, (code, place), code_and_place(&wanted));
-    file.check(tally, "load's file");
-    image.check(tally, "load's image");
-    compiled.check(tally, "load");
 }
 
 pub fn write_file(tally: &mut Tally, image: &Lent<u8>, out: &mut Lent<u8>) {
@@ -56,7 +30,7 @@ pub fn write_file(tally: &mut Tally, image: &Lent<u8>, out: &mut Lent<u8>) {
 
 /// What reading gives; the image, whatever it held, is from then on wanted so. Bytes past a part of a
 /// rule were seen to be zero, which no paper says.
-fn taken(file: &Lent<u8>, image: &mut Lent<u8>) -> Answer<Ruleset> {
+fn taken(file: &Lent<u8>, image: &mut Lent<u8>) -> Answer<usize> {
     if image.len() < layout::IMAGE {
         return refuse(0, 0);
     }
@@ -64,7 +38,7 @@ fn taken(file: &Lent<u8>, image: &mut Lent<u8>) -> Answer<Ruleset> {
     let mut after = image.contents().to_vec();
     layout::put(&set, &mut after);
     image.want(&after);
-    Ok(set)
+    Ok(0)
 }
 
 fn written(image: &Lent<u8>, out: &mut Lent<u8>) -> Answer<usize> {

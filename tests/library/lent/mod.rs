@@ -9,7 +9,7 @@ mod names;
 mod tables;
 
 pub use edits::{add, check, clear, drop, shift};
-pub use files::{load, read_file, write_file};
+pub use files::{read_file, write_file};
 pub use memory::Lent;
 pub use names::{read_name, read_own_bytes, speak, speak_many, Heard, Room};
 pub use tables::{build, Compiled};
@@ -28,7 +28,7 @@ fn code_and_place(answer: &Answer<usize>) -> (u8, usize) {
 }
 
 /// The codes that the header names with each call, in rising order.
-pub const NAMED: [(&str, &[u8]); 12] = [
+pub const NAMED: [(&str, &[u8]); 11] = [
     ("clear", &[0, 255]),
     ("check", &[0, 255]),
     ("add", &[0, 6, 7, 9, 10, 255]),
@@ -37,7 +37,6 @@ pub const NAMED: [(&str, &[u8]); 12] = [
     ("read_file", &[0, 13, 14, 255]),
     ("write_file", &[0, 15, 255]),
     ("build", &[0, 11, 12, 255]),
-    ("load", &[0, 11, 12, 13, 14, 255]),
     ("read_name", &[0, 1, 2, 3, 4, 5, 255]),
     ("speak", &[0, 1, 2, 3, 4, 5, 16, 255]),
     ("speak_many", &[0, 255]),

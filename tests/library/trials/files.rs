@@ -1,4 +1,4 @@
-//! Files written, read back, and read when damaged; alone, and with the tables built in the same call.
+//! Files written, read back, and read when damaged; and read with the tables built next.
 
 use super::{lending, SELDOM};
 use crate::lent::{self, Compiled, Lent};
@@ -31,7 +31,8 @@ pub fn files(tally: &mut Tally, random: &mut Random) {
     }
 }
 
-pub fn loads(tally: &mut Tally, random: &mut Random) {
+/// What a host does first: a file is read, and the tables are built of what the memory holds then.
+pub fn reads_and_builds(tally: &mut Tally, random: &mut Random) {
     let set = some_ruleset(random);
     let built = tables::build(&set);
     let mut text = file::write(&set);
@@ -41,7 +42,9 @@ pub fn loads(tally: &mut Tally, random: &mut Random) {
     let text = Lent::new(&text, random);
     let (words, sets) = (lending(built.words.len(), random), lending(built.sets.len(), random));
     let mut compiled = Compiled::any(words, sets, random);
-    lent::load(tally, &text, &mut some_image(random), &mut compiled);
+    let mut image = some_image(random);
+    lent::read_file(tally, &text, &mut image);
+    lent::build(tally, &image, &mut compiled);
 }
 
 fn some_ruleset(random: &mut Random) -> Ruleset {

@@ -16,7 +16,7 @@ const TRIALS: [(&str, Trial); 8] = [
     ("edits", edits::edits),
     ("images", edits::images),
     ("files", files::files),
-    ("loads", files::loads),
+    ("files and their tables", files::reads_and_builds),
     ("tables", tables::tables),
     ("walks", walks::walks),
     ("many", many::many),

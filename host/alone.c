@@ -1,0 +1,3 @@
+/* The header stands alone and may be included twice: host/build compiles this as C and as C++. */
+#include "pirrozketa.h"
+#include "pirrozketa.h"
