@@ -13,7 +13,7 @@ use Rattle.image.proofs.Laid.{length-insertAt, length-removeAt}
 use Rattle.rules.specs.Shape.{shape, view, entryOf}
 use Rattle.rules.specs.declared.Numbered.{Numbered}
 use Rattle.image.specs.State.{Ledger, rulesOf, entries, distinct, noNumbered, noEntry, insertAt, removeAt}
-use Rattle.edits.specs.Ledger.{Edit, placeOf, applied, judged, after, afterBy, afterAll, answersAll, given, issued}
+use Rattle.edits.specs.Ledger.{Edit, placeOf, applied, judged, after, afterBy, afterAll, answersAll, issuedBy, issued}
 use Rattle.edits.specs.Ledger.Edit.{Add, Drop, Move}
 use Rattle.image.specs.Image.{ledgerOf, valid, Edited, Filled}
 use Rattle.edits.specs.Edits.{outcomeBy, edited, FilledEdit, outAll, imageAll}
@@ -142,31 +142,31 @@ history-valid (e ∷ es) w d ok =
     history-valid es (λ k h. w (suc k) (omega arith)) (edited d e .image) (stepped d ok e (w 0 (omega arith)) .kept)
 
 -- each number issued after a state is above its last
-given-above : (g : Ledger) (e : Edit) (a : Reply) (l : List ℕ) → ((k : ℕ) → k < length l → afterBy a g e .last < getD l k 0)
-    → (k : ℕ) → k < length (given a e (afterBy a g e .last) l) → g .last < getD (given a e (afterBy a g e .last) l) k 0
-given-above g (Add r p) accepted l h zero u = omega arith
-given-above g (Add r p) accepted l h (suc k) u = omega (arith, h k (omega arith))
-given-above g (Drop n) accepted l h k u = h k u
-given-above g (Move n p) accepted l h k u = h k u
-given-above g e (declined x y) l h k u = h k u
+issuedBy-above : (g : Ledger) (e : Edit) (a : Reply) (l : List ℕ) → ((k : ℕ) → k < length l → afterBy a g e .last < getD l k 0)
+    → (k : ℕ) → k < length (issuedBy a e (afterBy a g e .last) l) → g .last < getD (issuedBy a e (afterBy a g e .last) l) k 0
+issuedBy-above g (Add r p) accepted l h zero u = omega arith
+issuedBy-above g (Add r p) accepted l h (suc k) u = omega (arith, h k (omega arith))
+issuedBy-above g (Drop n) accepted l h k u = h k u
+issuedBy-above g (Move n p) accepted l h k u = h k u
+issuedBy-above g e (declined x y) l h k u = h k u
 
 issued-above : (es : List Edit) (g : Ledger) (k : ℕ) → k < length (issued g es) → g .last < getD (issued g es) k 0
 issued-above [] g k u = absurd (omega arith)
-issued-above (e ∷ es) g k u = given-above g e (judged g e) (issued (after g e) es) (issued-above es (after g e)) k u
+issued-above (e ∷ es) g k u = issuedBy-above g e (judged g e) (issued (after g e) es) (issued-above es (after g e)) k u
 
-given-apart : (g : Ledger) (e : Edit) (a : Reply) (l : List ℕ) → ((k : ℕ) → k < length l → afterBy a g e .last < getD l k 0)
+issuedBy-apart : (g : Ledger) (e : Edit) (a : Reply) (l : List ℕ) → ((k : ℕ) → k < length l → afterBy a g e .last < getD l k 0)
     → ((i j : ℕ) → i < j → j < length l → getD l i 0 < getD l j 0)
-    → (i j : ℕ) → i < j → j < length (given a e (afterBy a g e .last) l)
-    → getD (given a e (afterBy a g e .last) l) i 0 < getD (given a e (afterBy a g e .last) l) j 0
-given-apart g (Add r p) accepted l h q i zero u v = absurd (omega arith)
-given-apart g (Add r p) accepted l h q zero (suc j) u v = omega (arith, h j (omega arith))
-given-apart g (Add r p) accepted l h q (suc i) (suc j) u v = q i j (omega arith) (omega arith)
-given-apart g (Drop n) accepted l h q i j u v = q i j u v
-given-apart g (Move n p) accepted l h q i j u v = q i j u v
-given-apart g e (declined x y) l h q i j u v = q i j u v
+    → (i j : ℕ) → i < j → j < length (issuedBy a e (afterBy a g e .last) l)
+    → getD (issuedBy a e (afterBy a g e .last) l) i 0 < getD (issuedBy a e (afterBy a g e .last) l) j 0
+issuedBy-apart g (Add r p) accepted l h q i zero u v = absurd (omega arith)
+issuedBy-apart g (Add r p) accepted l h q zero (suc j) u v = omega (arith, h j (omega arith))
+issuedBy-apart g (Add r p) accepted l h q (suc i) (suc j) u v = q i j (omega arith) (omega arith)
+issuedBy-apart g (Drop n) accepted l h q i j u v = q i j u v
+issuedBy-apart g (Move n p) accepted l h q i j u v = q i j u v
+issuedBy-apart g e (declined x y) l h q i j u v = q i j u v
 
 -- the numbers that accepted additions get rise, so no two are the same
 pub issued-rise : (es : List Edit) (g : Ledger) (i j : ℕ) → i < j → j < length (issued g es) → getD (issued g es) i 0 < getD (issued g es) j 0
 issued-rise [] g i j u v = absurd (omega arith)
 issued-rise (e ∷ es) g i j u v =
-    given-apart g e (judged g e) (issued (after g e) es) (issued-above es (after g e)) (issued-rise es (after g e)) i j u v
+    issuedBy-apart g e (judged g e) (issued (after g e) es) (issued-above es (after g e)) (issued-rise es (after g e)) i j u v

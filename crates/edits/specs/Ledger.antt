@@ -60,12 +60,12 @@ answersAll g [] = []
 answersAll g (e ∷ es) = judged g e ∷ answersAll (after g e) es
 
 -- the numbers that the accepted additions among the edits got, in turn: the `last` after each
-abbrev pub given : Reply → Edit → ℕ → List ℕ → List ℕ
-given accepted (Add r p) n l = n ∷ l
-given accepted (Drop m) n l = l
-given accepted (Move m p) n l = l
-given (declined x y) e n l = l
+abbrev pub issuedBy : Reply → Edit → ℕ → List ℕ → List ℕ
+issuedBy accepted (Add r p) n l = n ∷ l
+issuedBy accepted (Drop m) n l = l
+issuedBy accepted (Move m p) n l = l
+issuedBy (declined x y) e n l = l
 
 abbrev pub issued : Ledger → List Edit → List ℕ
 issued g [] = []
-issued g (e ∷ es) = given (judged g e) e (after g e .last) (issued (after g e) es)
+issued g (e ∷ es) = issuedBy (judged g e) e (after g e .last) (issued (after g e) es)
