@@ -4,16 +4,18 @@ pub mod delivery;
 use rules::Refusal;
 ghost use mathlib.Core.Path.{_≡_};
 ghost use mathlib.Core.Bool.{true};
-ghost use Prim.Native.Nat.{_+_, _<_, _≤_};
+ghost use Prim.Native.Nat.{_+_, _-_, _<_, _≤_};
 ghost use lib.ListN.{length, take, drop};
-ghost use lib.Seq.{paste};
 ghost use Rattle.rules.specs.Memory.{over};
-ghost use Rattle.rules.specs.Shape.{first};
-ghost use Rattle.image.specs.Image.{entriesOf, valid, entryAt, countOf};
+ghost use Rattle.rules.specs.Limits.{maxName, maxTarget};
+ghost use Rattle.image.specs.Image.{countOf, entriesOf, entryAt, valid};
 ghost use Rattle.reading.specs.Fitting.{same, starts, ends, frame, fits};
-ghost use Rattle.reading.specs.Reading.{plain};
-ghost use Rattle.reading.specs.Speech.{toldOf, saying, delivered, judgedName, plainSaid};
-ghost use Rattle.reading.specs.Places.{Judges, FitAt, ReadInto};
+ghost use Rattle.reading.specs.Reading.{firstFit, plain};
+ghost use Rattle.reading.specs.Speech.{toldOf, saying, answered, judgedName, delivered, plainSaid};
+ghost use Rattle.reading.specs.Places.{Judges, FitAt, ReadBy};
+
+// Symbols of the longest frame: a boundary before the name and one after it.
+pub const MAX_FRAME: usize = rules::MAX_NAME + 2;
 
 // The answer of a call that speaks a name: how many phones and rule numbers it gave, or why it declined.
 pub enum Speech {
@@ -21,9 +23,9 @@ pub enum Speech {
     Refused(Refusal),
 }
 
-// Whether a name is one: letters, or the refusal.
+// Whether a name is one, or the refusal.
 pub enum Judged {
-    Letters,
+    Sound,
     Refused(Refusal),
 }
 
@@ -33,29 +35,18 @@ pub enum Fit {
     Nothing,
 }
 
-// How many rules were applied, or the letter at which none fits.
-pub enum Applied {
+// How reading ended: how many rules were applied, the letter that none covers, or tables that are unusable.
+pub enum Reached {
     Rules(usize),
-    NoFit(usize),
+    Uncovered(usize),
+    BadTables,
 }
 
-fn wide(x: u8) -> usize
-    ensures { λ r. ⌜ (r ≡ x) × (r < 256) ⌝ }
-{
-    x as usize
-}
-
-fn wide_place(x: u16) -> usize
-    ensures { λ r. ⌜ (r ≡ x) × (r < 65536) ⌝ }
-{
-    x as usize
-}
-
-// A name has at most 64 bytes, each a letter.
+// A name has at most 64 bytes, each from 01 to 3F.
 pub fn judge_name(name: &[u8]) -> Judged
     ensures { λ r. ⌜ Judges (now (name .entry)) r ⌝ }
 {
-    if 64 < name.len() {
+    if rules::MAX_NAME < name.len() {
         return Judged::Refused(Refusal::NameLength(0));
     }
     let mut i = 0;
@@ -64,24 +55,12 @@ pub fn judge_name(name: &[u8]) -> Judged
         if b < 1 {
             return Judged::Refused(Refusal::NameByte(i));
         }
-        if 63 < b {
+        if rules::MAX_NAME_BYTE < b {
             return Judged::Refused(Refusal::NameByte(i));
         }
         i += 1;
     }
-    Judged::Letters
-}
-
-// The `len` bytes of `src` from `from` on are stored in `dst` from `to` on.
-fn copy(src: &[u8], from: usize, dst: &mut [u8], to: usize, len: usize)
-    requires { ⌜ (from + len ≤ length (now src)) × (to + len ≤ length (now dst)) ⌝ }
-    ensures { λ _. ⌜ now (dst .exit) ≡ paste (now (dst .entry)) to (drop from (now (src .entry))) len ⌝ }
-{
-    let mut i = 0;
-    while i < len {
-        dst[to + i] = src[from + i];
-        i += 1;
-    }
+    Judged::Sound
 }
 
 // The frame of a name is laid at the start of `f`: # at 0 and after its last letter.
@@ -91,18 +70,18 @@ pub fn lay_frame(name: &[u8], f: &mut [u8])
 {
     let n = name.len();
     f[0] = 0;
-    copy(name, 0, f, 1, n);
+    image::put(&mut *f, 1, name);
     f[n + 1] = 0;
 }
 
-// Whether the `len` bytes of `a` from `at` on are those of `b` from `to` on.
-fn same_run(a: &[u8], at: usize, b: &[u8], to: usize, len: usize) -> bool
-    requires { ⌜ (at + len ≤ length (now a)) × (to + len ≤ length (now b)) ⌝ }
-    ensures { λ r. ⌜ r ≡ same (take len (drop at (now (a .entry)))) (take len (drop to (now (b .entry)))) ⌝ }
+// Whether `b` has the symbols of `a` from `at` on.
+fn same_run(a: &[u8], b: &[u8], at: usize) -> bool
+    requires { ⌜ at + length (now a) ≤ length (now b) ⌝ }
+    ensures { λ r. ⌜ r ≡ same (now (a .entry)) (take (length (now (a .entry))) (drop at (now (b .entry)))) ⌝ }
 {
     let mut i = 0;
-    while i < len {
-        if a[at + i] != b[to + i] {
+    while i < a.len() {
+        if a[i] != b[at + i] {
             return false;
         }
         i += 1;
@@ -110,26 +89,26 @@ fn same_run(a: &[u8], at: usize, b: &[u8], to: usize, len: usize) -> bool
     true
 }
 
-// Whether the frame starts, from `i` on, with the `len` bytes of the image from `at` on.
-fn starts_at(image: &[u8], at: usize, len: usize, frame: &[u8], i: usize) -> bool
-    requires { ⌜ (at + len ≤ length (now image)) × (i ≤ length (now frame)) ⌝ }
-    ensures { λ r. ⌜ r ≡ starts (take len (drop at (now (image .entry)))) (drop i (now (frame .entry))) ⌝ }
+// Whether the frame starts, from `i` on, with a pattern.
+fn starts_at(pattern: &[u8], frame: &[u8], i: usize) -> bool
+    requires { ⌜ i ≤ length (now frame) ⌝ }
+    ensures { λ r. ⌜ r ≡ starts (now (pattern .entry)) (drop i (now (frame .entry))) ⌝ }
 {
-    if frame.len() - i < len {
+    if frame.len() - i < pattern.len() {
         return false;
     }
-    same_run(image, at, frame, i, len)
+    same_run(pattern, frame, i)
 }
 
-// Whether the frame before `i` ends with the `len` bytes of the image from `at` on.
-fn ends_at(image: &[u8], at: usize, len: usize, frame: &[u8], i: usize) -> bool
-    requires { ⌜ (at + len ≤ length (now image)) × (i ≤ length (now frame)) ⌝ }
-    ensures { λ r. ⌜ r ≡ ends (take len (drop at (now (image .entry)))) (take i (now (frame .entry))) ⌝ }
+// Whether the frame before `i` ends with a pattern.
+fn ends_at(pattern: &[u8], frame: &[u8], i: usize) -> bool
+    requires { ⌜ i ≤ length (now frame) ⌝ }
+    ensures { λ r. ⌜ r ≡ ends (now (pattern .entry)) (take i (now (frame .entry))) ⌝ }
 {
-    if i < len {
+    if i < pattern.len() {
         return false;
     }
-    same_run(image, at, frame, i - len, len)
+    same_run(pattern, frame, i - pattern.len())
 }
 
 // Whether the rule at a place fits at `i`. The target is tested first: it decides soonest.
@@ -137,23 +116,25 @@ pub fn fits_at(image: &[u8], place: usize, frame: &[u8], i: usize) -> bool
     requires { ⌜ (valid (now image) ≡ true) × ((place < countOf (now image)) × (i ≤ length (now frame))) ⌝ }
     ensures { λ r. ⌜ r ≡ fits (entryAt (now (image .entry)) place .rule) (now (frame .entry)) i ⌝ }
 {
-    let at = 4 + 26 * place;
-    let target = wide(image[at + 3]);
-    if !starts_at(image, at + 12, target, frame, i) {
+    let target = image::target_at(image, place);
+    if !starts_at(target, frame, i) {
         return false;
     }
-    if !starts_at(image, at + 16, wide(image[at + 4]), frame, i + target) {
+    let right = image::right_at(image, place);
+    if !starts_at(right, frame, i + target.len()) {
         return false;
     }
-    ends_at(image, at + 6, wide(image[at + 2]), frame, i)
+    let left = image::left_at(image, place);
+    ends_at(left, frame, i)
 }
 
 // The length of the target of the rule at a place.
 pub fn target_len_at(image: &[u8], place: usize) -> usize
     requires { ⌜ (valid (now image) ≡ true) × (place < countOf (now image)) ⌝ }
-    ensures { λ r. ⌜ (r ≡ length (entryAt (now (image .entry)) place .rule .target)) × ((1 ≤ r) × (r ≤ 4)) ⌝ }
+    ensures { λ r. ⌜ (r ≡ length (entryAt (now (image .entry)) place .rule .target)) × ((1 ≤ r) × (r ≤ maxTarget)) ⌝ }
 {
-    wide(image[4 + 26 * place + 3])
+    let target = image::target_at(image, place);
+    target.len()
 }
 
 // The first rule in order that fits at `i`.
@@ -172,51 +153,48 @@ fn first_fit(image: &[u8], count: usize, frame: &[u8], i: usize) -> Fit
 }
 
 // The places of the rules applied to a framed name, in order, from its first letter on.
-fn read_places(image: &[u8], frame: &[u8], places: &mut [u16]) -> Applied
-    requires { ⌜ (valid (now image) ≡ true) × ((2 ≤ length (now frame)) × ((length (now frame) ≤ 66) × (length (now places) ≡ 64))) ⌝ }
-    ensures { λ r. ⌜ ReadInto (now (image .entry)) (now (frame .entry)) (now (places .exit)) r ⌝ }
+fn read_places(image: &[u8], frame: &[u8], places: &mut [u16]) -> Reached
+    requires { ⌜ (valid (now image) ≡ true) × ((2 ≤ length (now frame)) × ((length (now frame) ≤ maxName + 2) × (length (now places) ≡ maxName))) ⌝ }
+    ensures { λ r. ⌜ ReadBy (now (image .entry)) (firstFit (entriesOf (now (image .entry))) (now (frame .entry))) (length (now (frame .entry)) - 2) (now (places .exit)) r ⌝ }
 {
-    let count = wide_place(image::two_at(image, 0));
+    let count = image::rule_count(image);
     let n = frame.len() - 2;
     let mut k = 0;
     let mut i = 1;
     while i <= n {
         let fit = first_fit(image, count, frame, i);
         let Fit::Rule(place) = fit else {
-            return Applied::NoFit(i);
+            return Reached::Uncovered(i);
         };
         places[k] = place as u16;
         k += 1;
         i += target_len_at(image, place);
     }
-    Applied::Rules(k)
+    Reached::Rules(k)
 }
 
-// The plain reading of letters with a ruleset.
-fn read_letters(image: &[u8], name: &[u8], phones: &mut [u8], numbers: &mut [u16]) -> Speech
-    requires { ⌜ (valid (now image) ≡ true) × (length (now name) ≤ 64) ⌝ }
-    ensures { λ r. ⌜ saying (toldOf r) (now (phones .exit)) (now (numbers .exit)) ≡ delivered (plain (entriesOf (now (image .entry))) (now (name .entry))) (now (phones .entry)) (now (numbers .entry)) ⌝ }
+// The plain reading of a sound name with a ruleset.
+fn read_sound(image: &[u8], name: &[u8], phones: &mut [u8], numbers: &mut [u16]) -> Speech
+    requires { ⌜ (valid (now image) ≡ true) × (length (now name) ≤ maxName) ⌝ }
+    ensures { λ r. ⌜ saying (toldOf r) (now (phones .exit)) (now (numbers .exit)) ≡ delivered (answered (plain (entriesOf (now (image .entry))) (now (name .entry))) 0) (now (phones .entry)) (now (numbers .entry)) ⌝ }
 {
-    let mut frame = [0u8; 66];
+    let mut frame = [0u8; MAX_FRAME];
     lay_frame(name, &mut frame);
     let end = name.len() + 2;
-    let mut places = [0u16; 64];
-    let applied = read_places(image, &frame[..end], &mut places);
-    match applied {
-        Applied::NoFit(i) => Speech::Refused(Refusal::NoFit(i)),
-        Applied::Rules(k) => delivery::deliver(image, &places[..k], phones, numbers),
-    }
+    let mut places = [0u16; rules::MAX_NAME];
+    let reached = read_places(image, &frame[..end], &mut places);
+    delivery::answer(image, reached, &places, phones, numbers)
 }
 
 // The plain reading of a name, for a caller that knows the image to be a ruleset.
 pub fn read_valid(image: &[u8], name: &[u8], phones: &mut [u8], numbers: &mut [u16]) -> Speech
     requires { ⌜ valid (now image) ≡ true ⌝ }
-    ensures { λ r. ⌜ saying (toldOf r) (now (phones .exit)) (now (numbers .exit)) ≡ delivered (judgedName (now (name .entry)) (plain (entriesOf (now (image .entry))) (now (name .entry)))) (now (phones .entry)) (now (numbers .entry)) ⌝ }
+    ensures { λ r. ⌜ saying (toldOf r) (now (phones .exit)) (now (numbers .exit)) ≡ delivered (judgedName (now (name .entry)) (answered (plain (entriesOf (now (image .entry))) (now (name .entry))) 0)) (now (phones .entry)) (now (numbers .entry)) ⌝ }
 {
     let judged = judge_name(name);
     match judged {
         Judged::Refused(x) => Speech::Refused(x),
-        Judged::Letters => read_letters(image, name, phones, numbers),
+        Judged::Sound => read_sound(image, name, phones, numbers),
     }
 }
 
