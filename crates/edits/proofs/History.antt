@@ -16,7 +16,7 @@ use Rattle.image.specs.State.{Ledger, rulesOf, entries, distinct, noNumbered, n
 use Rattle.edits.specs.Ledger.{Edit, placeOf, applied, judged, after, afterBy, afterAll, answersAll, issuedBy, issued}
 use Rattle.edits.specs.Ledger.Edit.{Add, Drop, Move}
 use Rattle.image.specs.Image.{ledgerOf, valid, Edited, Filled}
-use Rattle.edits.specs.Edits.{outcomeBy, edited, FilledEdit, outAll, imageAll}
+use Rattle.edits.specs.Edits.{outcomeBy, edited, FilledEdit, outAll, imageAll, issuedIn}
 use Rattle.rules.specs.Refusals.{Reply, accepted, declined}
 use Rattle.image.proofs.Stored.{Each, none, more, Fine, laid-state, laid-valid, valid-fine}
 use Rattle.edits.proofs.Kept.{entries-more, entries-insert, entries-remove, entries-at, fresh, distinct-insert, distinct-remove, taken-new, map-insert, map-remove, map-at}
@@ -140,6 +140,16 @@ pub history-valid : (es : List Edit) → ((k : ℕ) → k < length es → Filled
 history-valid [] w d ok = ok
 history-valid (e ∷ es) w d ok =
     history-valid es (λ k h. w (suc k) (omega arith)) (edited d e .image) (stepped d ok e (w 0 (omega arith)) .kept)
+
+-- and the numbers that accepted additions got, read from the images, are the ledger's
+pub history-issued : (es : List Edit) → ((k : ℕ) → k < length es → FilledEdit (getD es k (Drop 0))) → (d : List ℕ) → valid d ≡ true
+    → issuedIn d es ≡ issued (ledgerOf d) es
+history-issued [] w d ok = refl
+history-issued (e ∷ es) w d ok =
+    let t = stepped d ok e (w 0 (omega arith)) in
+    let r = history-issued es (λ k h. w (suc k) (omega arith)) (edited d e .image) (t .kept) in
+    ap₂ (λ (a : Reply) (g : Ledger). issuedBy a e (g .last) (issuedIn (edited d e .image) es)) (t .reply) (t .state)
+    ∙ ap (issuedBy (judged (ledgerOf d) e) e (after (ledgerOf d) e .last)) (r ∙ ap (λ (g : Ledger). issued g es) (t .state))
 
 -- each number issued after a state is above its last
 issuedBy-above : (g : Ledger) (e : Edit) (a : Reply) (l : List ℕ) → ((k : ℕ) → k < length l → afterBy a g e .last < getD l k 0)

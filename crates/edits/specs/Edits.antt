@@ -5,8 +5,8 @@ use Prim.Native.Nat.{ℕ}
 use mathlib.Core.Path.{_≡_}
 use mathlib.Core.List.{List, [], _∷_}
 use Rattle.rules.specs.Refusals.{Reply, accepted, declined}
-use Rattle.image.specs.Image.{ledgerOf, laid, valid, Edited, outcome, Filled}
-use Rattle.edits.specs.Ledger.{Edit, judged, applied}
+use Rattle.image.specs.Image.{lastOf, ledgerOf, laid, valid, Edited, outcome, Filled}
+use Rattle.edits.specs.Ledger.{Edit, judged, applied, issuedBy}
 use Rattle.edits.specs.Ledger.Edit.{Add, Drop, Move}
 
 abbrev pub outcomeBy : Reply → List ℕ → Edit → Edited
@@ -31,3 +31,9 @@ outAll image (e ∷ es) = edited image e .reply ∷ outAll (edited image e .imag
 abbrev pub imageAll : List ℕ → List Edit → List ℕ
 imageAll image [] = image
 imageAll image (e ∷ es) = imageAll (edited image e .image) es
+
+-- the numbers that the accepted additions among them got, in turn: the `last` of the image after each
+abbrev pub issuedIn : List ℕ → List Edit → List ℕ
+issuedIn image [] = []
+issuedIn image (e ∷ es) =
+    issuedBy (edited image e .reply) e (lastOf (edited image e .image)) (issuedIn (edited image e .image) es)
