@@ -1,143 +1,181 @@
 -- Laws of coded edits and of a replay's turns.
 -- Assumes nothing.
 use Prim.Native.Nat.{ℕ, zero, suc, _+_, _-_, _*_, _≤_, _<_, _%_, _/_}
-use mathlib.Core.Path.{_≡_, refl, sym, ap, _∙_}
-use mathlib.Core.List.{List, [], _∷_, _++_, map, append-assoc, append-nil}
+use mathlib.Core.Path.{_≡_, refl, sym, ap, ap₂, _∙_}
+use mathlib.Core.List.{List, [], _∷_, _++_, map, append-assoc, append-nil, map-append}
 use mathlib.Core.Bool.{Bool, true, false, cond}
 use native.Mathlib.Omega.{arith}
-use native.Mathlib.Numerals.{add-one}
-use borrow.Author.Tests.{eq-eqb, ne-eqb, lt-leb, le-leb, lt-ltb, le-ltb, ltb-true, ltb-false}
-use lib.ListN.{length, getD, take, drop, set, length-set, length-drop, take-append-drop}
-use lib.Seq.{take-suc-set, drop-set-lt, drop-drop, take-all}
-use lib.Dec.{eqb, ltb}
-use Rattle.rules.proofs.Cases.{byBool}
+use borrow.Author.Tests.{eq-eqb, ne-eqb, le-leb, leb-true}
+use lib.ListN.{length, getD, take, drop, set, length-set, length-drop, length-append, length-map}
+use lib.Seq.{drop-drop, take-all}
+use lib.Dec.{leb, eqb}
+use Rattle.rules.specs.Memory.{over}
+use Rattle.rules.specs.Refusals.{Reply, accepted, declined, replyCode, replyPlace}
 use Rattle.rules.specs.declared.Rule.{Rule}
-use Rattle.rules.specs.Refusals.{Reply, accepted, declined}
-use Rattle.image.specs.State.{start}
-use Rattle.image.specs.Image.{laid, valid, Edited, outcome}
-use Rattle.edits.specs.Edits.{edited, imageAll, outAll, FilledEdit}
+use Rattle.rules.proofs.Cases.{byBool}
+use Rattle.rules.proofs.Memory.{over-snoc}
+use Rattle.image.specs.State.{Ledger, start, isRuleset}
+use Rattle.image.specs.Image.{imageSize, ledgerOf, laid, valid, Edited, outcome, cleared}
+use Rattle.edits.specs.Ledger.{Edit, afterAll, answersAll, issued}
 use Rattle.edits.specs.Ledger.Edit.{Add, Drop, Move}
-use Rattle.edits.proofs.History.{history, history-valid, issued-rise}
-use Rattle.history.specs.Code.{ruleOf, editOf, editsOf}
-use Rattle.history.specs.Replay.{codeOf, turns, taken, Replay, replaying, through, replayed, Replayed}
+use Rattle.edits.specs.Edits.{edited, imageAll, outAll, issuedIn, FilledEdit}
+use Rattle.edits.proofs.History.{history, history-valid, history-issued, issued-rise}
+use Rattle.history.specs.Code.{codedRule, codedEdit, codedEdits}
+use Rattle.history.specs.Replay.{turns, taken, Replay, replaying, through, throughBy, replayed, FromEmpty, Replayed}
 
-pub edit-add : (ws : List ℕ) (r : Rule) (p : ℕ) → getD ws 0 0 ≡ 0 → r ≡ ruleOf ws → p ≡ getD ws 2 0 → Add r p ≡ editOf ws
+pub edit-add : (ws : List ℕ) (r : Rule) (p : ℕ) → getD ws 0 0 ≡ 0 → r ≡ codedRule ws → p ≡ getD ws 2 0 → Add r p ≡ codedEdit ws
 edit-add ws r p k e q = rw (eq-eqb _ _ k, e, q)
 
-pub edit-drop : (ws : List ℕ) (n : ℕ) → (getD ws 0 0 ≡ 0 → ⊥) → getD ws 0 0 ≡ 1 → n ≡ getD ws 1 0 % 65536 → Drop n ≡ editOf ws
+pub edit-drop : (ws : List ℕ) (n : ℕ) → (getD ws 0 0 ≡ 0 → ⊥) → getD ws 0 0 ≡ 1 → n ≡ getD ws 1 0 % 65536 → Drop n ≡ codedEdit ws
 edit-drop ws n k l e = rw (ne-eqb _ _ k, eq-eqb _ _ l, e)
 
 pub edit-move : (ws : List ℕ) (n p : ℕ) → (getD ws 0 0 ≡ 0 → ⊥) → (getD ws 0 0 ≡ 1 → ⊥) → n ≡ getD ws 1 0 % 65536 → p ≡ getD ws 2 0
-    → Move n p ≡ editOf ws
+    → Move n p ≡ codedEdit ws
 edit-move ws n p k l e q = rw (ne-eqb _ _ k, ne-eqb _ _ l, e, q)
 
-length-editsOf : (n : ℕ) (ws : List ℕ) → length (editsOf n ws) ≡ n
-length-editsOf zero ws = refl
-length-editsOf (suc n) ws = ap suc (length-editsOf n (drop 27 ws))
+length-codedEdits : (n : ℕ) (ws : List ℕ) → length (codedEdits n ws) ≡ n
+length-codedEdits zero ws = refl
+length-codedEdits (suc n) ws = ap suc (length-codedEdits n (drop 27 ws))
 
 edits-on : (n i at : ℕ) (ws : List ℕ) → i < n
-    → editsOf (n - i) (drop at ws) ≡ editOf (drop at ws) ∷ editsOf (n - (i + 1)) (drop (at + 27) ws)
+    → codedEdits (n - i) (drop at ws) ≡ codedEdit (drop at ws) ∷ codedEdits (n - (i + 1)) (drop (at + 27) ws)
 edits-on n i at ws h =
     let e : n - i ≡ suc (n - (i + 1)) = omega arith in
     rw (e, ← drop-drop 27 at ws)
 
-filled-by : (ws : List ℕ) (a b : Bool) → FilledEdit (cond a (Add (ruleOf ws) (getD ws 2 0)) (cond b (Drop (getD ws 1 0 % 65536)) (Move (getD ws 1 0 % 65536) (getD ws 2 0))))
+filled-by : (ws : List ℕ) (a b : Bool) → FilledEdit (cond a (Add (codedRule ws) (getD ws 2 0)) (cond b (Drop (getD ws 1 0 % 65536)) (Move (getD ws 1 0 % 65536) (getD ws 2 0))))
 filled-by ws true b = (refl, (refl, (refl, refl)))
 filled-by ws false true = refl
 filled-by ws false false = refl
 
-edits-filled : (n : ℕ) (ws : List ℕ) (k : ℕ) → k < length (editsOf n ws) → FilledEdit (getD (editsOf n ws) k (Drop 0))
-edits-filled zero ws k h = absurd (omega arith)
-edits-filled (suc n) ws zero h = filled-by ws (eqb (getD ws 0 0) 0) (eqb (getD ws 0 0) 1)
-edits-filled (suc n) ws (suc k) h = edits-filled n (drop 27 ws) k (omega arith)
+coded-filled : (n : ℕ) (ws : List ℕ) (k : ℕ) → k < length (codedEdits n ws) → FilledEdit (getD (codedEdits n ws) k (Drop 0))
+coded-filled zero ws k h = absurd (omega arith)
+coded-filled (suc n) ws zero h = filled-by ws (eqb (getD ws 0 0) 0) (eqb (getD ws 0 0) 1)
+coded-filled (suc n) ws (suc k) h = coded-filled n (drop 27 ws) k (omega arith)
 
--- what holds after i turns, at the word `at`
-pub record Going (code d old : List ℕ) (n : ℕ) (img new : List ℕ) (i at : ℕ) : Type 0 where
+-- what holds after i turns, at the word `at`: the answers that are given, and that those to come make up the rest
+pub record Going (code d codes₀ places₀ : List ℕ) (n : ℕ) (img codes places : List ℕ) (i at : ℕ) : Type 0 where
   pub low : i ≤ n
-  pub place : at ≡ i * 27
-  pub size : length new ≡ length old
+  pub word : at ≡ i * 27
   pub long : length img ≡ length d
-  pub images : imageAll d (editsOf n code) ≡ imageAll img (editsOf (n - i) (drop at code))
-  pub said : map codeOf (outAll d (editsOf n code)) ≡ take i new ++ map codeOf (outAll img (editsOf (n - i) (drop at code)))
-  pub rest : drop i new ≡ drop i old
+  pub room : length codes ≡ length codes₀
+  pub spots : length places ≡ length places₀
+  pub replies : List Reply
+  pub count : length replies ≡ i
+  pub images : imageAll d (codedEdits n code) ≡ imageAll img (codedEdits (n - i) (drop at code))
+  pub said : outAll d (codedEdits n code) ≡ replies ++ outAll img (codedEdits (n - i) (drop at code))
+  pub numbered : codes ≡ over (map replyCode replies) codes₀
+  pub placed : places ≡ over (map replyPlace replies) places₀
 
-pub going-start : (code d old : List ℕ) (n : ℕ) → Going code d old n d old 0 0
-going-start code d old n =
+pub going-start : (code d codes places : List ℕ) (n : ℕ) → Going code d codes places n d codes places 0 0
+going-start code d codes places n =
     let z : n - 0 ≡ n = omega arith in
-    record { low = omega arith; place = omega arith; size = refl; long = refl; images = rw z; said = rw z; rest = refl }
+    record {
+      low = omega arith;
+      word = omega arith;
+      long = refl;
+      room = refl;
+      spots = refl;
+      replies = [];
+      count = refl;
+      images = rw z;
+      said = rw z;
+      numbered = refl;
+      placed = refl;
+    }
 
-module _ (code d old : List ℕ) (n : ℕ) (img new : List ℕ) (i at : ℕ) (g : Going code d old n img new i at) where
-  pub going-on : (a : Reply) (img′ : List ℕ) (v : ℕ) → i < n → n ≤ length old → length img′ ≡ length img
-      → outcome a img′ ≡ edited img (editOf (take (length code - at) (drop at code)))
-      → v ≡ codeOf a → Going code d old n img′ (set new i v) (i + 1) (at + 27)
-  going-on a img′ v h hn il oe ve =
+-- one answer more
+snoc-by : (f : Reply → ℕ) (replies : List Reply) (a : Reply) (old new : List ℕ) (i v : ℕ) → new ≡ over (map f replies) old → length replies ≡ i
+    → i < length old → v ≡ f a → set new i v ≡ over (map f (replies ++ (a ∷ []))) old
+snoc-by f replies a old new i v e l h q =
+    ap (λ (w : List ℕ). set w i v) e
+    ∙ (over-snoc (map f replies) old i v (length-map replies f ∙ l) h
+    ∙ ap (λ (w : List ℕ). over w old) (ap (λ (x : ℕ). map f replies ++ (x ∷ [])) q ∙ sym (map-append f replies (a ∷ []))))
+
+module _ (code d codes₀ places₀ : List ℕ) (n : ℕ) (img codes places : List ℕ) (i at : ℕ) (g : Going code d codes₀ places₀ n img codes places i at) where
+  pub going-on : (a : Reply) (img′ : List ℕ) (v p : ℕ) → i < n → n ≤ turns (length code) (length codes₀) (length places₀) → length img′ ≡ length img
+      → outcome a img′ ≡ edited img (codedEdit (take (length code - at) (drop at code)))
+      → v ≡ replyCode a → p ≡ replyPlace a → Going code d codes₀ places₀ n img′ (set codes i v) (set places i p) (i + 1) (at + 27)
+  going-on a img′ v p h hn il oe ve pe =
       let t : take (length code - at) (drop at code) ≡ drop at code =
       take-all (length code - at) (drop at code) (omega (arith, length-drop at code)) in
-      let q : outcome a img′ ≡ edited img (editOf (drop at code)) = rw t at oe in
-      let qa : a ≡ edited img (editOf (drop at code)) .reply = ap (λ (o : Edited). o .reply) q in
-      let qi : img′ ≡ edited img (editOf (drop at code)) .image = ap (λ (o : Edited). o .image) q in
-      let u : i < length new = omega (arith, g .size) in
+      let q : outcome a img′ ≡ edited img (codedEdit (drop at code)) = rw t at oe in
+      let qa : a ≡ edited img (codedEdit (drop at code)) .reply = ap (λ (o : Edited). o .reply) q in
+      let qi : img′ ≡ edited img (codedEdit (drop at code)) .image = ap (λ (o : Edited). o .image) q in
       let x = edits-on n i at code h in
-      let w : take (i + 1) (set new i v) ≡ take i new ++ (v ∷ []) = rw (add-one i) (take-suc-set new i v u) in
       record {
         low = omega arith;
-        place = omega (arith, g .place);
-        size = length-set new i v ∙ g .size;
+        word = omega (arith, g .word);
         long = il ∙ g .long;
+        room = length-set codes i v ∙ g .room;
+        spots = length-set places i p ∙ g .spots;
+        replies = g .replies ++ (a ∷ []);
+        count = length-append (g .replies) (a ∷ []) ∙ ap (λ (k : ℕ). k + 1) (g .count);
         images = rw qi (g .images ∙ ap (imageAll img) x);
-        said = rw (w, append-assoc, ve, qa, qi) (g .said ∙ ap (λ l. take i new ++ map codeOf (outAll img l)) x);
-        rest = drop-set-lt (i + 1) new i v (omega arith) ∙ sym (drop-drop 1 i new) ∙ ap (drop 1) (g .rest) ∙ drop-drop 1 i old;
+        said = rw (append-assoc, qa, qi) (g .said ∙ ap (λ l. g .replies ++ outAll img l) x);
+        numbered = snoc-by replyCode (g .replies) a codes₀ codes i v (g .numbered) (g .count) (omega arith) ve;
+        placed = snoc-by replyPlace (g .replies) a places₀ places i p (g .placed) (g .count) (omega arith) pe;
       }
 
-pub going-end : (code d old : List ℕ) (n : ℕ) (img new : List ℕ) (i at : ℕ) → Going code d old n img new i at → n ≤ i
-    → replaying accepted img new ≡ through (editsOf n code) d old
-going-end code d old n img new i at g h =
+pub going-end : (code d codes₀ places₀ : List ℕ) (n : ℕ) (img codes places : List ℕ) (i at : ℕ) → Going code d codes₀ places₀ n img codes places i at
+    → n ≤ i → replaying accepted img codes places ≡ through (codedEdits n code) d codes₀ places₀
+going-end code d codes₀ places₀ n img codes places i at g h =
     let z : n - i ≡ 0 = omega (arith, g .low) in
-    let k : i ≡ n = omega (arith, g .low) in
-    let w : imageAll d (editsOf n code) ≡ img = rw z at (g .images) in
-    let o : map codeOf (outAll d (editsOf n code)) ≡ take i new ++ [] = rw z at (g .said) in
-    let a : new ≡ map codeOf (outAll d (editsOf n code)) ++ drop (length (editsOf n code)) old =
-    rw (length-editsOf n code, o, append-nil, ← k, ← g .rest) (sym (take-append-drop i new)) in
-    cc
+    let w : imageAll d (codedEdits n code) ≡ img = rw z at (g .images) in
+    let o : outAll d (codedEdits n code) ≡ g .replies ++ [] = rw z at (g .said) in
+    let r : outAll d (codedEdits n code) ≡ g .replies = o ∙ append-nil (g .replies) in
+    rw (w, r, ← g .numbered, ← g .placed)
 
 -- ---- from the empty ruleset
 
-pub turns-more : (a b : ℕ) → a / 27 < b → a / 27 ≡ turns a b
-turns-more a b h = rw (lt-ltb _ _ h)
+-- memory that is cleared is a ruleset that holds the start
+cleared-empty : (d : List ℕ) → cleared d .reply ≡ accepted → (valid (cleared d .image) ≡ true) × (ledgerOf (cleared d .image) ≡ start)
+unfolding cleared valid isRuleset
+cleared-empty d e =
+    byBool (leb imageSize (length d))
+    (λ u. rw (u, le-leb imageSize (length (laid start d)) (simp length-drop (omega (arith, leb-true imageSize (length d) u)))) (refl, refl))
+    (λ u. let z : _≡_ {A = ℕ} 0 1 = cc (rw u at e) in absurd (omega arith))
 
-pub turns-less : (a b : ℕ) → b ≤ a / 27 → b ≡ turns a b
-turns-less a b h = rw (le-ltb _ _ h)
-
-pub turns-code : (a b : ℕ) → turns a b ≤ a / 27
-turns-code a b = byBool (ltb (a / 27) b) (λ e. rw e (omega arith)) (λ e. rw e (let l = ltb-false (a / 27) b e in omega arith))
-
-pub turns-answers : (a b : ℕ) → turns a b ≤ b
-turns-answers a b = byBool (ltb (a / 27) b) (λ e. rw e (let l = ltb-true (a / 27) b e in omega arith)) (λ e. rw e (omega arith))
-
-pub too-short : (d code old : List ℕ) → length d < 13316 → Replayed d code old (replaying (declined 0 0) d old)
+-- memory that is refused is kept
+pub short-kept : (d code codes places img : List ℕ) (n p : ℕ) (a : Reply) → a ≡ declined n p → outcome a img ≡ cleared d
+    → Replayed d code codes places (replaying (declined n p) img codes places)
 unfolding replayed
-too-short d code old h = record { whole = rw (lt-leb _ _ h); claim = λ e. let z : _≡_ {A = ℕ} 0 1 = cc in absurd (omega arith) }
+short-kept d code codes places img n p a q e = record {
+  whole =
+      ap (λ (x : Reply). throughBy x (taken code codes places) img codes places) (sym q)
+      ∙ ap (λ (o : Edited). throughBy (o .reply) (taken code codes places) (o .image) codes places) e;
+  claim = λ u. let z : _≡_ {A = ℕ} 0 1 = cc in absurd (omega arith);
+}
 
--- an image with an empty head is a ruleset
-empty-valid : (d : List ℕ) → 13316 ≤ length d → valid (laid start d) ≡ true
-unfolding valid
-empty-valid d h = rw (le-leb 13316 (length (laid start d)) (simp (length-drop) (omega arith)))
-
-pub long-enough : (d code old img new : List ℕ) → 13316 ≤ length d → replaying accepted img new ≡ through (taken code old) (laid start d) old
-    → Replayed d code old (replaying accepted img new)
-unfolding replayed
-long-enough d code old img new h e =
-    let n : ℕ = turns (length code) (length old) in
-    let ok = empty-valid d h in
-    let t = history (taken code old) (edits-filled n code) (laid start d) ok in
-    let ei : img ≡ imageAll (laid start d) (taken code old) = ap (λ (r : Replay). r .image) e in
-    let en : new ≡ map codeOf (outAll (laid start d) (taken code old)) ++ drop (length (taken code old)) old = ap (λ (r : Replay). r .answers) e in
+-- the claim holds of the edits es, wherever they come from
+pub from-empty : (es : List Edit) → ((k : ℕ) → k < length es → FilledEdit (getD es k (Drop 0))) → (d codes places : List ℕ) → cleared d .reply ≡ accepted
+    → FromEmpty es d codes places (through es (cleared d .image) codes places)
+from-empty es w d codes places a =
+    let ok = cleared-empty d a in
+    let t = history es w (cleared d .image) (ok .0) in
+    let n : issuedIn (cleared d .image) es ≡ issued start es = history-issued es w (cleared d .image) (ok .0) ∙ ap (λ (g : Ledger). issued g es) (ok .1) in
+    let o : outAll (cleared d .image) es ≡ answersAll start es = t .0 ∙ ap (λ (g : Ledger). answersAll g es) (ok .1) in
     record {
-      whole = rw (le-leb _ _ h) e;
-      claim = λ u. record {
-        kept = rw ei (history-valid (taken code old) (edits-filled n code) (laid start d) ok);
-        state = rw ei (t .1);
-        answers = en ∙ rw (t .0);
-        apart = λ x y u v e. omega (arith, issued-rise (taken code old) start x y u v);
-      };
+      kept = history-valid es w (cleared d .image) (ok .0);
+      state = t .1 ∙ ap (λ (g : Ledger). afterAll g es) (ok .1);
+      answers = ap (λ (l : List Reply). over (map replyCode l) codes) o;
+      places = ap (λ (l : List Reply). over (map replyPlace l) places) o;
+      numbers = n;
+      apart = rw n (λ i j u v e. omega (arith, issued-rise es start i j u v));
+    }
+
+-- memory that is cleared, and the edits that are taken
+pub long-enough : (d code codes places img : List ℕ) (a : Reply) → a ≡ accepted → outcome a img ≡ cleared d
+    → (n : ℕ) → n ≡ turns (length code) (length codes) (length places) → (img′ codes′ places′ : List ℕ)
+    → replaying accepted img′ codes′ places′ ≡ through (codedEdits n code) img codes places
+    → Replayed d code codes places (replaying accepted img′ codes′ places′)
+unfolding replayed
+long-enough d code codes places img a q c n t img′ codes′ places′ e =
+    let y : cleared d .reply ≡ accepted = sym (ap (λ (o : Edited). o .reply) c) ∙ q in
+    let i : img ≡ cleared d .image = ap (λ (o : Edited). o .image) c in
+    let w : replaying accepted img′ codes′ places′ ≡ through (taken code codes places) (cleared d .image) codes places =
+    e ∙ ap₂ (λ (k : ℕ) (x : List ℕ). through (codedEdits k code) x codes places) t i in
+    record {
+      whole = w ∙ ap (λ (x : Reply). throughBy x (taken code codes places) (cleared d .image) codes places) (sym y);
+      claim = λ u. rw w (from-empty (taken code codes places) (coded-filled (turns (length code) (length codes) (length places)) code) d codes places y);
     }

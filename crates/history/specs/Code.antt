@@ -7,6 +7,7 @@ use mathlib.Core.Path.{_≡_}
 use mathlib.Core.List.{List, [], _∷_, _++_}
 use lib.ListN.{length, getD, drop, replicate}
 use lib.Dec.{eqb}
+use Rattle.rules.specs.Limits.{maxContext, maxTarget, maxPhones}
 use Rattle.rules.specs.declared.Rule.{Rule}
 use Rattle.edits.specs.Ledger.{Edit}
 use Rattle.edits.specs.Ledger.Edit.{Add, Drop, Move}
@@ -24,8 +25,8 @@ sixAt ws k = byteAt ws k ∷ byteAt ws (k + 1) ∷ byteAt ws (k + 2) ∷ byteAt 
 abbrev pub fourAt : List ℕ → ℕ → List ℕ
 fourAt ws k = byteAt ws k ∷ byteAt ws (k + 1) ∷ byteAt ws (k + 2) ∷ byteAt ws (k + 3) ∷ []
 
-abbrev pub ruleOf : List ℕ → Rule
-ruleOf ws = record {
+abbrev pub codedRule : List ℕ → Rule
+codedRule ws = record {
   «left_len» = byteAt ws 3;
   «target_len» = byteAt ws 4;
   «right_len» = byteAt ws 5;
@@ -37,17 +38,17 @@ ruleOf ws = record {
 }
 
 -- the edit that the first 27 words say
-abbrev pub editOf : List ℕ → Edit
-editOf ws =
-    cond (eqb (getD ws 0 0) 0) (Add (ruleOf ws) (getD ws 2 0))
+abbrev pub codedEdit : List ℕ → Edit
+codedEdit ws =
+    cond (eqb (getD ws 0 0) 0) (Add (codedRule ws) (getD ws 2 0))
     (cond (eqb (getD ws 0 0) 1) (Drop (getD ws 1 0 % 65536)) (Move (getD ws 1 0 % 65536) (getD ws 2 0)))
 
 -- the first n edits that the words say
-abbrev pub editsOf : ℕ → List ℕ → List Edit
-editsOf zero ws = []
-editsOf (suc n) ws = editOf ws ∷ editsOf n (drop editWords ws)
+abbrev pub codedEdits : ℕ → List ℕ → List Edit
+codedEdits zero ws = []
+codedEdits (suc n) ws = codedEdit ws ∷ codedEdits n (drop editWords ws)
 
--- the words that say an edit
+-- the words that say an edit, before ws
 abbrev pub wordsOf : Edit → List ℕ → List ℕ
 wordsOf (Add r p) ws =
     0 ∷ 0 ∷ p ∷ r .«left_len» ∷ r .«target_len» ∷ r .«right_len» ∷ r .«phone_len»
@@ -58,13 +59,18 @@ wordsOf (Add r p) ws =
 wordsOf (Drop n) ws = 1 ∷ n ∷ replicate 25 0 ++ ws
 wordsOf (Move n p) ws = 2 ∷ n ∷ p ∷ replicate 24 0 ++ ws
 
+-- the code of a list of edits
 abbrev pub wordsAll : List Edit → List ℕ
 wordsAll [] = []
 wordsAll (e ∷ es) = wordsOf e (wordsAll es)
 
+-- numbers that are all below a bound
+abbrev pub Below : ℕ → List ℕ → Type 0
+Below b l = (k : ℕ) → getD l k 0 < b
+
 -- n bytes
 abbrev pub Bytes : ℕ → List ℕ → Type 0
-Bytes n l = (length l ≡ n) × ((k : ℕ) → getD l k 0 < 256)
+Bytes n l = (length l ≡ n) × Below 256 l
 
 -- a rule whose fields are of the struct's types
 pub record TypedRule (r : Rule) : Type 0 where
@@ -72,16 +78,20 @@ pub record TypedRule (r : Rule) : Type 0 where
   pub «target-len» : r .«target_len» < 256
   pub «right-len» : r .«right_len» < 256
   pub «phone-len» : r .«phone_len» < 256
-  pub left : Bytes 6 (r .left)
-  pub target : Bytes 4 (r .target)
-  pub right : Bytes 6 (r .right)
-  pub phones : Bytes 4 (r .phones)
+  pub left : Bytes maxContext (r .left)
+  pub target : Bytes maxTarget (r .target)
+  pub right : Bytes maxContext (r .right)
+  pub phones : Bytes maxPhones (r .phones)
+
+-- what a word, a usize of 64 bits, is below
+abbrev pub wordBound : ℕ
+wordBound = 18446744073709551616
 
 -- an edit whose arguments are of the functions' types
 abbrev pub Typed : Edit → Type 0
-Typed (Add r p) = TypedRule r
+Typed (Add r p) = TypedRule r × (p < wordBound)
 Typed (Drop n) = n < 65536
-Typed (Move n p) = n < 65536
+Typed (Move n p) = (n < 65536) × (p < wordBound)
 
 abbrev pub TypedAll : List Edit → Type 0
 TypedAll [] = Unit

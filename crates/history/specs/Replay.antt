@@ -1,58 +1,75 @@
 -- A list of edits from the empty ruleset, one after the other: all that a replay gives, and what the ledger says of it.
 -- Assumes nothing.
-use Prim.Native.Nat.{ℕ, _<_, _/_}
+use Prim.Native.Nat.{ℕ, _*_, _<_, _/_, min}
 use mathlib.Core.Path.{_≡_}
-use mathlib.Core.List.{List, _++_, map}
-use mathlib.Core.Bool.{true, cond}
-use lib.ListN.{length, getD, drop}
-use lib.Dec.{leb, ltb}
-use Rattle.rules.specs.Refusals.{Reply, accepted, declined}
+use mathlib.Core.List.{List, map}
+use mathlib.Core.Bool.{true}
+use lib.ListN.{length, getD}
+use Rattle.rules.specs.Memory.{over}
+use Rattle.rules.specs.Refusals.{Reply, accepted, declined, replyCode, replyPlace}
 use Rattle.image.specs.State.{start}
-use Rattle.image.specs.Image.{imageSize, ledgerOf, laid, valid}
+use Rattle.image.specs.Image.{ledgerOf, valid, cleared}
 use Rattle.edits.specs.Ledger.{Edit, afterAll, answersAll, issued}
-use Rattle.edits.specs.Edits.{outAll, imageAll}
-use Rattle.history.specs.Code.{editWords, editsOf}
+use Rattle.edits.specs.Edits.{outAll, imageAll, issuedIn}
+use Rattle.history.specs.Code.{editWords, codedEdits, wordsAll, wordBound, Below}
 
--- a byte for an answer: a refusal's number, or 255 for an accepted edit (the place of an edit's refusal is always 0)
-abbrev pub codeOf : Reply → ℕ
-codeOf accepted = 255
-codeOf (declined n p) = n
+-- how many edits are taken: as many as are coded and have room for the code and the place of their answer
+abbrev pub turns : ℕ → ℕ → ℕ → ℕ
+turns code answers places = min (code / editWords) (min answers places)
 
--- how many edits are taken: as many as are coded and have a byte for their answer
-abbrev pub turns : ℕ → ℕ → ℕ
-turns code answers = cond (ltb (code / editWords) answers) (code / editWords) answers
+abbrev pub taken : List ℕ → List ℕ → List ℕ → List Edit
+taken code answers places = codedEdits (turns (length code) (length answers) (length places)) code
 
-abbrev pub taken : List ℕ → List ℕ → List Edit
-taken code answers = editsOf (turns (length code) (length answers)) code
-
--- the answer of the call, the image and the answers of the edits
+-- the answer of the call, the image, and the codes and the places of the edits' answers
 pub record Replay : Type 0 where
   pub reply : Reply
   pub image : List ℕ
   pub answers : List ℕ
+  pub places : List ℕ
 
-abbrev pub replaying : Reply → List ℕ → List ℕ → Replay
-replaying a image answers = record { reply = a; image = image; answers = answers }
+abbrev pub replaying : Reply → List ℕ → List ℕ → List ℕ → Replay
+replaying a image answers places = record { reply = a; image = image; answers = answers; places = places }
 
--- the edits es on an image: the image after them, and an answer's byte for each; what lies past them keeps its contents
-abbrev pub through : List Edit → List ℕ → List ℕ → Replay
-through es image answers = replaying accepted (imageAll image es) (map codeOf (outAll image es) ++ drop (length es) answers)
+-- the edits es on an image: the image after them, and the code and the place of each answer; what lies past them keeps its contents
+abbrev pub through : List Edit → List ℕ → List ℕ → List ℕ → Replay
+through es image answers places =
+    replaying accepted (imageAll image es) (over (map replyCode (outAll image es)) answers) (over (map replyPlace (outAll image es)) places)
+
+-- the edits es on an image that was cleared with this answer: a refusal ends the call
+abbrev pub throughBy : Reply → List Edit → List ℕ → List ℕ → List ℕ → Replay
+throughBy accepted es image answers places = through es image answers places
+throughBy (declined n p) es image answers places = replaying (declined n p) image answers places
 
 -- from the empty ruleset, in memory that held anything; memory too short for a ruleset is refused and kept
-unfoldable pub replayed : List ℕ → List ℕ → List ℕ → Replay
-replayed image code answers =
-    cond (leb imageSize (length image)) (through (taken code answers) (laid start image) answers) (replaying (declined 0 0) image answers)
+unfoldable pub replayed : List ℕ → List ℕ → List ℕ → List ℕ → Replay
+replayed image code answers places =
+    throughBy (cleared image .reply) (taken code answers places) (cleared image .image) answers places
 
--- The claim over every list of edits es from the empty ruleset: what is held and what was answered after it.
-pub record FromEmpty (es : List Edit) (old image new : List ℕ) : Type 0 where
+-- The claim over the edits es from the empty ruleset, in memory that held image₀, answers₀ and places₀: what is held and what was answered.
+pub record FromEmpty (es : List Edit) (image₀ answers₀ places₀ : List ℕ) (r : Replay) : Type 0 where
   -- the memory holds a ruleset, whose rules and last are the ledger's
-  pub kept : valid image ≡ true
-  pub state : ledgerOf image ≡ afterAll start es
-  -- each answer is the ledger's
-  pub answers : new ≡ map codeOf (answersAll start es) ++ drop (length es) old
-  -- no two accepted additions got the same number
-  pub apart : (i j : ℕ) → i < j → j < length (issued start es) → getD (issued start es) i 0 ≡ getD (issued start es) j 0 → ⊥
+  pub kept : valid (r .image) ≡ true
+  pub state : ledgerOf (r .image) ≡ afterAll start es
+  -- each answer is the ledger's: a refusal's number with its place; what lies past them keeps its contents
+  pub answers : r .answers ≡ over (map replyCode (answersAll start es)) answers₀
+  pub places : r .places ≡ over (map replyPlace (answersAll start es)) places₀
+  -- the numbers that accepted additions got, the image's last after each, are the ledger's
+  pub numbers : issuedIn (cleared image₀ .image) es ≡ issued start es
+  -- no two of them got the same number
+  pub apart : (i j : ℕ) → i < j → j < length (issuedIn (cleared image₀ .image) es)
+      → getD (issuedIn (cleared image₀ .image) es) i 0 ≡ getD (issuedIn (cleared image₀ .image) es) j 0 → ⊥
 
-pub record Replayed (image code answers : List ℕ) (r : Replay) : Type 0 where
-  pub whole : r ≡ replayed image code answers
-  pub claim : r .reply ≡ accepted → FromEmpty (taken code answers) answers (r .image) (r .answers)
+-- what a call of replay gives
+pub record Replayed (image code answers places : List ℕ) (r : Replay) : Type 0 where
+  pub whole : r ≡ replayed image code answers places
+  pub claim : r .reply ≡ accepted → FromEmpty (taken code answers places) image answers places r
+
+-- The list es, coded and replayed.
+pub record OfList (es : List Edit) (image answers places : List ℕ) : Type 0 where
+  -- its code is a slice of words, so a call can be lent it
+  pub size : length (wordsAll es) ≡ length es * editWords
+  pub words : Below wordBound (wordsAll es)
+  -- the edits taken are the list, the call is accepted, and the claim holds of what it gives
+  pub whole : taken (wordsAll es) answers places ≡ es
+  pub reply : replayed image (wordsAll es) answers places .reply ≡ accepted
+  pub claim : FromEmpty es image answers places (replayed image (wordsAll es) answers places)

@@ -1,19 +1,20 @@
 // A list of edits from the empty ruleset, replayed in lent memory: the claim over every such list is a contract (document 01, demand 3).
 use rules::Answer;
-use rules::Refusal;
 use rules::Rule;
 ghost use mathlib.Core.Path.{_≡_};
-ghost use mathlib.Core.List.{_++_, map};
-ghost use Prim.Native.Nat.{ℕ, _+_, _<_, _≤_, _%_, _/_};
-ghost use lib.ListN.{length, getD, take, drop};
+ghost use Prim.Native.Nat.{_<_, _≤_, min};
+ghost use lib.ListN.{length, getD};
 ghost use Rattle.rules.specs.Refusals.{replyOf, accepted};
 ghost use Rattle.image.specs.Image.{outcome};
 ghost use Rattle.edits.specs.Edits.{edited};
-ghost use Rattle.history.specs.Code.{byteAt, sixAt, fourAt, ruleOf, editOf, editsOf};
-ghost use Rattle.history.specs.Replay.{codeOf, turns, replaying, through, Replayed};
+ghost use Rattle.history.specs.Code.{byteAt, sixAt, fourAt, codedRule, codedEdit, codedEdits};
+ghost use Rattle.history.specs.Replay.{turns, replaying, through, Replayed};
+
+// Words of a coded edit; specs/Code.antt has the layout.
+const EDIT_WORDS: usize = 27;
 
 // The word at `i`, or 0 past the end.
-pub fn word_at(code: &[usize], i: usize) -> usize
+fn word_at(code: &[usize], i: usize) -> usize
     ensures { λ r. ⌜ r ≡ getD (now (code .entry)) i 0 ⌝ }
 {
     if i < code.len() {
@@ -52,8 +53,8 @@ fn four_at(code: &[usize], i: usize) -> [u8; 4]
     [a, b, c, d]
 }
 
-fn rule_of(code: &[usize]) -> Rule
-    ensures { λ r. ⌜ r ≡ ruleOf (now (code .entry)) ⌝ }
+fn coded_rule(code: &[usize]) -> Rule
+    ensures { λ r. ⌜ r ≡ codedRule (now (code .entry)) ⌝ }
 {
     let left_len = byte_at(code, 3);
     let target_len = byte_at(code, 4);
@@ -76,13 +77,13 @@ fn rule_of(code: &[usize]) -> Rule
 }
 
 // The edit that the words say, applied.
-pub fn edit(image: &mut [u8], code: &[usize]) -> Answer
-    ensures { λ r. ⌜ outcome (replyOf r) (now (image .exit)) ≡ edited (now (image .entry)) (editOf (now (code .entry))) ⌝ }
+fn edit(image: &mut [u8], code: &[usize]) -> Answer
+    ensures { λ r. ⌜ outcome (replyOf r) (now (image .exit)) ≡ edited (now (image .entry)) (codedEdit (now (code .entry))) ⌝ }
 {
     let kind = word_at(code, 0);
     let place = word_at(code, 2);
     if kind == 0 {
-        let rule = rule_of(code);
+        let rule = coded_rule(code);
         return edits::add_rule(image, rule, place);
     }
     let number = (word_at(code, 1) % 65536) as u16;
@@ -92,48 +93,39 @@ pub fn edit(image: &mut [u8], code: &[usize]) -> Answer
     edits::move_rule(image, number, place)
 }
 
-// A byte for an answer: a refusal's number, or 255.
-pub fn answer_code(a: Answer) -> u8
-    ensures { λ r. ⌜ r ≡ codeOf (replyOf a) ⌝ }
-{
-    match a {
-        Answer::Accepted => 255,
-        Answer::Refused(x) => rules::refusal_number(x),
-    }
-}
-
-// The first `n` edits of `code`, from the image as it is lent; an answer's byte for each.
-fn replay_all(image: &mut [u8], code: &[usize], answers: &mut [u8], n: usize)
-    requires { ⌜ (n ≤ length (now code) / 27) × (n ≤ length (now answers)) ⌝ }
-    ensures { λ _. ⌜ replaying accepted (now (image .exit)) (now (answers .exit)) ≡ through (editsOf n (now (code .entry))) (now (image .entry)) (now (answers .entry)) ⌝ }
+// The first `n` edits of `code`, from the image as it is lent; a code and a place for each answer.
+fn replay_all(image: &mut [u8], code: &[usize], answers: &mut [u8], places: &mut [usize], n: usize)
+    requires { ⌜ n ≤ turns (length (now code)) (length (now answers)) (length (now places)) ⌝ }
+    ensures { λ _. ⌜ replaying accepted (now (image .exit)) (now (answers .exit)) (now (places .exit)) ≡ through (codedEdits n (now (code .entry))) (now (image .entry)) (now (answers .entry)) (now (places .entry)) ⌝ }
 {
     let mut i = 0;
     let mut at = 0;
     while i < n {
         let a = edit(image, &code[at..]);
-        answers[i] = answer_code(a);
+        answers[i] = rules::answer_code(a);
+        places[i] = rules::answer_place(a);
         i += 1;
-        at += 27;
+        at += EDIT_WORDS;
     }
 }
 
-// How many edits a replay takes.
-fn turns_of(code: usize, answers: usize) -> usize
-    ensures { λ r. ⌜ r ≡ turns code answers ⌝ }
+// The smaller of two lengths.
+fn smaller(a: usize, b: usize) -> usize
+    ensures { λ r. ⌜ r ≡ min a b ⌝ }
 {
-    let n = code / 27;
-    if n < answers { n } else { answers }
+    if a < b { a } else { b }
 }
 
-// The coded edits from the empty ruleset, as many as have a byte for their answer.
-pub fn replay(image: &mut [u8], code: &[usize], answers: &mut [u8]) -> Answer
-    ensures { λ r. ⌜ Replayed (now (image .entry)) (now (code .entry)) (now (answers .entry)) (replaying (replyOf r) (now (image .exit)) (now (answers .exit))) ⌝ }
+// The coded edits from the empty ruleset, as many as have room for their answer: its code in `answers`, its place in `places`.
+pub fn replay(image: &mut [u8], code: &[usize], answers: &mut [u8], places: &mut [usize]) -> Answer
+    ensures { λ r. ⌜ Replayed (now (image .entry)) (now (code .entry)) (now (answers .entry)) (now (places .entry)) (replaying (replyOf r) (now (image .exit)) (now (answers .exit)) (now (places .exit))) ⌝ }
 {
-    if image.len() < 13316 {
-        return Answer::Refused(Refusal::NotRuleset(0));
+    let answer = image::clear(&mut *image);
+    if let Answer::Refused(why) = answer {
+        return Answer::Refused(why);
     }
-    image::put_head(image, 0, 0);
-    let n = turns_of(code.len(), answers.len());
-    replay_all(image, code, answers, n);
+    let room = smaller(answers.len(), places.len());
+    let n = smaller(code.len() / EDIT_WORDS, room);
+    replay_all(image, code, answers, places, n);
     Answer::Accepted
 }

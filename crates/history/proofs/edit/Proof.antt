@@ -14,8 +14,8 @@ word-at-requires c κs = search needs
 word-at-requires-2 : tie.Need-word-at-requires-2
 word-at-requires-2 c κs = search needs
 
-rule-of-requires : tie.Need-rule-of-requires
-rule-of-requires c κs = search needs
+coded-rule-requires : tie.Need-coded-rule-requires
+coded-rule-requires c κs = search needs
 
 add-rule-requires : tie.Need-add-rule-requires
 add-rule-requires c κs = search needs
@@ -24,7 +24,7 @@ same-length : tie.Need-same-length
 same-length c = search needs
 
 returns : tie.Need-returns
-returns c = c .before .before .add-rule .ensures ∙ ap (edited (c .before .before .before .before .before .before .before .before .before .before .args .image .now)) (edit-add (c .before .before .before .before .before .before .before .before .before .before .args .code .now) _ _ (sym (c .before .before .before .before .before .before .before .word-at .ensures) ∙ c .before .before .before .before .before .if1 .taken) (c .before .before .before .before .rule-of .ensures) (c .before .before .before .before .before .before .word-at2 .ensures))
+returns c = c .before .before .add-rule .ensures ∙ ap (edited (c .before .before .before .before .before .before .before .before .before .before .args .image .now)) (edit-add (c .before .before .before .before .before .before .before .before .before .before .args .code .now) _ _ (sym (c .before .before .before .before .before .before .before .word-at .ensures) ∙ c .before .before .before .before .before .if1 .taken) (c .before .before .before .before .coded-rule .ensures) (c .before .before .before .before .before .before .word-at2 .ensures))
 
 word-at-requires-3 : tie.Need-word-at-requires-3
 word-at-requires-3 c κs = search needs
@@ -56,7 +56,7 @@ edit-spec =
     (tie.spec
     word-at-requires
     word-at-requires-2
-    rule-of-requires
+    coded-rule-requires
     add-rule-requires
     same-length
     returns

@@ -9,13 +9,15 @@ use Rattle.history.proofs.replay_all.Statement.{statement}
 use Rattle.history.proofs.replay_all.Tie as tie
 
 abbrev Inv-loop : tie.InvT-loop
-Inv-loop image₀ code answers₀ n i₀ at₀ image answers i at = Going code image₀ answers₀ n image answers i at
+Inv-loop image₀ code answers₀ places₀ n i₀ at₀ image answers places i at = Going code image₀ answers₀ places₀ n image answers places i at
 
 abbrev μ-loop : tie.MeasureT-loop
-μ-loop image₀ code answers₀ n i₀ at₀ image answers i at = n - i
+μ-loop image₀ code answers₀ places₀ n i₀ at₀ image answers places i at = n - i
 
 loop-holds : tie.Need-loop-holds Inv-loop μ-loop
-loop-holds c = going-start (c .before .before .before .args .code .now) (c .before .before .before .args .image .now) (c .before .before .before .args .answers .now) (c .before .before .before .args .n)
+loop-holds c =
+    let a = c .before .before .before .before .args in
+    going-start (a .code .now) (a .image .now) (a .answers .now) (a .places .now) (a .n)
 
 mul-edit : tie.Need-mul-edit Inv-loop μ-loop
 mul-edit c = search needs
@@ -38,6 +40,15 @@ answer-code-requires c κs = search needs
 slice-write-answers : tie.Need-slice-write-answers Inv-loop μ-loop
 slice-write-answers c = search needs
 
+answer-place-requires : tie.Need-answer-place-requires Inv-loop μ-loop
+answer-place-requires c κs = search needs
+
+mul-places : tie.Need-mul-places Inv-loop μ-loop
+mul-places c = search needs
+
+slice-write-places : tie.Need-slice-write-places Inv-loop μ-loop
+slice-write-places c = search needs
+
 add-i : tie.Need-add-i Inv-loop μ-loop
 add-i c = search needs
 
@@ -48,16 +59,28 @@ loop-less : tie.Need-loop-less Inv-loop μ-loop
 loop-less c = search needs
 
 loop-again : tie.Need-loop-again Inv-loop μ-loop
-loop-again c = going-on (c .before .before .before .before .before .before .before .before .before .before .before .args .code .now) (c .before .before .before .before .before .before .before .before .before .before .before .args .image .now) (c .before .before .before .before .before .before .before .before .before .before .before .args .answers .now) (c .before .before .before .before .before .before .before .before .before .before .before .args .n) (c .before .before .before .before .before .before .before .loop .image) (c .before .before .before .before .before .before .before .loop .answers) (c .before .before .before .before .before .before .before .loop .i) (c .before .before .before .before .before .before .before .loop .at) (c .before .before .before .before .before .before .before .loop .inv) (replyOf (c .before .before .before .edit .result)) _ (c .answer-code .result) (omega arith) (omega arith) (search needs) (c .before .before .before .edit .ensures) (c .answer-code .ensures)
+loop-again c =
+    let a = c .before .before .before .before .before .before .before .before .before .before .before .before .before .args in
+    let l = c .before .before .before .before .before .before .before .before .loop in
+    going-on (a .code .now) (a .image .now) (a .answers .now) (a .places .now) (a .n) (l .image) (l .answers) (l .places) (l .i) (l .at) (l .inv)
+    (replyOf (c .before .before .before .before .edit .result)) _ (c .before .answer-code .result) (c .answer-place .result) (omega arith) (c .before .before .before .before .before .before .before .before .before .before .before .before .before .pre) (search needs) (c .before .before .before .before .edit .ensures)
+    (c .before .answer-code .ensures) (c .answer-place .ensures)
 
 same-length : tie.Need-same-length Inv-loop μ-loop
 same-length c = c .before .loop .inv .long
 
 same-length-2 : tie.Need-same-length-2 Inv-loop μ-loop
-same-length-2 c = c .before .loop .inv .size
+same-length-2 c = c .before .loop .inv .room
+
+same-length-3 : tie.Need-same-length-3 Inv-loop μ-loop
+same-length-3 c = c .before .loop .inv .spots
 
 returns : tie.Need-returns Inv-loop μ-loop
-returns c = going-end (c .before .before .before .before .before .args .code .now) (c .before .before .before .before .before .args .image .now) (c .before .before .before .before .before .args .answers .now) (c .before .before .before .before .before .args .n) (c .before .loop .image) (c .before .loop .answers) (c .before .loop .i) (c .before .loop .at) (c .before .loop .inv) (c .loop-test .left)
+returns c =
+    let a = c .before .before .before .before .before .before .args in
+    let l = c .before .loop in
+    going-end (a .code .now) (a .image .now) (a .answers .now) (a .places .now) (a .n) (l .image) (l .answers) (l .places) (l .i) (l .at) (l .inv)
+    (c .loop-test .left)
 
 pub replay-all-spec : {M : Type 1} → statement M
 replay-all-spec =
@@ -73,10 +96,14 @@ replay-all-spec =
     edit-requires
     answer-code-requires
     slice-write-answers
+    answer-place-requires
+    mul-places
+    slice-write-places
     add-i
     add-at
     loop-less
     loop-again
     same-length
     same-length-2
+    same-length-3
     returns)

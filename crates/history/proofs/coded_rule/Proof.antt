@@ -1,8 +1,8 @@
--- `history::rule_of` meets its contract.
+-- `history::coded_rule` meets its contract.
 -- Assumes nothing.
 use borrow.Author.Needs.{needs}
-use Rattle.history.proofs.rule_of.Statement.{statement}
-use Rattle.history.proofs.rule_of.Tie as tie
+use Rattle.history.proofs.coded_rule.Statement.{statement}
+use Rattle.history.proofs.coded_rule.Tie as tie
 
 byte-at-requires : tie.Need-byte-at-requires
 byte-at-requires c κs = search needs
@@ -31,8 +31,8 @@ four-at-requires-2 c κs = search needs
 returns : tie.Need-returns
 returns c = cc
 
-pub rule-of-spec : {M : Type 1} → statement M
-rule-of-spec =
+pub coded-rule-spec : {M : Type 1} → statement M
+coded-rule-spec =
     tie.close
     (tie.spec
     byte-at-requires
