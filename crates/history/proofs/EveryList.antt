@@ -13,8 +13,8 @@ use Rattle.image.specs.Image.{imageSize, cleared}
 use Rattle.edits.specs.Ledger.{Edit}
 use Rattle.edits.specs.Ledger.Edit.{Add, Drop, Move}
 use Rattle.edits.specs.Edits.{FilledEdit}
-use Rattle.history.specs.Code.{codedEdit, codedEdits, wordsOf, wordsAll, wordBound, Below, Bytes, Typed, TypedAll}
-use Rattle.history.specs.Replay.{turns, taken, Replay, through, throughBy, replayed, FromEmpty, OfList}
+use Rattle.history.specs.Code.{editWords, codedEdit, codedEdits, wordsOf, wordsAll, wordBound, Below, Bytes, Typed, TypedAll}
+use Rattle.history.specs.Replay.{turns, taken, Replay, through, throughBy, replayed, ReplayedList}
 use Rattle.history.proofs.Runs.{from-empty}
 
 -- ---- the code of a list says the list
@@ -51,7 +51,7 @@ module _ (ws : List ℕ) where
   edit-said (Drop n) t = rw (mod-eq-of-lt t)
   edit-said (Move n p) t = rw (mod-eq-of-lt (t .0))
 
-  words-past : (e : Edit) → drop 27 (wordsOf e ws) ≡ ws
+  words-past : (e : Edit) → drop editWords (wordsOf e ws) ≡ ws
   words-past (Add r p) = refl
   words-past (Drop n) = refl
   words-past (Move n p) = refl
@@ -61,12 +61,12 @@ onto [] t = refl
 onto (e ∷ es) t =
     rw (edit-said (wordsAll es) e (t .0), words-past (wordsAll es) e) (ap (λ l. e ∷ l) (onto es (t .1)))
 
-words-length : (e : Edit) (ws : List ℕ) → length (wordsOf e ws) ≡ length ws + 27
+words-length : (e : Edit) (ws : List ℕ) → length (wordsOf e ws) ≡ length ws + editWords
 words-length (Add r p) ws = omega arith
 words-length (Drop n) ws = omega arith
 words-length (Move n p) ws = omega arith
 
-length-all : (es : List Edit) → length (wordsAll es) ≡ length es * 27
+length-all : (es : List Edit) → length (wordsAll es) ≡ length es * editWords
 length-all [] = refl
 length-all (e ∷ es) = omega (arith, words-length e (wordsAll es), length-all es)
 
@@ -74,7 +74,7 @@ length-all (e ∷ es) = omega (arith, words-length e (wordsAll es), length-all e
 taken-whole : (es : List Edit) → TypedAll es → (answers places : List ℕ) → length es ≤ length answers → length es ≤ length places
     → taken (wordsAll es) answers places ≡ es
 taken-whole es t answers places h k =
-    let c : length (wordsAll es) / 27 ≡ length es = omega (arith, length-all es) in
+    let c : length (wordsAll es) / editWords ≡ length es = omega (arith, length-all es) in
     let n : turns (length (wordsAll es)) (length answers) (length places) ≡ length es = omega arith in
     ap (λ (m : ℕ). codedEdits m (wordsAll es)) n ∙ onto es t
 
@@ -147,7 +147,7 @@ module _ (image code answers places : List ℕ) (h : imageSize ≤ length image)
   replay-accepted = ap (λ (r : Replay). r .reply) replayed-through
 
 pub every-list : (es : List Edit) → TypedAll es → (image answers places : List ℕ)
-    → imageSize ≤ length image → length es ≤ length answers → length es ≤ length places → OfList es image answers places
+    → imageSize ≤ length image → length es ≤ length answers → length es ≤ length places → ReplayedList es image answers places
 every-list es t image answers places h k l =
     let w : taken (wordsAll es) answers places ≡ es = taken-whole es t answers places k l in
     let r : replayed image (wordsAll es) answers places ≡ through es (cleared image .image) answers places =

@@ -45,6 +45,10 @@ unfoldable pub replayed : List ℕ → List ℕ → List ℕ → List ℕ → Re
 replayed image code answers places =
     throughBy (cleared image .reply) (taken code answers places) (cleared image .image) answers places
 
+-- the numbers that the accepted additions among the edits got, from the empty ruleset in memory that held anything
+abbrev pub issuedFromEmpty : List ℕ → List Edit → List ℕ
+issuedFromEmpty image es = issuedIn (cleared image .image) es
+
 -- The claim over the edits es from the empty ruleset, in memory that held image₀, answers₀ and places₀: what is held and what was answered.
 pub record FromEmpty (es : List Edit) (image₀ answers₀ places₀ : List ℕ) (r : Replay) : Type 0 where
   -- the memory holds a ruleset, whose rules and last are the ledger's
@@ -54,10 +58,10 @@ pub record FromEmpty (es : List Edit) (image₀ answers₀ places₀ : List ℕ)
   pub answers : r .answers ≡ over (map replyCode (answersAll start es)) answers₀
   pub places : r .places ≡ over (map replyPlace (answersAll start es)) places₀
   -- the numbers that accepted additions got, the image's last after each, are the ledger's
-  pub numbers : issuedIn (cleared image₀ .image) es ≡ issued start es
+  pub numbers : issuedFromEmpty image₀ es ≡ issued start es
   -- no two of them got the same number
-  pub apart : (i j : ℕ) → i < j → j < length (issuedIn (cleared image₀ .image) es)
-      → getD (issuedIn (cleared image₀ .image) es) i 0 ≡ getD (issuedIn (cleared image₀ .image) es) j 0 → ⊥
+  pub apart : (i j : ℕ) → i < j → j < length (issuedFromEmpty image₀ es)
+      → getD (issuedFromEmpty image₀ es) i 0 ≡ getD (issuedFromEmpty image₀ es) j 0 → ⊥
 
 -- what a call of replay gives
 pub record Replayed (image code answers places : List ℕ) (r : Replay) : Type 0 where
@@ -65,7 +69,7 @@ pub record Replayed (image code answers places : List ℕ) (r : Replay) : Type 0
   pub claim : r .reply ≡ accepted → FromEmpty (taken code answers places) image answers places r
 
 -- The list es, coded and replayed.
-pub record OfList (es : List Edit) (image answers places : List ℕ) : Type 0 where
+pub record ReplayedList (es : List Edit) (image answers places : List ℕ) : Type 0 where
   -- its code is a slice of words, so a call can be lent it
   pub size : length (wordsAll es) ≡ length es * editWords
   pub words : Below wordBound (wordsAll es)

@@ -67,13 +67,13 @@ loop-again c =
     (c .before .answer-code .ensures) (c .answer-place .ensures)
 
 same-length : tie.Need-same-length Inv-loop μ-loop
-same-length c = c .before .loop .inv .long
+same-length c = c .before .loop .inv .«image-long»
 
 same-length-2 : tie.Need-same-length-2 Inv-loop μ-loop
-same-length-2 c = c .before .loop .inv .room
+same-length-2 c = c .before .loop .inv .«answers-long»
 
 same-length-3 : tie.Need-same-length-3 Inv-loop μ-loop
-same-length-3 c = c .before .loop .inv .spots
+same-length-3 c = c .before .loop .inv .«places-long»
 
 returns : tie.Need-returns Inv-loop μ-loop
 returns c =
