@@ -10,11 +10,11 @@ use borrow.Author.Tests.{le-leb, lt-leb, leb-true}
 use lib.Dec.{leb}
 use lib.ListN.{length, getD, drop, drop-of-length-le}
 use lib.Seq.{drop-cons}
-use Rattle.rules.proofs.Cases.{byBool}
+use Rattle.rules.proofs.Cases.{byBool, and-l, and-r, and-i}
 use Rattle.rules.specs.Limits.{maxName, maxNameByte}
 use Rattle.rules.specs.Shape.{allFrom}
 use Rattle.reading.specs.Fitting.{Str}
-use Rattle.reading.specs.Speech.{Outcome, speaks, declines, atOnce, nameByte, judgedBytes, judgedName}
+use Rattle.reading.specs.Speech.{Outcome, SoundName, speaks, declines, atOnce, nameByte, judgedBytes, judgedName}
 
 pub name-long : (name : Str) (o : Outcome) → maxName < length name → judgedName name o ≡ atOnce 2 0
 name-long name o h = rw (lt-leb _ _ h)
@@ -60,3 +60,33 @@ module _ (name : Str) (ok : (o : Outcome) → judgedName name o ≡ o) where
 
   pub name-bytes : allFrom maxNameByte name ≡ true
   name-bytes = bytes-all 0 name (sym (bytes-begin name name-few (speaks [] 0)) ∙ ok (speaks [] 0))
+
+-- a sound name is judged by what follows, and any other is refused with 2, or with 1 at some byte
+sound-bytes : (i : ℕ) (w : Str) → allFrom maxNameByte w ≡ true → (o : Outcome) → judgedBytes i w o ≡ o
+sound-bytes i [] h o = refl
+sound-bytes i (b ∷ w) h o =
+    rw (and-i (and-l (leb 1 b) _ h) (and-l (leb b maxNameByte) _ (and-r (leb 1 b) _ h)))
+    (sound-bytes (suc i) w (and-r (leb b maxNameByte) _ (and-r (leb 1 b) _ h)) o)
+
+pub sound-judged : (name : Str) → SoundName name → (o : Outcome) → judgedName name o ≡ o
+sound-judged name s o = bytes-begin name (s .short) o ∙ sound-bytes 0 name (s .bytes) o
+
+pub data Judgement (name : Str) : Type 0 where
+  sound : SoundName name → Judgement name
+  refuses : (n p : ℕ) → n < 3 → ((o : Outcome) → judgedName name o ≡ atOnce n p) → Judgement name
+
+bytes-judgement : (i : ℕ) (w : Str) → (P : Type 0) → (allFrom maxNameByte w ≡ true → P) → ((p : ℕ) → ((o : Outcome) → judgedBytes i w o ≡ atOnce 1 p) → P) → P
+bytes-judgement i [] P all some = all refl
+bytes-judgement i (b ∷ w) P all some =
+    byBool (leb 1 b)
+    (λ l. byBool (leb b maxNameByte)
+    (λ u. bytes-judgement (suc i) w P (λ r. all (and-i l (and-i u r))) (λ p h. some p (λ o. rw (l, u) (h o))))
+    (λ u. some i (λ o. rw (l, u))))
+    (λ l. some i (λ o. rw l))
+
+pub judgement : (name : Str) → Judgement name
+judgement name =
+    byBool (leb (length name) maxName)
+    (λ e. bytes-judgement 0 name (Judgement name) (λ b. sound (record { short = leb-true (length name) maxName e; bytes = b }))
+    (λ p h. refuses 1 p (omega arith) (λ o. rw e (h o))))
+    (λ e. refuses 2 0 (omega arith) (λ o. rw e))
