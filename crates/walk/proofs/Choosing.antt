@@ -9,22 +9,25 @@ use mathlib.Core.Bool.{Bool, true, false, cond}
 use mathlib.Core.List.{List, [], _∷_}
 use mathlib.Core.Option.{Option, none, some}
 use lib.ListN.{length, getD, set}
-use Rattle.image.specs.State.{noEntry}
 use Rattle.rules.proofs.Cases.{byBool}
+use Rattle.rules.specs.Limits.{maxName, maxTarget}
 use Rattle.rules.specs.Shape.{Entry}
-use Rattle.rules.specs.Refusals.{refusalNumber, refusalPlace}
+use Rattle.image.specs.State.{noEntry}
 use Rattle.image.specs.Image.{entriesOf, valid, entryAt, countOf}
 use Rattle.image.proofs.Entries.{entries-length}
 use Rattle.reading.specs.Fitting.{fits}
-use Rattle.reading.specs.Reading.{Choice, chosen, nothing, unusable, stopped, readFrom}
+use Rattle.reading.specs.Reading.{Application, apply, Choice, chosen, nothing, unusable, past}
+use Rattle.reading.specs.Places.{applyAt, ReadBy}
+use Rattle.reading.specs.declared.Reached.the-variants.{Rules}
 use Rattle.reading.proofs.Search.{Targets, valid-targets}
-use Rattle.reading.proofs.Loop.{Going, going-begin, going-next, going-none, going-unusable, going-end, going-few, going-within}
+use Rattle.reading.proofs.Loop.{Going, going-begin, going-next}
+use Rattle.reading.proofs.Plain.{read-none, read-unusable, read-end}
+use Rattle.tables.specs.Words.{setSize}
 use Rattle.tables.specs.Walk.{lookup}
-use Rattle.walk.specs.Letters.{foundOf, lowestShared, choiceBy, choicesBy, choiceOf, refusalAt, Placed, ReadBy}
+use Rattle.walk.specs.Letters.{foundOf, lowestShared, choiceBy, choicesBy, choiceOf, endingAt}
 use Rattle.walk.specs.declared.letters.Found.the-variants.{Place, Empty}
 use Rattle.walk.specs.declared.letters.Chosen.{Chosen}
 use Rattle.walk.specs.declared.letters.Chosen.the-variants.{Rule, Nothing, Unusable}
-use Rattle.walk.specs.declared.letters.Reached.the-variants.{Rules, Refused}
 
 -- ---- the rule at the place found
 
@@ -41,7 +44,7 @@ lookup-past t [] p h = refl
 lookup-past t (r ∷ rs) zero h = absurd (not-suc-le-zero h)
 lookup-past t (r ∷ rs) (suc p) h = lookup-past t rs p (le-of-suc-le-suc h)
 
-lookup-in : (t : Entry → Bool) (rs : List Entry) (p : ℕ) → p < length rs → lookup t rs (some p) ≡ cond (t (getD rs p noEntry)) (chosen (getD rs p noEntry)) unusable
+lookup-in : (t : Entry → Bool) (rs : List Entry) (p : ℕ) → p < length rs → lookup t rs (some p) ≡ cond (t (getD rs p noEntry)) (chosen (apply (getD rs p noEntry))) unusable
 lookup-in t [] p h = absurd (not-suc-le-zero h)
 lookup-in t (r ∷ rs) zero h = refl
 lookup-in t (r ∷ rs) (suc p) h = lookup-in t rs p (le-of-suc-le-suc h)
@@ -58,33 +61,36 @@ module _ (image ss : List ℕ) (s t : ℕ) (f : List ℕ) (i : ℕ) where
         ap (lookup (λ r. fits (r .rule) f i) (entriesOf image)) e
         ∙ lookup-past (λ r. fits (r .rule) f i) (entriesOf image) p (omega (arith, entries-length image))
 
-    place-in : p < countOf image → choiceBy image ss s t f i ≡ cond (fits (entryAt image p .rule) f i) (chosen (entryAt image p)) unusable
+    place-in : p < countOf image → choiceBy image ss s t f i ≡ cond (fits (entryAt image p .rule) f i) (chosen (applyAt image p)) unusable
     unfolding choiceBy
     place-in h =
         ap (lookup (λ r. fits (r .rule) f i) (entriesOf image)) e
         ∙ lookup-in (λ r. fits (r .rule) f i) (entriesOf image) p (omega (arith, entries-length image))
 
     pub place-unfit : p < countOf image → fits (entryAt image p .rule) f i ≡ false → choiceBy image ss s t f i ≡ unusable
-    place-unfit h q = place-in h ∙ ap (λ (b : Bool). cond b (chosen (entryAt image p)) unusable) q
+    place-unfit h q = place-in h ∙ ap (λ (b : Bool). cond b (chosen (applyAt image p)) unusable) q
 
-    pub place-fits : p < countOf image → fits (entryAt image p .rule) f i ≡ true → choiceBy image ss s t f i ≡ chosen (entryAt image p)
-    place-fits h q = place-in h ∙ ap (λ (b : Bool). cond b (chosen (entryAt image p)) unusable) q
+    pub place-fits : p < countOf image → fits (entryAt image p .rule) f i ≡ true → choiceBy image ss s t f i ≡ chosen (applyAt image p)
+    place-fits h q = place-in h ∙ ap (λ (b : Bool). cond b (chosen (applyAt image p)) unusable) q
 
 -- ---- the loop of reading, `Going`, with these choices
 
--- a rule that is looked up has a target
-lookup-target : (t : Entry → Bool) (rs : List Entry) → Targets rs → (o : Option ℕ) (r : Entry) → lookup t rs o ≡ chosen r → 0 < length (r .rule .target)
-lookup-target t rs h none r e = let z : _≡_ {A = ℕ} 0 1 = cc in absurd (omega arith)
-lookup-target t rs h (some p) r e =
+-- reading goes on past the target of a rule that is looked up
+lookup-past-target : (t : Entry → Bool) (rs : List Entry) → Targets rs → (o : Option ℕ) (i : ℕ) (a : Application) → lookup t rs o ≡ chosen a → i < past i a
+lookup-past-target t rs h none i a e = let z : _≡_ {A = ℕ} 0 1 = cc in absurd (omega arith)
+lookup-past-target t rs h (some p) i a e =
     go (decLe (length rs) p)
   where
-    go : Dec (length rs ≤ p) → 0 < length (r .rule .target)
-    go (yes y) = let x : unusable ≡ chosen r = sym (lookup-past t rs p y) ∙ e in let z : _≡_ {A = ℕ} 0 1 = cc in absurd (omega arith)
+    on : getD rs p noEntry ≡ a .entry → p < length rs → i < past i a
+    on q l = let g : 0 < length (a .entry .rule .target) = subst (λ (y : Entry). 0 < length (y .rule .target)) q (h p l) in omega arith
+
+    go : Dec (length rs ≤ p) → i < past i a
+    go (yes y) = let x : unusable ≡ chosen a = sym (lookup-past t rs p y) ∙ e in let z : _≡_ {A = ℕ} 0 1 = cc in absurd (omega arith)
     go (no y) =
         byBool (t (getD rs p noEntry))
-        (λ b. let x : chosen (getD rs p noEntry) ≡ chosen r = sym (lookup-in t rs p (omega arith) ∙ rw b) ∙ e in
-        let q : getD rs p noEntry ≡ r = cc in subst (λ (y : Entry). 0 < length (y .rule .target)) q (h p (omega arith)))
-        (λ b. let x : unusable ≡ chosen r = sym (lookup-in t rs p (omega arith) ∙ rw b) ∙ e in let z : _≡_ {A = ℕ} 0 1 = cc in absurd (omega arith))
+        (λ b. let x : chosen (apply (getD rs p noEntry)) ≡ chosen a = sym (lookup-in t rs p (omega arith) ∙ rw b) ∙ e in
+        let q : getD rs p noEntry ≡ a .entry = cc in on q (omega arith))
+        (λ b. let x : unusable ≡ chosen a = sym (lookup-in t rs p (omega arith) ∙ rw b) ∙ e in let z : _≡_ {A = ℕ} 0 1 = cc in absurd (omega arith))
 
 module _ (image ss : List ℕ) (base : ℕ) (left right f : List ℕ) where
   abbrev choose : ℕ → Choice
@@ -92,51 +98,33 @@ module _ (image ss : List ℕ) (base : ℕ) (left right f : List ℕ) where
 
   -- the loop has `places` and `count`, and stands at i
   abbrev pub Gone : List ℕ → ℕ → ℕ → Type 0
-  Gone places count i = Going choose (length f - 2) (entryAt image) (countOf image) places count i
+  Gone places count i = Going choose (length f - 2) (applyAt image) (countOf image) places count i
 
-module _ (image ss : List ℕ) (base : ℕ) (left right f : List ℕ) (ok : valid image ≡ true) (few : length f - 2 ≤ 64) where
+module _ (image ss : List ℕ) (base : ℕ) (left right f : List ℕ) (ok : valid image ≡ true) (few : length f - 2 ≤ maxName) where
   abbrev made : ℕ → Choice
   made = choose image ss base left right f
 
   abbrev Read : List ℕ → ℕ → ℕ → Type 0
   Read = Gone image ss base left right f
 
-  ahead : (i : ℕ) (r : Entry) → made i ≡ chosen r → 0 < length (r .rule .target)
+  ahead : (i : ℕ) (a : Application) → made i ≡ chosen a → i < past i a
   unfolding choiceBy
-  ahead i r e = lookup-target (λ q. fits (q .rule) f i) (entriesOf image) (valid-targets image ok) (lowestShared ss (8 * getD left i 0) (base + 8 * getD right i 0)) r e
+  ahead i a e = lookup-past-target (λ q. fits (q .rule) f i) (entriesOf image) (valid-targets image ok) (lowestShared ss (setSize * getD left i 0) (base + setSize * getD right i 0)) i a e
 
-  pub begin : (places : List ℕ) → length places ≡ 64 → Read places 0 1
-  begin = going-begin made (length f - 2) ahead (entryAt image) (countOf image)
+  pub begin : (places : List ℕ) → length places ≡ maxName → Read places 0 1
+  begin = going-begin made (length f - 2) ahead (applyAt image) (countOf image)
 
   module _ (places : List ℕ) (count i : ℕ) (g : Read places count i) where
     module _ (h : i ≤ length f - 2) where
-      pub next : (p : ℕ) → made i ≡ chosen (entryAt image p) → p < countOf image → (l : ℕ) → l ≡ length (entryAt image p .rule .target) → 1 ≤ l → l ≤ 4
+      pub next : (p : ℕ) → made i ≡ chosen (applyAt image p) → p < countOf image → (l : ℕ) → l ≡ length (entryAt image p .rule .target) → 1 ≤ l → l ≤ maxTarget
           → Read (set places count p) (count + 1) (i + l)
-      next = going-next made (length f - 2) ahead (entryAt image) (countOf image) few places count i g h
+      next = going-next made (length f - 2) ahead (applyAt image) (countOf image) few places count i g h
 
       -- no rule is chosen
-      pub declines : (x : Chosen) → choiceOf image x ≡ made i → ((p : ℕ) → x ≡ Rule p → ⊥) → ReadBy image made (length f - 2) places (Refused (refusalAt x i))
-      declines x e other = record { placed = none-placed; says = stops x e other }
-        where
-          no-rules : (k : ℕ) → Refused (refusalAt x i) ≡ Rules k → ⊥
-          no-rules k u = let z : _≡_ {A = ℕ} 0 1 = cc in omega arith
-
-          none-placed : Placed image places (Refused (refusalAt x i))
-          none-placed = record { sized = g .sized; few = λ k u. absurd (no-rules k u); within = λ k u. absurd (no-rules k u) }
-
-          stops : (x : Chosen) → choiceOf image x ≡ made i → ((p : ℕ) → x ≡ Rule p → ⊥)
-              → stopped (refusalNumber (refusalAt x i)) (refusalPlace (refusalAt x i)) ≡ readFrom made (length f - 2) (length f - 2) 1
-          stops (Rule p) e other = absurd (other p refl)
-          stops Nothing e other = sym (going-none made (length f - 2) ahead (entryAt image) (countOf image) few places count i g h (sym e))
-          stops Unusable e other = sym (going-unusable made (length f - 2) ahead (entryAt image) (countOf image) few places count i g h (sym e))
+      pub declines : (x : Chosen) → choiceOf image x ≡ made i → ((p : ℕ) → x ≡ Rule p → ⊥) → ReadBy image made (length f - 2) places (endingAt x i)
+      declines (Rule p) e other = absurd (other p refl)
+      declines Nothing e other = read-none image made (length f - 2) ahead few places count i g h (sym e)
+      declines Unusable e other = read-unusable image made (length f - 2) ahead few places count i g h (sym e)
 
     pub done : length f - 2 < i → ReadBy image made (length f - 2) places (Rules count)
-    done h =
-        record {
-          placed = record {
-            sized = g .sized;
-            few = λ k u. let e : count ≡ k = cc in omega (arith, going-few made (length f - 2) ahead (entryAt image) (countOf image) few places count i g);
-            within = λ k u. let e : count ≡ k = cc in rw (sym e) (going-within made (length f - 2) ahead (entryAt image) (countOf image) few places count i g);
-          };
-          says = sym (going-end made (length f - 2) ahead (entryAt image) (countOf image) few places count i g h);
-        }
+    done = read-end image made (length f - 2) ahead few places count i g

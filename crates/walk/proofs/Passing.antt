@@ -13,9 +13,11 @@ use borrow.Author.Tests.{lt-ltb, le-ltb}
 use lib.ListN.{length, getD, take, drop, set, length-set}
 use lib.Seq.{getD-set-same, getD-set-other, take-suc, drop-cons, drop-length}
 use Rattle.tables.specs.Tables.{Table}
-use Rattle.tables.specs.Walk.{Step as State, step, pass, allBelow}
+use Rattle.tables.specs.Words.{rowSize}
+use Rattle.tables.specs.Walk.{Step as State, step, pass, from, allBelow}
 use Rattle.tables.proofs.Walk.{pass-append}
 use Rattle.walk.specs.Passes.{Stepped, rowsAt, leftOn, rightOn, Passed}
+use Rattle.walk.specs.Letters.{frameSize}
 use Rattle.walk.specs.declared.passes.Step.{Step}
 use Rattle.walk.specs.declared.passes.Pass.{Pass}
 
@@ -39,18 +41,18 @@ not-below f k (suc n) a b e = go (decLe k n) (λ y. not-below f k n a y e)
 
 left-next : (t : Table) (f : List ℕ) (i : ℕ) → i < length f → leftOn t f (i + 1) ≡ step t (leftOn t f i) (getD f i 0)
 left-next t f i h =
-    ap (pass t (record { state = 0; steps = 0 })) (ap (λ (n : ℕ). take n f) (add-one i) ∙ take-suc f i 0 h)
-    ∙ pass-append t (record { state = 0; steps = 0 }) (take i f) (getD f i 0 ∷ [])
+    ap (pass t (from 0)) (ap (λ (n : ℕ). take n f) (add-one i) ∙ take-suc f i 0 h)
+    ∙ pass-append t (from 0) (take i f) (getD f i 0 ∷ [])
 
 right-next : (t : Table) (k : ℕ) (f : List ℕ) (i : ℕ) → 0 < i → i ≤ length f → rightOn t k f (i - 1) ≡ step t (rightOn t k f i) (getD f (i - 1) 0)
 right-next t k f i p h =
     let s : suc (i - 1) ≡ i = omega arith in
     let d : drop (i - 1) f ≡ getD f (i - 1) 0 ∷ drop i f = drop-cons f (i - 1) 0 (omega arith) ∙ ap (λ (m : ℕ). getD f (i - 1) 0 ∷ drop m f) s in
-    ap (pass t (record { state = 0; steps = k })) (ap reverse d ∙ reverse-cons (getD f (i - 1) 0) (drop i f))
-    ∙ pass-append t (record { state = 0; steps = k }) (reverse (drop i f)) (getD f (i - 1) 0 ∷ [])
+    ap (pass t (from k)) (ap reverse d ∙ reverse-cons (getD f (i - 1) 0) (drop i f))
+    ∙ pass-append t (from k) (reverse (drop i f)) (getD f (i - 1) 0 ∷ [])
 
-right-begin : (t : Table) (k : ℕ) (f : List ℕ) → rightOn t k f (length f) ≡ record { state = 0; steps = k }
-right-begin t k f = ap (λ (w : List ℕ). pass t (record { state = 0; steps = k }) (reverse w)) (drop-length f)
+right-begin : (t : Table) (k : ℕ) (f : List ℕ) → rightOn t k f (length f) ≡ from k
+right-begin t k f = ap (λ (w : List ℕ). pass t (from k) (reverse w)) (drop-length f)
 
 -- ---- the loop: it stands at position i, and the states of the positions from lo to hi are remembered
 
@@ -58,14 +60,14 @@ pub record Passing (at : ℕ → State) (count lo hi : ℕ) (states : List ℕ) 
   pub here : s .state ≡ at i .state
   pub looked : s .steps ≡ at i .steps
   pub below : s .state < count
-  pub room : length states ≡ 66
+  pub room : length states ≡ frameSize
   pub all : (k : ℕ) → lo ≤ k → k ≤ hi → getD states k 0 ≡ at k .state
   pub small : (k : ℕ) → lo ≤ k → k ≤ hi → getD states k 0 < count
 
 module _ (at : ℕ → State) (count : ℕ) where
   -- the next state is below the count, and is remembered at its position
   pub go-on : {lo hi : ℕ} {states : List ℕ} {s : Step} {i : ℕ} → Passing at count lo hi states s i → (lo′ hi′ : ℕ) (r : Step) (j : ℕ) → r .state ≡ at j .state
-      → r .steps ≡ at j .steps → r .state < count → j < 66 → ((k : ℕ) → lo′ ≤ k → k ≤ hi′ → k ≢ j → (lo ≤ k) × (k ≤ hi))
+      → r .steps ≡ at j .steps → r .state < count → j < frameSize → ((k : ℕ) → lo′ ≤ k → k ≤ hi′ → k ≢ j → (lo ≤ k) × (k ≤ hi))
       → Passing at count lo′ hi′ (set states j (r .state)) r j
   go-on {lo} {hi} {states} {s} {i} p lo′ hi′ r j e g b l old =
       record {
@@ -96,22 +98,22 @@ module _ (at : ℕ → State) (count : ℕ) where
       low k m n (no y) z = let d : k ≢ j = λ q. y (omega arith) in subst (λ (q : ℕ). q < count) (sym (other k d)) (p .small k (old k m n d .0) (old k m n d .1))
 
   -- it is not, and the tables are unusable
-  pub stop : (n last from : ℕ) (j : ℕ) (q : ℕ) → q ≡ at j .state → 1 ≤ j → j ≤ n → count ≤ q → (states : List ℕ) (r : Pass) → r .usable ≡ false → Passed at count n last from states r
-  stop n last from j q e a b h states r u =
+  pub stop : (n last most : ℕ) (j : ℕ) (q : ℕ) → q ≡ at j .state → 1 ≤ j → j ≤ n → count ≤ q → (states : List ℕ) (r : Pass) → r .usable ≡ false → Passed at count n last most states r
+  stop n last most j q e a b h states r u =
       record {
         usable = u ∙ sym (not-below (λ i. ltb (at i .state) count) j n a b (ap (λ (x : ℕ). ltb x count) (sym e) ∙ le-ltb q count h));
         all = λ y. absurd (never y);
         small = λ y. absurd (never y);
         looked = λ y. absurd (never y);
-        many = λ y. absurd (never y);
+        few = λ y. absurd (never y);
       }
     where
       never : r .usable ≡ true → ⊥
       never y = let z : _≡_ {A = ℕ} 0 1 = cc in omega arith
 
-  pub finished : {lo hi : ℕ} {states : List ℕ} {s : Step} {i : ℕ} (n last from : ℕ) → Passing at count lo hi states s i → lo ≤ 1 → n ≤ hi → i ≡ last → s .steps ≡ from + n
-      → (r : Pass) → r .usable ≡ true → r .steps ≡ s .steps → Passed at count n last from states r
-  finished n last from p l h q m r u g =
+  pub finished : {lo hi : ℕ} {states : List ℕ} {s : Step} {i : ℕ} (n last most : ℕ) → Passing at count lo hi states s i → lo ≤ 1 → n ≤ hi → i ≡ last → s .steps ≤ most
+      → (r : Pass) → r .usable ≡ true → r .steps ≡ s .steps → Passed at count n last most states r
+  finished n last most p l h q m r u g =
       record {
         usable =
             u ∙ sym (all-below (λ i. ltb (at i .state) count) n
@@ -119,13 +121,13 @@ module _ (at : ℕ → State) (count : ℕ) where
         all = λ y k a b. p .all k (omega arith) (omega arith);
         small = λ y k a b. p .small k (omega arith) (omega arith);
         looked = λ y. g ∙ p .looked ∙ ap (λ (x : ℕ). at x .steps) q;
-        many = λ y. g ∙ m;
+        few = λ y. omega (arith, g, m);
       }
 
 -- ---- the two passes
 
 module _ (words : List ℕ) (rows count : ℕ) (f : List ℕ) where
-  pub left-begin : (states : List ℕ) → length states ≡ 66 → 0 < count → Passing (leftOn (rowsAt words rows count) f) count 1 0 states (record { state = 0; steps = 0 }) 0
+  pub left-begin : (states : List ℕ) → length states ≡ frameSize → 0 < count → Passing (leftOn (rowsAt words rows count) f) count 1 0 states (record { state = 0; steps = 0 }) 0
   left-begin states e h =
       record {
         here = refl;
@@ -140,14 +142,14 @@ module _ (words : List ℕ) (rows count : ℕ) (f : List ℕ) where
       (h : i < length f) (r : Step) (e : Stepped words rows s (getD f i 0) r) where
     pub left-state : r .state ≡ leftOn (rowsAt words rows count) f (i + 1) .state
     left-state =
-        e .next ∙ ap (λ (q : ℕ). getD words (rows + (64 * q + getD f i 0)) 0) here
+        e .next ∙ ap (λ (q : ℕ). getD words (rows + (rowSize * q + getD f i 0)) 0) here
         ∙ sym (ap (λ (x : State). x .state) (left-next (rowsAt words rows count) f i h))
 
     pub left-steps : r .steps ≡ leftOn (rowsAt words rows count) f (i + 1) .steps
     left-steps = e .more ∙ add-one (s .steps) ∙ ap suc looked ∙ sym (ap (λ (x : State). x .steps) (left-next (rowsAt words rows count) f i h))
 
   module _ (k : ℕ) where
-    pub right-start : (states : List ℕ) → length states ≡ 66 → 0 < count → 0 < length f
+    pub right-start : (states : List ℕ) → length states ≡ frameSize → 0 < count → 0 < length f
         → Passing (rightOn (rowsAt words rows count) k f) count (length f) (length f - 1) states (record { state = 0; steps = k }) (length f)
     right-start states e h l =
         record {
@@ -163,7 +165,7 @@ module _ (words : List ℕ) (rows count : ℕ) (f : List ℕ) where
         (p : 0 < i) (h : i ≤ length f) (r : Step) (e : Stepped words rows s (getD f (i - 1) 0) r) where
       pub right-state : r .state ≡ rightOn (rowsAt words rows count) k f (i - 1) .state
       right-state =
-          e .next ∙ ap (λ (q : ℕ). getD words (rows + (64 * q + getD f (i - 1) 0)) 0) here
+          e .next ∙ ap (λ (q : ℕ). getD words (rows + (rowSize * q + getD f (i - 1) 0)) 0) here
           ∙ sym (ap (λ (x : State). x .state) (right-next (rowsAt words rows count) k f i p h))
 
       pub right-steps : r .steps ≡ rightOn (rowsAt words rows count) k f (i - 1) .steps

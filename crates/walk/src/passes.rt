@@ -1,11 +1,11 @@
 // The two passes of a walk: over the frame, through the entries of each table, with a count of the entries looked up.
-use super::wide;
 ghost use mathlib.Core.Path.{_≡_};
 ghost use mathlib.Core.Bool.{true, false};
 ghost use Prim.Native.Nat.{_+_, _-_, _*_, _<_, _≤_};
 ghost use lib.ListN.{length};
-ghost use Rattle.walk.specs.Passes.{Stepped, Symbols, rowsAt, leftOn, rightOn, Passed};
-ghost use Rattle.walk.specs.Walked.{Both};
+ghost use Rattle.tables.specs.Words.{rowSize, neededWords};
+ghost use Rattle.walk.specs.Passes.{Stepped, Symbols, rowsAt, leftOn, rightOn, Passed, Both};
+ghost use Rattle.walk.specs.Letters.{frameSize};
 
 // A state, and how many entries have been looked up.
 pub struct Step {
@@ -15,11 +15,11 @@ pub struct Step {
 
 // One entry is looked up: the next state, and the count raised by one. Nothing else in a walk reads an entry.
 fn look_up(words: &[u16], rows: usize, s: Step, c: u8) -> Step
-    requires { ⌜ (rows + (64 * s .state + c) < length (now words)) × (s .steps < 1000) ⌝ }
+    requires { ⌜ (rows + (rowSize * s .state + c) < length (now words)) × (s .steps < 1000) ⌝ }
     ensures { λ r. ⌜ Stepped (now (words .entry)) rows s c r ⌝ }
 {
-    let q = wide(s.state);
-    let at = rows + (64 * q + c as usize);
+    let q = numbers::wide16(s.state);
+    let at = rows + (tables::ROW * q + c as usize);
     Step {
         state: words[at],
         steps: s.steps + 1,
@@ -34,8 +34,8 @@ pub struct Pass {
 
 // The left pass reads all positions but the last; at i stands the state after position i - 1.
 fn left_pass(words: &[u16], rows: usize, count: usize, frame: &[u8], states: &mut [u16]) -> Pass
-    requires { ⌜ (rows + 64 * count ≤ length (now words)) × (0 < count) × (2 ≤ length (now frame)) × (length (now frame) ≤ 66) × Symbols (now frame) × (length (now states) ≡ 66) ⌝ }
-    ensures { λ r. ⌜ Passed (leftOn (rowsAt (now (words .entry)) rows count) (now (frame .entry))) count (length (now (frame .entry)) - 1) (length (now (frame .entry)) - 1) 0 (now (states .exit)) r ⌝ }
+    requires { ⌜ (rows + rowSize * count ≤ length (now words)) × (0 < count) × (2 ≤ length (now frame)) × (length (now frame) ≤ frameSize) × Symbols (now frame) × (length (now states) ≡ frameSize) ⌝ }
+    ensures { λ r. ⌜ Passed (leftOn (rowsAt (now (words .entry)) rows count) (now (frame .entry))) count (length (now (frame .entry)) - 1) (length (now (frame .entry)) - 1) frameSize (now (states .exit)) r ⌝ }
 {
     let mut at = Step { state: 0, steps: 0 };
     let end = frame.len() - 1;
@@ -43,7 +43,7 @@ fn left_pass(words: &[u16], rows: usize, count: usize, frame: &[u8], states: &mu
     while i < end {
         at = look_up(words, rows, at, frame[i]);
         let state = at.state;
-        if count <= wide(state) {
+        if count <= numbers::wide16(state) {
             return Pass {
                 usable: false,
                 steps: 0,
@@ -68,8 +68,8 @@ fn right_pass(
     steps: usize,
     states: &mut [u16],
 ) -> Pass
-    requires { ⌜ (rows + 64 * count ≤ length (now words)) × (0 < count) × (2 ≤ length (now frame)) × (length (now frame) ≤ 66) × (steps ≤ 66) × Symbols (now frame) × (length (now states) ≡ 66) ⌝ }
-    ensures { λ r. ⌜ Passed (rightOn (rowsAt (now (words .entry)) rows count) steps (now (frame .entry))) count (length (now (frame .entry)) - 1) 1 steps (now (states .exit)) r ⌝ }
+    requires { ⌜ (rows + rowSize * count ≤ length (now words)) × (0 < count) × (2 ≤ length (now frame)) × (length (now frame) ≤ frameSize) × (steps ≤ frameSize) × Symbols (now frame) × (length (now states) ≡ frameSize) ⌝ }
+    ensures { λ r. ⌜ Passed (rightOn (rowsAt (now (words .entry)) rows count) steps (now (frame .entry))) count (length (now (frame .entry)) - 1) 1 (steps + frameSize) (now (states .exit)) r ⌝ }
 {
     let mut at = Step { state: 0, steps };
     let mut i = frame.len();
@@ -77,7 +77,7 @@ fn right_pass(
         i -= 1;
         at = look_up(words, rows, at, frame[i]);
         let state = at.state;
-        if count <= wide(state) {
+        if count <= numbers::wide16(state) {
             return Pass {
                 usable: false,
                 steps: 0,
@@ -101,16 +101,16 @@ pub fn run_passes(
     left: &mut [u16],
     right: &mut [u16],
 ) -> Pass
-    requires { ⌜ (0 < «left_states») × (0 < «right_states») × (2 + 64 * («left_states» + «right_states») ≤ length (now words)) × (2 ≤ length (now frame)) × (length (now frame) ≤ 66) × Symbols (now frame) × (length (now left) ≡ 66) × (length (now right) ≡ 66) ⌝ }
+    requires { ⌜ (0 < «left_states») × (0 < «right_states») × (neededWords «left_states» «right_states» ≤ length (now words)) × (2 ≤ length (now frame)) × (length (now frame) ≤ frameSize) × Symbols (now frame) × (length (now left) ≡ frameSize) × (length (now right) ≡ frameSize) ⌝ }
     ensures { λ r. ⌜ Both (now (words .entry)) «left_states» «right_states» (now (frame .entry)) (length (now (frame .entry)) - 2) (now (left .exit)) (now (right .exit)) r ⌝ }
 {
-    let first = left_pass(words, 2, left_states, frame, left);
+    let first = left_pass(words, tables::HEAD, left_states, frame, left);
     if !first.usable {
         return first;
     }
     right_pass(
         words,
-        2 + 64 * left_states,
+        tables::HEAD + tables::ROW * left_states,
         right_states,
         frame,
         first.steps,

@@ -7,12 +7,13 @@ use borrow.Author.Needs.{needs}
 use native.Mathlib.Omega.{arith}
 use lib.ListN.{length}
 use denote.Enum.Declared.{tagOf}
-use Rattle.rules.specs.declared.Refusal.{Refusal}
 use Rattle.image.proofs.Tests.{valid-long, valid-count}
-use Rattle.walk.specs.Letters.{choiceOf, choiceBy, choicesBy, ReadBy}
+use Rattle.walk.specs.Letters.{choiceOf, choiceBy, choicesBy}
 use Rattle.walk.specs.declared.letters.Chosen.{Chosen}
 use Rattle.walk.specs.declared.letters.Chosen.the-variants.{Rule}
-use Rattle.walk.specs.declared.letters.Reached.the-variants.{Refused}
+use Rattle.reading.specs.Places.{ReadBy}
+use Rattle.reading.specs.declared.Reached.{Reached}
+use Rattle.tables.specs.Words.{setSize}
 use Rattle.walk.proofs.letters.Chosen.{the-type}
 use Rattle.walk.proofs.Choosing.{Gone, begin, next, declines, done}
 use Rattle.walk.proofs.letters.read_letters.Statement.{statement}
@@ -29,73 +30,70 @@ not-rule x k p e =
     let z : tagOf the-type x ≡ 0 = ap (tagOf the-type) e in
     ⊎-elim (λ w. omega arith) (λ w. omega arith) k
 
-two-at-requires : tie.Need-two-at-requires Inv-loop μ-loop
-two-at-requires c κs = omega (arith, valid-long (c .before .before .before .before .before .before .args .image .now) (c .before .before .before .before .before .before .pre .0))
-
-wide-requires : tie.Need-wide-requires Inv-loop μ-loop
-wide-requires c κs = tt
+rule-count-requires : tie.Need-rule-count-requires Inv-loop μ-loop
+rule-count-requires c κs = valid-long (c .before .before .before .before .before .before .args .image .now) (c .before .before .before .before .before .before .pre .0)
 
 sub-end : tie.Need-sub-end Inv-loop μ-loop
 sub-end c = omega arith
 
 loop-holds : tie.Need-loop-holds Inv-loop μ-loop
 loop-holds c =
-    let a = c .before .before .before .before .before .before .before .before .args in
-    begin (a .image .now) (a .sets .now) (a .right-sets) (a .left .now) (a .right .now) (a .frame .now) (c .before .before .before .before .before .before .before .before .pre .0) (omega arith) (a .places .now) (c .before .before .before .before .before .before .before .before .pre .4)
+    let a = c .before .before .before .before .before .before .before .args in
+    begin (a .image .now) (a .sets .now) (a .right-sets) (a .left .now) (a .right .now) (a .frame .now) (c .before .before .before .before .before .before .before .pre .0) (omega arith) (a .places .now) (c .before .before .before .before .before .before .before .pre .4)
 
-mul-wide : tie.Need-mul-wide Inv-loop μ-loop
-mul-wide c = omega arith
+mul-wide16 : tie.Need-mul-wide16 Inv-loop μ-loop
+mul-wide16 c = omega arith
 
-shared-slice-read-wide : tie.Need-shared-slice-read-wide Inv-loop μ-loop
-shared-slice-read-wide c = omega (arith, c .before .before .before .before .before .before .before .before .before .before .before .pre .3 .left-room)
+shared-slice-read-wide16 : tie.Need-shared-slice-read-wide16 Inv-loop μ-loop
+shared-slice-read-wide16 c = omega (arith, c .before .before .before .before .before .before .before .before .before .before .pre .3 .left-room)
 
-wide-requires-2 : tie.Need-wide-requires-2 Inv-loop μ-loop
-wide-requires-2 c κs = tt
+wide16-requires : tie.Need-wide16-requires Inv-loop μ-loop
+wide16-requires c κs = tt
 
 mul-s : tie.Need-mul-s Inv-loop μ-loop
-mul-s c = omega (arith, c .wide2 .ensures, c .before .before .before .before .before .before .before .before .before .before .before .before .pre .3 .lefts (c .before .before .before .loop .i) (omega (arith, c .before .before .before .loop .inv .behind)) (omega arith))
+mul-s c = omega (arith, c .wide16 .ensures .0, c .before .before .before .before .before .before .before .before .before .before .before .pre .3 .lefts (c .before .before .before .loop .i) (omega (arith, c .before .before .before .loop .inv .behind)) (omega arith))
 
-mul-wide-2 : tie.Need-mul-wide-2 Inv-loop μ-loop
-mul-wide-2 c = omega arith
+mul-wide16-2 : tie.Need-mul-wide16-2 Inv-loop μ-loop
+mul-wide16-2 c = omega arith
 
-shared-slice-read-wide-2 : tie.Need-shared-slice-read-wide-2 Inv-loop μ-loop
-shared-slice-read-wide-2 c = omega (arith, c .before .before .before .before .before .before .before .before .before .before .before .before .before .pre .3 .right-room)
+shared-slice-read-wide16-2 : tie.Need-shared-slice-read-wide16-2 Inv-loop μ-loop
+shared-slice-read-wide16-2 c = omega (arith, c .before .before .before .before .before .before .before .before .before .before .before .before .pre .3 .right-room)
 
-wide-requires-3 : tie.Need-wide-requires-3 Inv-loop μ-loop
-wide-requires-3 c κs = tt
+wide16-requires-2 : tie.Need-wide16-requires-2 Inv-loop μ-loop
+wide16-requires-2 c κs = tt
 
 mul-t : tie.Need-mul-t Inv-loop μ-loop
-mul-t c = omega (arith, c .wide3 .ensures, c .before .before .before .before .before .before .before .before .before .before .before .before .before .before .pre .3 .rights (c .before .before .before .before .before .loop .i) (omega (arith, c .before .before .before .before .before .loop .inv .behind)) (omega arith))
+mul-t c = omega (arith, c .wide162 .ensures .0, c .before .before .before .before .before .before .before .before .before .before .before .before .before .pre .3 .rights (c .before .before .before .before .before .loop .i) (omega (arith, c .before .before .before .before .before .loop .inv .behind)) (omega arith))
 
 add-t : tie.Need-add-t Inv-loop μ-loop
-add-t c = omega (arith, c .wide3 .ensures, c .before .before .before .before .before .before .before .before .before .before .before .before .before .before .pre .3 .rights (c .before .before .before .before .before .loop .i) (omega (arith, c .before .before .before .before .before .loop .inv .behind)) (omega arith))
+add-t c = omega (arith, c .wide162 .ensures .0, c .before .before .before .before .before .before .before .before .before .before .before .before .before .pre .3 .rights (c .before .before .before .before .before .loop .i) (omega (arith, c .before .before .before .before .before .loop .inv .behind)) (omega arith))
 
 choose-requires : tie.Need-choose-requires Inv-loop μ-loop
 choose-requires c κs =
-    let l = c .before .before .before .before .before .before .before .before .before .before .before .before .before .before .pre .3 .lefts (c .before .before .before .before .before .loop .i) (omega (arith, c .before .before .before .before .before .loop .inv .behind)) (omega arith) in
-    let r = c .before .before .before .before .before .before .before .before .before .before .before .before .before .before .pre .3 .rights (c .before .before .before .before .before .loop .i) (omega (arith, c .before .before .before .before .before .loop .inv .behind)) (omega arith) in
-    (omega (arith, c .before .before .wide2 .ensures), omega (arith, c .wide3 .ensures), c .before .before .before .before .before .before .before .before .before .before .before .before .before .before .pre .0, c .before .before .before .before .before .before .wide .ensures ∙ c .before .before .before .before .before .before .before .two-at .ensures, omega arith)
+    let l = c .before .before .before .before .before .before .before .before .before .before .before .before .before .pre .3 .lefts (c .before .before .before .before .before .loop .i) (omega (arith, c .before .before .before .before .before .loop .inv .behind)) (omega arith) in
+    let r = c .before .before .before .before .before .before .before .before .before .before .before .before .before .pre .3 .rights (c .before .before .before .before .before .loop .i) (omega (arith, c .before .before .before .before .before .loop .inv .behind)) (omega arith) in
+    (omega (arith, c .before .before .wide16 .ensures .0), omega (arith, c .wide162 .ensures .0), c .before .before .before .before .before .before .before .before .before .before .before .before .before .pre .0, c .before .before .before .before .before .before .rule-count .ensures .0, omega arith)
 
 enum-known-choice : tie.Need-enum-known-choice Inv-loop μ-loop
 enum-known-choice c = search needs
 
-refusal-at-requires : tie.Need-refusal-at-requires Inv-loop μ-loop
-refusal-at-requires c κs = tt
+ending-at-requires : tie.Need-ending-at-requires Inv-loop μ-loop
+ending-at-requires c κs = tt
 
 same-length : tie.Need-same-length Inv-loop μ-loop
-same-length c = c .before .before .before .before .before .before .before .before .loop .inv .sized ∙ sym (c .before .before .before .before .before .before .before .before .before .before .before .before .before .before .before .before .before .pre .4)
+same-length c = c .before .before .before .before .before .before .before .before .loop .inv .sized ∙ sym (c .before .before .before .before .before .before .before .before .before .before .before .before .before .before .before .before .pre .4)
 
 returns : tie.Need-returns Inv-loop μ-loop
 returns c =
-    let a = c .before .before .before .before .before .before .before .before .before .before .before .before .before .before .before .before .before .args in
+    let a = c .before .before .before .before .before .before .before .before .before .before .before .before .before .before .before .before .args in
     let k = c .before .before .before .before .before .before .before .before .loop in
-    subst (λ (x : Refusal). ReadBy (a .image .now) (choicesBy (a .image .now) (a .sets .now) (a .right-sets) (a .left .now) (a .right .now) (a .frame .now)) (length (a .frame .now) - 2) (k .places) (Refused x)) (sym (c .refusal-at .ensures))
-    (declines (a .image .now) (a .sets .now) (a .right-sets) (a .left .now) (a .right .now) (a .frame .now) (c .before .before .before .before .before .before .before .before .before .before .before .before .before .before .before .before .before .pre .0) (omega arith) (k .places) (k .count) (k .i) (k .inv) (omega arith)
-    (c .before .before .choose .result) (c .before .before .choose .ensures .is ∙ ap₂ (λ (x y : ℕ). choiceBy (a .image .now) (a .sets .now) (8 * x) (a .right-sets + 8 * y) (a .frame .now) (k .i)) (c .before .before .before .before .before .wide2 .ensures) (c .before .before .before .wide3 .ensures))
+    subst (λ (x : Reached). ReadBy (a .image .now) (choicesBy (a .image .now) (a .sets .now) (a .right-sets) (a .left .now) (a .right .now) (a .frame .now)) (length (a .frame .now) - 2) (k .places) x) (sym (c .ending-at .ensures))
+    (declines (a .image .now) (a .sets .now) (a .right-sets) (a .left .now) (a .right .now) (a .frame .now) (c .before .before .before .before .before .before .before .before .before .before .before .before .before .before .before .before .pre .0) (omega arith) (k .places) (k .count) (k .i) (k .inv) (omega arith)
+    (c .before .before .choose .result) (c .before .before .choose .ensures .is ∙ ap₂ (λ (x y : ℕ). choiceBy (a .image .now) (a .sets .now) (setSize * x) (a .right-sets + setSize * y) (a .frame .now) (k .i)) (c .before .before .before .before .before .wide16 .ensures .0) (c .before .before .before .wide162 .ensures .0))
     (not-rule (c .before .before .choose .result) (c .before .match .keys2)))
 
 cast-places : tie.Need-cast-places Inv-loop μ-loop
-cast-places c = omega (arith, c .before .before .before .choose .ensures .inside _ (c .before .choice .given .1), valid-count (c .before .before .before .before .before .before .before .before .before .before .before .before .before .before .before .before .before .before .args .image .now) (c .before .before .before .before .before .before .before .before .before .before .before .before .before .before .before .before .before .before .pre .0))
+cast-places c = omega (arith, c .before .before .before .choose .ensures .inside _ (c .before .choice .given .1), valid-count (c .before .before .before .before .before .before .before .before .before .before .before .before .before .before .before .before .before .args .image .now) (c .before .before .before .before .before .before .before .before .before .before .before .before .before .before .before .before .before .pre .0))
 
 mul-places : tie.Need-mul-places Inv-loop μ-loop
 mul-places c = omega (arith, c .before .before .before .before .before .before .before .before .before .loop .inv .behind)
@@ -107,7 +105,7 @@ add-count : tie.Need-add-count Inv-loop μ-loop
 add-count c = omega (arith, c .before .before .before .before .before .before .before .before .before .loop .inv .behind)
 
 target-len-at-requires : tie.Need-target-len-at-requires Inv-loop μ-loop
-target-len-at-requires c κs = (c .before .before .before .before .before .before .before .before .before .before .before .before .before .before .before .before .before .before .pre .0, c .before .before .before .choose .ensures .inside _ (c .before .choice .given .1))
+target-len-at-requires c κs = (c .before .before .before .before .before .before .before .before .before .before .before .before .before .before .before .before .before .pre .0, c .before .before .before .choose .ensures .inside _ (c .before .choice .given .1))
 
 add-i : tie.Need-add-i Inv-loop μ-loop
 add-i c = omega (arith, c .target-len-at .ensures .1 .1)
@@ -117,22 +115,22 @@ loop-less c = omega (arith, c .target-len-at .ensures .1 .0, c .before .before .
 
 loop-again : tie.Need-loop-again Inv-loop μ-loop
 loop-again c =
-    let a = c .before .before .before .before .before .before .before .before .before .before .before .before .before .before .before .before .before .before .before .args in
+    let a = c .before .before .before .before .before .before .before .before .before .before .before .before .before .before .before .before .before .before .args in
     let k = c .before .before .before .before .before .before .before .before .before .before .loop in
     let t = c .target-len-at in
-    next (a .image .now) (a .sets .now) (a .right-sets) (a .left .now) (a .right .now) (a .frame .now) (c .before .before .before .before .before .before .before .before .before .before .before .before .before .before .before .before .before .before .before .pre .0) (omega arith) (k .places) (k .count) (k .i) (k .inv) (omega arith)
+    next (a .image .now) (a .sets .now) (a .right-sets) (a .left .now) (a .right .now) (a .frame .now) (c .before .before .before .before .before .before .before .before .before .before .before .before .before .before .before .before .before .before .pre .0) (omega arith) (k .places) (k .count) (k .i) (k .inv) (omega arith)
     (c .before .before .choice .given .0 .0)
-    (sym (c .before .before .before .before .choose .ensures .is ∙ ap₂ (λ (x y : ℕ). choiceBy (a .image .now) (a .sets .now) (8 * x) (a .right-sets + 8 * y) (a .frame .now) (k .i)) (c .before .before .before .before .before .before .before .wide2 .ensures) (c .before .before .before .before .before .wide3 .ensures)) ∙ ap (choiceOf (a .image .now)) (c .before .before .choice .given .1))
+    (sym (c .before .before .before .before .choose .ensures .is ∙ ap₂ (λ (x y : ℕ). choiceBy (a .image .now) (a .sets .now) (setSize * x) (a .right-sets + setSize * y) (a .frame .now) (k .i)) (c .before .before .before .before .before .before .before .wide16 .ensures .0) (c .before .before .before .before .before .wide162 .ensures .0)) ∙ ap (choiceOf (a .image .now)) (c .before .before .choice .given .1))
     (c .before .before .before .before .choose .ensures .inside _ (c .before .before .choice .given .1)) (t .result) (t .ensures .0) (t .ensures .1 .0) (t .ensures .1 .1)
 
 same-length-2 : tie.Need-same-length-2 Inv-loop μ-loop
-same-length-2 c = c .before .loop .inv .sized ∙ sym (c .before .before .before .before .before .before .before .before .before .before .pre .4)
+same-length-2 c = c .before .loop .inv .sized ∙ sym (c .before .before .before .before .before .before .before .before .before .pre .4)
 
 returns-2 : tie.Need-returns-2 Inv-loop μ-loop
 returns-2 c =
-    let a = c .before .before .before .before .before .before .before .before .before .before .args in
+    let a = c .before .before .before .before .before .before .before .before .before .args in
     let k = c .before .loop in
-    done (a .image .now) (a .sets .now) (a .right-sets) (a .left .now) (a .right .now) (a .frame .now) (c .before .before .before .before .before .before .before .before .before .before .pre .0) (omega arith) (k .places) (k .count) (k .i) (k .inv) (omega arith)
+    done (a .image .now) (a .sets .now) (a .right-sets) (a .left .now) (a .right .now) (a .frame .now) (c .before .before .before .before .before .before .before .before .before .pre .0) (omega arith) (k .places) (k .count) (k .i) (k .inv) (omega arith)
 
 pub read-letters-spec : {M : Type 1} → statement M
 read-letters-spec =
@@ -140,22 +138,21 @@ read-letters-spec =
     (tie.spec
     Inv-loop
     μ-loop
-    two-at-requires
-    wide-requires
+    rule-count-requires
     sub-end
     loop-holds
-    mul-wide
-    shared-slice-read-wide
-    wide-requires-2
+    mul-wide16
+    shared-slice-read-wide16
+    wide16-requires
     mul-s
-    mul-wide-2
-    shared-slice-read-wide-2
-    wide-requires-3
+    mul-wide16-2
+    shared-slice-read-wide16-2
+    wide16-requires-2
     mul-t
     add-t
     choose-requires
     enum-known-choice
-    refusal-at-requires
+    ending-at-requires
     same-length
     returns
     cast-places

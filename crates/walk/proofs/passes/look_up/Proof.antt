@@ -7,8 +7,8 @@ use borrow.Author.Needs.{needs}
 use Rattle.walk.proofs.passes.look_up.Statement.{statement}
 use Rattle.walk.proofs.passes.look_up.Tie as tie
 
-wide-requires : tie.Need-wide-requires
-wide-requires c κs = search needs
+wide16-requires : tie.Need-wide16-requires
+wide16-requires c κs = search needs
 
 mul-at : tie.Need-mul-at
 mul-at c = search needs
@@ -31,9 +31,9 @@ add-t9 c = search needs
 returns : tie.Need-returns
 returns c =
     let a = c .before .before .before .before .args in
-    record { next = ap (λ (q : ℕ). getD (a .words .now) (a .rows + (64 * q + a .c)) 0) (c .before .before .wide .ensures); more = refl }
+    record { next = ap (λ (q : ℕ). getD (a .words .now) (a .rows + (64 * q + a .c)) 0) (c .before .before .wide16 .ensures .0); more = refl }
 
 pub look-up-spec : {M : Type 1} → statement M
 look-up-spec =
     tie.close
-    (tie.spec wide-requires mul-at add-at add-at-2 mul-t7 shared-slice-read-t11 add-t9 returns)
+    (tie.spec wide16-requires mul-at add-at add-at-2 mul-t7 shared-slice-read-t11 add-t9 returns)

@@ -6,6 +6,7 @@ use native.Mathlib.Omega.{arith}
 use lib.ListN.{length}
 use Rattle.walk.specs.Passes.{rowsAt, rightOn}
 use Rattle.walk.proofs.Passing.{Passing, go-on, stop, finished, right-start, right-state, right-steps}
+use Rattle.walk.specs.Letters.{frameSize}
 use Rattle.walk.proofs.passes.right_pass.Statement.{statement}
 use Rattle.walk.proofs.passes.right_pass.Tie as tie
 
@@ -32,8 +33,8 @@ look-up-requires c κs =
     let b = c .before .before .loop .inv .3 .below in
     (omega arith, omega (arith, c .before .before .loop .inv .2))
 
-wide-requires : tie.Need-wide-requires Inv-loop μ-loop
-wide-requires c κs = tt
+wide16-requires : tie.Need-wide16-requires Inv-loop μ-loop
+wide16-requires c κs = tt
 
 same-length : tie.Need-same-length Inv-loop μ-loop
 same-length c = c .before .before .before .before .before .loop .inv .3 .room ∙ sym (c .before .before .before .before .before .before .before .before .before .pre .6)
@@ -44,7 +45,7 @@ returns c =
     let k = c .before .before .before .before .before .loop in
     let r = c .before .before .look-up in
     let p = k .inv .3 in
-    let b : a .count ≤ r .result .state = omega (arith, c .before .wide .ensures) in
+    let b : a .count ≤ r .result .state = omega (arith, c .before .wide16 .ensures .0) in
     stop (rightOn (rowsAt (a .words .now) (a .rows) (a .count)) (a .steps) (a .frame .now)) (a .count) _ _ _ (k .i - 1) (r .result .state)
     (right-state (a .words .now) (a .rows) (a .count) (a .frame .now) (a .steps) (k .at) (k .i) (p .here) (p .looked) (omega arith) (omega arith) (r .result) (r .ensures))
     (omega arith) (omega arith) b _ _ refl
@@ -64,7 +65,7 @@ loop-again c =
     let k = c .before .before .before .before .before .loop in
     let r = c .before .before .look-up in
     let p = k .inv .3 in
-    let b : r .result .state < a .count = omega (arith, c .before .wide .ensures) in (
+    let b : r .result .state < a .count = omega (arith, c .before .wide16 .ensures .0) in (
       omega arith,
       omega arith,
       omega (arith, r .ensures .more, k .inv .2),
@@ -81,7 +82,7 @@ returns-2 : tie.Need-returns-2 Inv-loop μ-loop
 returns-2 c =
     let a = c .before .before .before .before .before .args in
     let k = c .before .loop in
-    finished (rightOn (rowsAt (a .words .now) (a .rows) (a .count)) (a .steps) (a .frame .now)) (a .count) (length (a .frame .now) - 1) 1 (a .steps)
+    finished (rightOn (rowsAt (a .words .now) (a .rows) (a .count)) (a .steps) (a .frame .now)) (a .count) (length (a .frame .now) - 1) 1 (a .steps + frameSize)
     (k .inv .3) (omega arith) (omega arith) (omega arith) (omega (arith, k .inv .2)) _ refl refl
 
 pub right-pass-spec : {M : Type 1} → statement M
@@ -94,7 +95,7 @@ right-pass-spec =
     sub-i
     shared-slice-read-look-up
     look-up-requires
-    wide-requires
+    wide16-requires
     same-length
     returns
     mul-states

@@ -8,6 +8,8 @@ use native.Mathlib.Omega.{arith}
 use lib.ListN.{length}
 use Rattle.walk.specs.Passes.{rowsAt, leftOn, rightOn, Passed}
 use Rattle.walk.proofs.Walked.{both-bad, both-good}
+use Rattle.tables.specs.Words.{headWords, rightRows}
+use Rattle.walk.specs.Letters.{frameSize}
 use Rattle.walk.proofs.passes.run_passes.Statement.{statement}
 use Rattle.walk.proofs.passes.run_passes.Tie as tie
 
@@ -24,7 +26,7 @@ returns : tie.Need-returns
 returns c =
     let a = c .before .before .before .before .before .before .before .before .before .before .args in
     both-bad (a .words .now) (a .left-states) (a .right-states) (a .frame .now) (length (a .frame .now) - 2) (c .before .before .before .before .left-pass .last .1 .1 .1 .1 .0) (a .right .now) (c .before .before .before .before .left-pass .result)
-    (subst (λ (n : ℕ). Passed (leftOn (rowsAt (a .words .now) 2 (a .left-states)) (a .frame .now)) (a .left-states) n n 0 (c .before .before .before .before .left-pass .last .1 .1 .1 .1 .0) (c .before .before .before .before .left-pass .result)) (shorter (length (a .frame .now)) (c .before .before .before .before .before .before .before .before .before .before .pre .3)) (c .before .before .before .before .left-pass .ensures))
+    (subst (λ (n : ℕ). Passed (leftOn (rowsAt (a .words .now) headWords (a .left-states)) (a .frame .now)) (a .left-states) n n frameSize (c .before .before .before .before .left-pass .last .1 .1 .1 .1 .0) (c .before .before .before .before .left-pass .result)) (shorter (length (a .frame .now)) (c .before .before .before .before .before .before .before .before .before .before .pre .3)) (c .before .before .before .before .left-pass .ensures))
     (not-true _ (c .if1 .taken))
 
 mul-right-pass : tie.Need-mul-right-pass
@@ -36,7 +38,7 @@ add-right-pass c = search needs
 right-pass-requires : tie.Need-right-pass-requires
 right-pass-requires c κs =
     let p = c .before .before .before .before .before .before .before .before .before .before .before .pre in
-    (omega arith, p .1, p .3, p .4, omega (arith, c .before .before .before .before .before .left-pass .ensures .many (not-false _ (c .before .if1 .left))), p .5, p .7)
+    (omega arith, p .1, p .3, p .4, omega (arith, c .before .before .before .before .before .left-pass .ensures .few (not-false _ (c .before .if1 .left))), p .5, p .7)
 
 same-length-2 : tie.Need-same-length-2
 same-length-2 c = c .before .before .before .before .before .before .before .before .left-pass .kept .1 .1 .1 .1 .0
@@ -50,9 +52,9 @@ returns-2 c =
     let one = c .before .before .before .before .before .before .before .before .left-pass in
     let two = c .before .before .right-pass in
     both-good (a .words .now) (a .left-states) (a .right-states) (a .frame .now) (length (a .frame .now) - 2) (one .last .1 .1 .1 .1 .0) (two .last .1 .1 .1 .1 .1 .0) (one .result)
-    (subst (λ (n : ℕ). Passed (leftOn (rowsAt (a .words .now) 2 (a .left-states)) (a .frame .now)) (a .left-states) n n 0 (one .last .1 .1 .1 .1 .0) (one .result)) (shorter (length (a .frame .now)) (c .before .before .before .before .before .before .before .before .before .before .before .before .before .before .pre .3)) (one .ensures))
+    (subst (λ (n : ℕ). Passed (leftOn (rowsAt (a .words .now) headWords (a .left-states)) (a .frame .now)) (a .left-states) n n frameSize (one .last .1 .1 .1 .1 .0) (one .result)) (shorter (length (a .frame .now)) (c .before .before .before .before .before .before .before .before .before .before .before .before .before .before .pre .3)) (one .ensures))
     (not-false _ (c .before .before .before .before .if1 .left)) (two .result)
-    (subst (λ (n : ℕ). Passed (rightOn (rowsAt (a .words .now) (2 + 64 * a .left-states) (a .right-states)) (one .result .steps) (a .frame .now)) (a .right-states) n 1 (one .result .steps) (two .last .1 .1 .1 .1 .1 .0) (two .result))
+    (subst (λ (n : ℕ). Passed (rightOn (rowsAt (a .words .now) (rightRows (a .left-states)) (a .right-states)) (one .result .steps) (a .frame .now)) (a .right-states) n 1 (one .result .steps + frameSize) (two .last .1 .1 .1 .1 .1 .0) (two .result))
     (shorter (length (a .frame .now)) (c .before .before .before .before .before .before .before .before .before .before .before .before .before .before .pre .3)) (two .ensures))
 
 pub run-passes-spec : {M : Type 1} → statement M
