@@ -4,7 +4,7 @@
 -- Assumes nothing.
 use mathlib.Core.Path.{_≡_, refl}
 use Prim.Native.Nat.{ℕ}
-use mathlib.Core.Bool.{true, cond}
+use mathlib.Core.Bool.{true}
 use mathlib.Core.List.{List, [], _∷_}
 use lib.Dec.{T as Holds}
 use lib.ListN.{length}
@@ -20,7 +20,7 @@ use ghost.Atoms.{Atoms, sem}
 use contract.Lifetimes.{Lfts, Shares}
 use contract.Monad.{Fun, fact}
 use contract.Running.{givenOf, tables, tablesOf}
-use types.Kit.{Given, ‵, raw, _⊛_, given, ⋆, some, later, _$_, _∵_, !, qed, by, move, drop, use1, use2, split, learn, fsplit, fjoin, feqL, suffices, frame, await, done}
+use types.Kit.{Given, ‵, raw, _⊛_, given, ⋆, some, later, _$_, _∵_, !, qed, by, move, drop, use1, use2, split, learn, pick, fsplit, fjoin, feqL, suffices, frame, await, done}
 use types.Part.{agg, whole, sub, look-in}
 use types.Run.{look, init, forget, stop, hop, fld, from, load, addr, of-opd, and-then, no-more, assigns, land, returns, enter, alloc1, alloc0, params1, pass1, pass0, free1, free0}
 use sound.WpLaws.{FmC, fmOf, WpFn-mono}
@@ -44,7 +44,8 @@ use denote.Triple.Walked.{says, needs, Stays, stay-none, stay-none-slice, gave-s
 use denote.Exit.{yes}
 use denote.Triple.Clauses.{Lasts, ensured, lasts}
 use Rattle.image.specs.Image.{valid}
-use Rattle.walk.specs.Walked.{walkedOf, walkFor}
+use Rattle.tables.specs.Walk.{walkFor}
+use Rattle.walk.specs.Walked.{walkedOf, compiledWith}
 use Rattle.compiled.specs.declared.Compiled.{Compiled}
 use Rattle.walk.specs.declared.WalkAnswer.{WalkAnswer}
 use Rattle.compiled.proofs.Compiled as T
@@ -92,7 +93,7 @@ module _ {M : Type 1} (𝓤 : URA M) (H : Heap 𝓤) (A : Atoms 𝓤) (W : Given
   vals = (dv ∷ [], (slice g ∷ [], (slice n ∷ [], (slice p ∷ [], (slice m ∷ [], tt)))))
 
   abbrev Says : WalkAnswer → List ℕ → List ℕ → Type 0
-  Says r ps ms = walkedOf r ps ms ≡ walkFor (d .«left_states») (d .«right_states») (now g) (now (d .words)) (now (d .sets)) (now n) (now p) (now m)
+  Says r ps ms = walkedOf r ps ms ≡ walkFor (compiledWith (now (d .words)) (now (d .sets)) (d .«left_states») (d .«right_states»)) (now g) (now n) (now p) (now m)
 
   abbrev Post : Val → SProp 𝓤
   Post = walkOf 𝓤 H A speak.ended stayed (speak.clauses 𝓤 H A mem run) .post ((κs, qs, tt, a, vals), tt)
@@ -176,9 +177,9 @@ module _ {M : Type 1} (𝓤 : URA M) (H : Heap 𝓤) (A : Atoms 𝓤) (W : Given
         calls-at ! fm (Inner 𝓤 H A mem run) known to
         (and-then ! (load ! (from ! (stop !)) (look ! 16 refl)) (and-then ! (load ! (from ! (stop !)) (look ! 14 refl)) (and-then ! (load ! (from ! (stop !)) (look ! 12 refl)) (and-then ! (load ! (from ! (stop !)) (look ! 10 refl))
         (and-then ! (load ! (from ! (stop !)) (look ! 24 refl)) (and-then ! (load ! (from ! (stop !)) (look ! 22 refl)) (and-then ! (load ! (from ! (stop !)) (look ! 6 refl)) (and-then ! (load ! (from ! (stop !)) (look ! 2 refl)) (no-more !))))))))) (λ u.
-        use1 W (later (some (λ (r : WalkAnswer). (raw Toks ⊛ ‵ (S.the-row .own r (u ∷ []))) ⊛ raw (ensured 𝓤 H A inner.ended (inner.clauses 𝓤 H A mem run) κs b tt r)))) (id⊢ 𝓤 _) $ await ! tt $ cond ! (λ r.
+        use1 W (later (some (λ (r : WalkAnswer). (raw Toks ⊛ ‵ (S.the-row .own r (u ∷ []))) ⊛ raw (ensured 𝓤 H A inner.ended (inner.clauses 𝓤 H A mem run) κs b tt r)))) (id⊢ 𝓤 _) $ await ! tt $ pick ! (λ r.
         -- what `speak_with` ensures, at some last lists
-        split ! $ move ! (1 ∷ []) $ use1 W (some (λ (zs : Lasts inner.ended κs b). ‵ (lasts inner.ended κs b zs) ⊛ raw (fact 𝓤 (Says r (zs .1 .1 .1 .1 .1 .1 .0) (zs .1 .1 .1 .1 .1 .1 .1 .0))))) (id⊢ 𝓤 _) $ cond ! (λ zs.
+        split ! $ move ! (1 ∷ []) $ use1 W (some (λ (zs : Lasts inner.ended κs b). ‵ (lasts inner.ended κs b zs) ⊛ raw (fact 𝓤 (Says r (zs .1 .1 .1 .1 .1 .1 .0) (zs .1 .1 .1 .1 .1 .1 .1 .0))))) (id⊢ 𝓤 _) $ pick ! (λ zs.
         split ! $ move ! (1 ∷ []) $ heard ! (Says r (zs .1 .1 .1 .1 .1 .1 .0) (zs .1 .1 .1 .1 .1 .1 .1 .0)) (λ e.
         fsplit ! $ drop ! $ fsplit ! $ drop ! $ fsplit ! $ drop ! $ fsplit ! $ drop ! $ fsplit ! $ drop ! $ fsplit ! $ drop ! $
         fsplit ! $ fsplit ! $ move ! (1 ∷ []) $ feqL ! (λ lp. move ! (1 ∷ []) $ fsplit ! $ fsplit ! $ move ! (1 ∷ []) $ feqL ! (λ lm. move ! (1 ∷ []) $ drop ! $
