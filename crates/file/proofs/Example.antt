@@ -1,19 +1,20 @@
--- Document 01's six rules and their file. Assumes nothing.
+-- Document 01's six rules and their file.
+-- Assumes nothing.
 use Prim.Native.Nat.{ℕ}
 use mathlib.Core.Path.{_≡_, refl, ap, _∙_, sym}
 use mathlib.Core.List.{List, [], _∷_}
 use mathlib.Core.Bool.{true}
 use Rattle.rules.specs.Shape.{Entry, shape}
 use Rattle.frames.specs.Lines.{digit, sumByte}
-use Rattle.file.specs.Listing.{Listing, wellFormed}
-use Rattle.file.specs.File.{encode, readFile}
+use Rattle.image.specs.State.{Ruleset, isRuleset}
+use Rattle.file.specs.File.{wellFormed, encode, readFile}
 use Rattle.file.specs.File.Read.{Accepted}
 use Rattle.file.proofs.Accepts.{accepts}
 
 abbrev rule : ℕ → List ℕ → List ℕ → List ℕ → List ℕ → Entry
 rule n l t r p = record { number = n; rule = record { left = l; target = t; right = r; phones = p } }
 
-pub six : Listing
+pub six : Ruleset
 six = record {
   rules =
       rule 1 (0 ∷ []) (11 ∷ []) (14 ∷ []) ([])
@@ -41,7 +42,7 @@ unfolding six sixFile encode digit sumByte
 six-file = refl
 
 six-formed : wellFormed six ≡ true
-unfolding six wellFormed shape
+unfolding six wellFormed isRuleset shape
 six-formed = refl
 
 pub six-read : readFile sixFile ≡ Accepted six

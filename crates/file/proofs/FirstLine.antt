@@ -1,4 +1,4 @@
--- The first line of a file, read into 7 lent bytes, and what it tells of the whole file.
+-- The first line of a file, read into as many lent bytes as a head's frame has, and what it tells of the whole file.
 -- Assumes nothing.
 use Prim.Native.Nat.{ℕ, _≤_, _<_}
 use mathlib.Core.Path.{_≡_, refl, sym, ap, ap₂, _∙_}
@@ -8,6 +8,7 @@ use native.Mathlib.Omega.{arith}
 use lib.ListN.{length, take, drop}
 use Rattle.rules.specs.Memory.{over}
 use Rattle.rules.proofs.Cases.{byBool}
+use Rattle.rules.specs.Limits.{maxRules}
 use Rattle.rules.specs.Refusals.{accepted, declined}
 use Rattle.frames.specs.declared.Line.{Line}
 use Rattle.frames.specs.Lines.{Parsed, soundLine, decoded, report}
@@ -15,16 +16,17 @@ use Rattle.frames.specs.Lines.Parsed.{Bad, Good}
 use Rattle.frames.proofs.Report.{Found, found, not-found, frame-held}
 use Rattle.file.specs.declared.heading.Head.{Head}
 use Rattle.file.specs.declared.heading.HeadLine.{HeadLine}
-use Rattle.file.specs.File.{isHead, headCount, headLast, readRules, readFile}
+use Rattle.file.specs.Layout.{headCount, headLast, headFrameSize}
+use Rattle.file.specs.File.{isHead, readRules, readFile}
 use Rattle.file.specs.Loading.{verdict, noHead, headIn, headAt}
-use Rattle.file.proofs.Numbers.{clash}
+use Rattle.file.proofs.Bodies.{clash}
 use Rattle.file.proofs.Accepts.{read-head, head-limit}
 use Rattle.file.proofs.Parts.{head-length}
 
 pub no-decline : {A : Type 0} (n p : ℕ) → declined n p ≡ accepted → A
 no-decline n p e = let z : _≡_ {A = ℕ} 0 1 = cc in absurd (omega arith)
 
--- ---- the first line, read into 7 lent bytes
+-- ---- the first line
 
 abbrev headLine : ℕ → Head → HeadLine
 headLine next h = record { sound = true; next = next; head = h }
@@ -40,10 +42,10 @@ module _ (file : List ℕ) (line : Line) (e : line ≡ report (length file) (sou
     head-by : (h : Head) → h ≡ headIn (k .f) → headLine (line .next) h ≡ headAt (length file) (soundLine file)
     head-by h p = ap₂ headLine (k .next) p ∙ ap (headAt (length file)) (sym (k .is))
 
-    pub head-long : 7 < line .len → _≡_ {A = HeadLine} (record { sound = true; next = line .next; head = noHead }) (headAt (length file) (soundLine file))
+    pub head-long : headFrameSize < line .len → _≡_ {A = HeadLine} (record { sound = true; next = line .next; head = noHead }) (headAt (length file) (soundLine file))
     head-long h = head-by noHead (head-length (k .f) (λ q. omega (arith, k .many)))
 
-    pub head-read : (xs z : List ℕ) → length xs ≡ 7 → z ≡ over (take (length xs) (decoded (drop 0 file))) xs → line .len ≤ 7
+    pub head-read : (xs z : List ℕ) → length xs ≡ headFrameSize → z ≡ over (take (length xs) (decoded (drop 0 file))) xs → line .len ≤ headFrameSize
         → (h : Head) → h ≡ headIn (take (line .len) z) → _≡_ {A = HeadLine} (record { sound = true; next = line .next; head = h }) (headAt (length file) (soundLine file))
     head-read xs z l q n h p =
         head-by h
@@ -94,7 +96,7 @@ module _ (file : List ℕ) (line : HeadLine) (e : line ≡ headAt (length file) 
       fields : line .head ≡ record { ok = true; count = headCount (first .f); last = headLast (first .f) }
       fields = head-is ∙ rw headed
 
-      pub head-few : line .head .count ≤ 512
+      pub head-few : line .head .count ≤ maxRules
       head-few = rw (ap (λ (h : Head). h .count) fields) (head-limit (first .f) headed)
 
       pub head-within : line .next ≤ length file

@@ -1,10 +1,12 @@
 pub mod Bodies
 pub mod Numbers
 pub mod Accepts
+pub mod Copies
 pub mod Parts
 pub mod FirstLine
 pub mod NextLine
 pub mod Judging
+pub mod Slots
 pub mod Storing
 pub mod RuleBytes
 pub mod FileBytes

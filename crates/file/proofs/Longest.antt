@@ -8,10 +8,12 @@ use mathlib.Core.Bool.{true, false}
 use native.Mathlib.Omega.{arith}
 use borrow.Author.Tests.{le-leb, ne-eqb}
 use lib.ListN.{length, length-append}
+use Rattle.rules.specs.Limits.{maxRules}
 use Rattle.rules.specs.Shape.{Entry, shape}
-use Rattle.file.specs.Listing.{Listing, entries, member, distinct, wellFormed}
-use Rattle.file.specs.File.{headLine, ruleLine, ruleLines, encode}
-use Rattle.file.proofs.Numbers.{and, new}
+use Rattle.rules.proofs.Cases.{and-i, new-i}
+use Rattle.image.specs.State.{Ruleset, entries, member, distinct}
+use Rattle.file.specs.Layout.{lineSize, longestFrame}
+use Rattle.file.specs.File.{wellFormed, headLine, ruleLine, ruleLines, encode}
 use Rattle.file.proofs.Accepts.{is-formed, length-rule}
 
 -- a rule of full length
@@ -44,7 +46,7 @@ counted-entries : (last k n : ℕ) → k + n ≤ last → entries last (counted 
 unfolding counted
 counted-entries last k zero h = refl
 counted-entries last k (suc n) h =
-    and (and (shaped (suc k)) (and (le-leb 1 (suc k) (omega arith)) (le-leb (suc k) last (omega arith)))) (counted-entries last (suc k) n (omega arith))
+    and-i (and-i (shaped (suc k)) (and-i (le-leb 1 (suc k) (omega arith)) (le-leb (suc k) last (omega arith)))) (counted-entries last (suc k) n (omega arith))
 
 counted-new : (m k n : ℕ) → m ≤ k → member m (counted k n) ≡ false
 unfolding counted
@@ -54,27 +56,27 @@ counted-new m k (suc n) h = rw (ne-eqb (suc k) m (λ q. omega arith)) (counted-n
 counted-distinct : (k n : ℕ) → distinct (counted k n) ≡ true
 unfolding counted
 counted-distinct k zero = refl
-counted-distinct k (suc n) = new (counted-new (suc k) (suc k) n (omega arith)) (counted-distinct (suc k) n)
+counted-distinct k (suc n) = new-i (counted-new (suc k) (suc k) n (omega arith)) (counted-distinct (suc k) n)
 
-counted-lines : (k n : ℕ) → length (ruleLines (counted k n)) ≡ 57 * n
+counted-lines : (k n : ℕ) → length (ruleLines (counted k n)) ≡ lineSize longestFrame * n
 unfolding counted
 counted-lines k zero = refl
 counted-lines k (suc n) =
     omega (arith, length-append (ruleLine (full (suc k))) (ruleLines (counted (suc k) n)), length-rule (full (suc k)), counted-lines (suc k) n)
 
-pub largest : Listing
-largest = record { rules = counted 0 512; last = 512 }
+pub largest : Ruleset
+largest = record { rules = counted 0 maxRules; last = maxRules }
 
 pub largest-formed : wellFormed largest ≡ true
 unfolding largest
 largest-formed =
-    is-formed (record { rules = counted 0 512; last = 512 }) (record {
-      few = omega (arith, counted-length 0 512);
+    is-formed (record { rules = counted 0 maxRules; last = maxRules }) (record {
+      few = omega (arith, counted-length 0 maxRules);
       small = omega arith;
-      all = counted-entries 512 0 512 (omega arith);
-      differ = counted-distinct 0 512;
+      all = counted-entries maxRules 0 maxRules (omega arith);
+      differ = counted-distinct 0 maxRules;
     })
 
 pub largest-length : length (encode largest) ≡ 29199
 unfolding largest encode
-largest-length = omega (arith, length-append (headLine (length (counted 0 512)) 512) (ruleLines (counted 0 512)), counted-lines 0 512)
+largest-length = omega (arith, length-append (headLine (length (counted 0 maxRules)) maxRules) (ruleLines (counted 0 maxRules)), counted-lines 0 maxRules)

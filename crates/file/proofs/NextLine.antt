@@ -1,4 +1,4 @@
--- A line after the first, read into 28 lent bytes, and what it tells.
+-- A line after the first, read into as many lent bytes as the longest frame of a rule has, and what it tells.
 -- Assumes nothing.
 use Prim.Native.Nat.{ℕ, _≤_, _<_}
 use mathlib.Core.Path.{_≡_, refl, sym, ap, ap₂, _∙_}
@@ -15,11 +15,11 @@ use Rattle.frames.specs.Lines.Parsed.{Bad, Good}
 use Rattle.frames.proofs.Report.{Found, found, not-found, frame-held}
 use Rattle.file.specs.declared.parsing.Ruled.{Ruled}
 use Rattle.file.specs.declared.parsing.RuleLine.{RuleLine}
-use Rattle.file.specs.File.{ruleOf}
-use Rattle.file.specs.Loading.{numberedOf, noneRuled, ruledIn, ruleAt}
+use Rattle.file.specs.Layout.{longestFrame, entryIn, numberedOf}
+use Rattle.file.specs.Loading.{noneRuled, ruledIn, ruleAt}
 use Rattle.file.proofs.Parts.{ruled-long}
 
--- ---- a rule's line, read into 28 lent bytes
+-- ---- a rule's line
 
 abbrev ruleLine : ℕ → Ruled → RuleLine
 ruleLine next r = record { sound = true; next = next; ruled = r }
@@ -36,11 +36,11 @@ module _ (file : List ℕ) (at last : ℕ) (line : Line) (e : line ≡ report (l
     rule-by : (r : Ruled) → r ≡ ruledIn last (q .f) → ruleLine (line .next) r ≡ ruleAt last (length file) (soundLine (drop at file))
     rule-by r p = ap₂ ruleLine (q .next) p ∙ ap (ruleAt last (length file)) (sym (q .is))
 
-    pub rule-long : 28 < line .len → (r : Ruled) → r ≡ noneRuled
+    pub rule-long : longestFrame < line .len → (r : Ruled) → r ≡ noneRuled
         → _≡_ {A = RuleLine} (record { sound = true; next = line .next; ruled = r }) (ruleAt last (length file) (soundLine (drop at file)))
     rule-long h r p = rule-by r (p ∙ ruled-long last (q .f) (omega (arith, q .many)))
 
-    pub rule-read : (xs z : List ℕ) → length xs ≡ 28 → z ≡ over (take (length xs) (decoded (drop at file))) xs → line .len ≤ 28
+    pub rule-read : (xs z : List ℕ) → length xs ≡ longestFrame → z ≡ over (take (length xs) (decoded (drop at file))) xs → line .len ≤ longestFrame
         → (r : Ruled) → r ≡ ruledIn last (take (line .len) z)
         → _≡_ {A = RuleLine} (record { sound = true; next = line .next; ruled = r }) (ruleAt last (length file) (soundLine (drop at file)))
     rule-read xs z l w n r p =
@@ -91,5 +91,5 @@ frame-whole d xs z n l e =
     let t : take n d ≡ d = take-all n d (omega arith) in
     ap (take n) (e ∙ ap (λ (w : List ℕ). over w xs) t) ∙ take-at d (drop (length d) xs) n (sym l)
 
-pub frame-entry : (d xs z : List ℕ) (n : ℕ) → n ≡ length d → z ≡ over (take n d) xs → (x : Numbered) → x ≡ numberedOf (ruleOf (take n z)) → x ≡ numberedOf (ruleOf d)
-frame-entry d xs z n l e x w = w ∙ ap (λ (f : List ℕ). numberedOf (ruleOf f)) (frame-whole d xs z n l e)
+pub frame-entry : (d xs z : List ℕ) (n : ℕ) → n ≡ length d → z ≡ over (take n d) xs → (x : Numbered) → x ≡ numberedOf (entryIn (take n z)) → x ≡ numberedOf (entryIn d)
+frame-entry d xs z n l e x w = w ∙ ap (λ (f : List ℕ). numberedOf (entryIn f)) (frame-whole d xs z n l e)

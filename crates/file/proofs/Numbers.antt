@@ -3,39 +3,18 @@
 use Prim.Native.Nat.{ℕ}
 use mathlib.Core.Path.{_≡_, refl, sym, ap, _∙_}
 use mathlib.Core.List.{List, [], _∷_, _++_}
-use mathlib.Core.Bool.{Bool, true, false, cond, _&&_, _||_}
-use borrow.Author.Tests.{eqb-true, eq-eqb}
+use mathlib.Core.Bool.{Bool, true, false, _&&_, _||_, or-assoc}
+use borrow.Author.Tests.{eqb-true, eq-eqb, not-true}
 use lib.Dec.{eqb}
-use Rattle.rules.proofs.Cases.{byBool}
+use Rattle.rules.proofs.Cases.{byBool, and-i, or-r, new-l, new-r, new-i}
 use Rattle.rules.specs.Shape.{Entry}
-use Rattle.file.specs.Listing.{entry, entries, member, distinct}
+use Rattle.image.specs.State.{entry, entries, member, distinct}
 use Rattle.file.specs.File.{fine}
-use Rattle.file.proofs.Bodies.{no, both}
-
-pub clash {ℓ} : {A : Type ℓ} {b : Bool} → b ≡ true → b ≡ false → A
-clash p q = absurd (no (sym q ∙ p))
-
-pub and : {a b : Bool} → a ≡ true → b ≡ true → (a && b) ≡ true
-and p q = rw (p, q)
-
-pub new : {a b : Bool} → a ≡ false → b ≡ true → cond a false b ≡ true
-new p q = rw (p, q)
-
-pub new-both : (a b : Bool) → cond a false b ≡ true → (a ≡ false) × (b ≡ true)
-new-both true b e = absurd (no e)
-new-both false b e = (refl, e)
-
-or-none : (a b : Bool) → (a || b) ≡ false → (a ≡ false) × (b ≡ false)
-or-none true b e = absurd (no (sym e))
-or-none false b e = (refl, e)
-
-pick-or : (t m n : Bool) → (t || (m || n)) ≡ ((t || m) || n)
-pick-or true m n = refl
-pick-or false m n = refl
+use Rattle.file.proofs.Bodies.{clash, both}
 
 pub member-append : (k : ℕ) (a b : List Entry) → member k (a ++ b) ≡ (member k a || member k b)
 member-append k [] b = refl
-member-append k (x ∷ a) b = ap (cond (eqb (x .number) k) true) (member-append k a b) ∙ pick-or (eqb (x .number) k) (member k a) (member k b)
+member-append k (x ∷ a) b = ap (λ (t : Bool). eqb (x .number) k || t) (member-append k a b) ∙ sym (or-assoc (eqb (x .number) k) (member k a) (member k b))
 
 -- each of the rules is fine after those of `done` and those before it
 abbrev pub fineAll : ℕ → List Entry → List Entry → Bool
@@ -55,11 +34,11 @@ fine-apart last [] done h = record { all = refl; differ = refl; apart = λ k m. 
 fine-apart last (e ∷ es) done h =
     let a = both (fine last done e) _ h in
     let b = both (entry last e) _ (a .0) in
-    let m = new-both (member (e .number) done) _ (b .1) .0 in
+    let m = not-true (member (e .number) done) (b .1) in
     let i = fine-apart last es (done ++ (e ∷ [])) (a .1) in
     record {
-      all = and (b .0) (i .all);
-      differ = new (i .apart (e .number) (member-append (e .number) done (e ∷ []) ∙ rw (m, eq-eqb (e .number) (e .number) refl))) (i .differ);
+      all = and-i (b .0) (i .all);
+      differ = new-i (i .apart (e .number) (member-append (e .number) done (e ∷ []) ∙ rw (m, eq-eqb (e .number) (e .number) refl))) (i .differ);
       apart = λ k t.
           byBool (eqb (e .number) k)
           (λ q. clash t (ap (λ (j : ℕ). member j done) (sym (eqb-true (e .number) k q)) ∙ m))
@@ -70,16 +49,16 @@ pub apart-fine : (last : ℕ) (es done : List Entry) → Apart last done es → 
 apart-fine last [] done h = refl
 apart-fine last (e ∷ es) done h =
     let a = both (entry last e) _ (h .all) in
-    let d = new-both (member (e .number) es) _ (h .differ) in
+    let n = new-l (member (e .number) es) _ (h .differ) in
     let m : member (e .number) done ≡ false = byBool (member (e .number) done) (λ t. clash (self e es) (h .apart (e .number) t)) (λ t. t) in
-    and (and (a .0) (new m refl))
+    and-i (and-i (a .0) (rw m))
     (apart-fine last es (done ++ (e ∷ [])) (record {
       all = a .1;
-      differ = d .1;
+      differ = new-r (member (e .number) es) _ (h .differ);
       apart = λ k t.
           byBool (member k done)
-          (λ q. or-none (eqb (e .number) k) _ (h .apart k q) .1)
+          (λ q. or-r (eqb (e .number) k) _ (h .apart k q))
           (λ q.
-          let t′ : (eqb (e .number) k && true) ≡ true = rw q at (sym (member-append k done (e ∷ [])) ∙ t) in
-          byBool (eqb (e .number) k) (λ u. ap (λ (j : ℕ). member j es) (sym (eqb-true (e .number) k u)) ∙ d .0) (λ u. absurd (no (rw u at t′))));
+          let t′ : (eqb (e .number) k || false) ≡ true = rw q at (sym (member-append k done (e ∷ [])) ∙ t) in
+          byBool (eqb (e .number) k) (λ u. ap (λ (j : ℕ). member j es) (sym (eqb-true (e .number) k u)) ∙ n) (λ u. clash (rw u at t′) refl));
     }))

@@ -1,33 +1,36 @@
--- What stands in the image while the rules of a file that was judged are stored. Assumes nothing.
-use Prim.Native.Nat.{ℕ, suc, _+_, _-_, _*_, _≤_, _<_}
+-- What stands in the image while the rules of a file that was judged are stored, and the answers of a reading.
+-- Assumes nothing.
+use Prim.Native.Nat.{ℕ, suc, _+_, _-_, _≤_, _<_}
 use mathlib.Core.Path.{_≡_, refl, sym, ap, ap₂, _∙_}
-use mathlib.Core.List.{List, [], _∷_, _++_, map, append-assoc, append-nil}
+use mathlib.Core.List.{List, [], _∷_, _++_, map, map-append}
 use mathlib.Core.Bool.{true}
 use native.Mathlib.Omega.{arith}
 use borrow.Author.Tests.{le-leb, lt-leb}
-use lib.ListN.{length, take, drop, length-append, length-drop, length-map, take-append-drop}
-use lib.Seq.{take-at, drop-append-add, drop-append-seam, drop-drop, length-take-le}
-use Rattle.rules.proofs.Cases.{byBool}
+use lib.ListN.{length, drop, length-append, length-drop, length-map}
+use lib.Seq.{drop-append-seam, drop-drop}
+use Rattle.rules.proofs.Cases.{byBool, and-i}
+use Rattle.rules.specs.Limits.{maxRules, maxContext, maxTarget, maxPhones}
 use Rattle.rules.specs.Shape.{Entry}
 use Rattle.rules.specs.Refusals.{accepted, declined}
 use Rattle.rules.specs.declared.Numbered.{Numbered}
 use Rattle.rules.proofs.Laws.{length-first}
-use Rattle.image.specs.Image.{bytesOf, slotStart, flat, headOf, laid, outcome}
-use Rattle.image.proofs.Stored.{Each, length-flat}
+use Rattle.image.specs.State.{Ruleset, entry}
+use Rattle.image.specs.Image.{imageSize, laid, withHead, withRule, outcome}
+use Rattle.image.proofs.Stored.{Each}
 use Rattle.image.proofs.Stored.Each.{none, more}
 use Rattle.frames.specs.Lines.{lineOf, Parsed, soundLine, decoded}
 use Rattle.frames.specs.Lines.Parsed.{Bad, Good}
 use Rattle.frames.proofs.Lines.{sound-was, length-line}
 use Rattle.frames.proofs.Report.{decoded-sound}
 use Rattle.file.specs.declared.heading.HeadLine.{HeadLine}
-use Rattle.file.specs.Listing.{Listing, entry}
-use Rattle.file.specs.File.{Read, isRule, ruleOf, ruleFits, ended, readRules, readFile}
+use Rattle.file.specs.Layout.{lineSize, entryIn, numberedOf}
+use Rattle.file.specs.File.{Read, isRule, ruleFits, ended, readRules, readFile}
 use Rattle.file.specs.File.Read.{Accepted, Malformed, Broken}
-use Rattle.file.specs.Loading.{numberedOf, ledgerFor, verdict, described, stored, loaded, headAt, ruleFrame}
-use Rattle.file.proofs.Bodies.{both}
-use Rattle.file.proofs.Accepts.{listing, Were, rules-were, read-malformed, read-broken, read-on}
+use Rattle.file.specs.Loading.{ledgerFor, verdict, described, stored, loaded, headAt, ruleFrame, withRules}
+use Rattle.file.proofs.Bodies.{both, in-range}
+use Rattle.file.proofs.Accepts.{rulesetFrom, Were, rules-were, read-malformed, read-broken, read-on}
 use Rattle.file.proofs.FirstLine.{no-decline, head-sound, head-ok, head-few, head-within, head-on}
-use Rattle.file.proofs.Parts.{shape-frame}
+use Rattle.file.proofs.Slots.{rules-next, rules-length, rules-laid}
 
 -- ---- what an accepted reading tells
 
@@ -36,7 +39,7 @@ accepted-is (Accepted b) e = refl
 accepted-is (Malformed p) e = no-decline 13 p e
 accepted-is (Broken p) e = no-decline 14 p e
 
-ended-is : (len : ℕ) (b : Listing) (s : List ℕ) → verdict (ended len b s) ≡ accepted → described (ended len b s) ≡ b
+ended-is : (len : ℕ) (b : Ruleset) (s : List ℕ) → verdict (ended len b s) ≡ accepted → described (ended len b s) ≡ b
 ended-is len b [] e = refl
 ended-is len b (x ∷ s) e = no-decline 14 (len - length (x ∷ s)) e
 
@@ -58,7 +61,7 @@ next-by len last n done s (Good f rest) p e =
 frame-of : (last : ℕ) (done : List Entry) (f : List ℕ) → ruleFits last done f ≡ true → ruleFrame f ≡ true
 frame-of last done f t =
     let a = both (isRule f) _ t in
-    shape-frame last f (a .0) (both (entry last (ruleOf f)) _ (a .1) .0)
+    and-i (a .0) (in-range last (entryIn f) (both (entry last (entryIn f)) _ (a .1) .0) .shaped)
 
 -- ---- the slots
 
@@ -66,42 +69,24 @@ pub each-numbered : (l : List Entry) → Each (map numberedOf l)
 each-numbered [] = none
 each-numbered (x ∷ l) =
     more
-    (length-first 6 (x .rule .left) 0, (length-first 4 (x .rule .target) 0, (length-first 6 (x .rule .right) 0, length-first 4 (x .rule .phones) 0)))
+    (length-first maxContext (x .rule .left) 0, (length-first maxTarget (x .rule .target) 0, (length-first maxContext (x .rule .right) 0, length-first maxPhones (x .rule .phones) 0)))
     (each-numbered l)
 
-map-append : (a b : List Entry) → map numberedOf (a ++ b) ≡ map numberedOf a ++ map numberedOf b
-map-append [] b = refl
-map-append (x ∷ a) b = ap (λ (l : List Numbered). numberedOf x ∷ l) (map-append a b)
-
-flat-append : (a b : List Numbered) → flat (a ++ b) ≡ flat a ++ flat b
-flat-append [] b = refl
-flat-append (x ∷ a) b = ap (λ (l : List ℕ). bytesOf x ++ l) (flat-append a b) ∙ sym (append-assoc (bytesOf x) (flat a) (flat b))
-
-abbrev slots : List Entry → List ℕ
-slots l = flat (map numberedOf l)
-
-slots-next : (l : List Entry) (x : Entry) → slots (l ++ (x ∷ [])) ≡ slots l ++ bytesOf (numberedOf x)
-slots-next l x =
-    ap flat (map-append l (x ∷ [])) ∙ (flat-append (map numberedOf l) (numberedOf x ∷ []) ∙ ap (λ (b : List ℕ). slots l ++ b) (append-nil (bytesOf (numberedOf x))))
-
-slots-length : (l : List Entry) → length (slots l) ≡ 26 * length l
-slots-length l = omega (arith, length-flat (each-numbered l), length-map l numberedOf)
+abbrev slots : List Entry → List Numbered
+slots l = map numberedOf l
 
 pub record Stored (file : List ℕ) (from count last : ℕ) (xs image : List ℕ) (at i : ℕ) : Type 0 where
   pub done : List Entry
   pub many : length done ≡ i
   pub upto : i ≤ count
   pub ahead : readRules (length file) last count [] (drop from file) ≡ readRules (length file) last (count - i) done (drop at file)
-  pub kept : image ≡ take 4 xs ++ (flat (map numberedOf done) ++ drop (slotStart i) xs)
+  pub kept : image ≡ withRules 0 (map numberedOf done) xs
   pub within : at ≤ length file
 
-module _ (file : List ℕ) (from count last : ℕ) (xs : List ℕ) (few : count ≤ 512) (long : 13316 ≤ length xs)
+module _ (file : List ℕ) (from count last : ℕ) (xs : List ℕ) (few : count ≤ maxRules) (long : imageSize ≤ length xs)
     (ok : verdict (readRules (length file) last count [] (drop from file)) ≡ accepted) where
   abbrev whole : Read
   whole = readRules (length file) last count [] (drop from file)
-
-  four : length (take 4 xs) ≡ 4
-  four = length-take-le 4 xs (omega arith)
 
   pub stored-start : from ≤ length file → Stored file from count last xs xs from 0
   stored-start h = record {
@@ -109,20 +94,15 @@ module _ (file : List ℕ) (from count last : ℕ) (xs : List ℕ) (few : count 
     many = refl;
     upto = omega arith;
     ahead = let n : count ≡ count - 0 = omega arith in ap (λ (k : ℕ). readRules (length file) last k [] (drop from file)) n;
-    kept = sym (take-append-drop 4 xs);
+    kept = refl;
     within = h;
   }
 
   module _ (image : List ℕ) (at i : ℕ) (p : Stored file from count last xs image at i) where
-    front : length (take 4 xs ++ slots (p .done)) ≡ slotStart i
-    front = omega (arith, four, length-append (take 4 xs) (slots (p .done)), slots-length (p .done), p .many)
-
-    split : image ≡ (take 4 xs ++ slots (p .done)) ++ drop (slotStart i) xs
-    split = p .kept ∙ sym (append-assoc (take 4 xs) (slots (p .done)) (drop (slotStart i) xs))
-
     pub stored-length : length image ≡ length xs
     stored-length =
-        omega (arith, ap length split, length-append (take 4 xs ++ slots (p .done)) (drop (slotStart i) xs), front, length-drop (slotStart i) xs, p .upto)
+        ap length (p .kept)
+        ∙ rules-length 0 xs (each-numbered (p .done)) (omega (arith, length-map (p .done) numberedOf, p .many, p .upto))
 
     module _ (h : i < count) where
       ahead-one : whole ≡ readRules (length file) last (suc (count - (i + 1))) (p .done) (drop at file)
@@ -140,7 +120,7 @@ module _ (file : List ℕ) (from count last : ℕ) (xs : List ℕ) (few : count 
       was : drop at file ≡ lineOf (next .f) ++ next .rest
       was = sound-was (drop at file) (next .f) (next .rest) (next .is) .was
 
-      module _ (n : ℕ) (en : n ≡ at + (2 * length (decoded (drop at file)) + 1)) where
+      module _ (n : ℕ) (en : n ≡ at + lineSize (length (decoded (drop at file)))) where
         past : n ≡ at + length (lineOf (next .f))
         past = omega (arith, ap length frame, length-line (next .f))
 
@@ -153,17 +133,10 @@ module _ (file : List ℕ) (from count last : ℕ) (xs : List ℕ) (few : count 
         in-file : n ≤ length file
         in-file = omega (arith, past, ap length was, length-append (lineOf (next .f)) (next .rest), length-drop at file, p .within)
 
-        pub stored-next : (z : List ℕ) → z ≡ take (slotStart i) image ++ (bytesOf (numberedOf (ruleOf (decoded (drop at file)))) ++ drop (slotStart i + 26) image)
-            → Stored file from count last xs z n (i + 1)
+        pub stored-next : (z : List ℕ) → z ≡ withRule i (numberedOf (entryIn (decoded (drop at file)))) image → Stored file from count last xs z n (i + 1)
         stored-next z w =
-            let x = ruleOf (next .f) in
-            let a : List ℕ = take 4 xs ++ slots (p .done) in
-            let d : List ℕ = drop (slotStart i) xs in
-            let t : take (slotStart i) image ≡ a = ap (take (slotStart i)) split ∙ take-at a d (slotStart i) front in
-            let m : slotStart i + 26 ≡ length a + 26 = ap (λ (k : ℕ). k + 26) (sym front) in
-            let s : slotStart i + 26 ≡ slotStart (i + 1) = omega arith in
-            let r : drop (slotStart i + 26) image ≡ drop (slotStart (i + 1)) xs =
-            ap₂ drop m split ∙ (drop-append-add a d 26 ∙ (drop-drop 26 (slotStart i) xs ∙ ap (λ (k : ℕ). drop k xs) s)) in
+            let x = entryIn (next .f) in
+            let k : i ≡ 0 + length (slots (p .done)) = omega (arith, length-map (p .done) numberedOf, p .many) in
             record {
               done = p .done ++ (x ∷ []);
               many = omega (arith, p .many, length-append (p .done) (x ∷ []));
@@ -173,22 +146,19 @@ module _ (file : List ℕ) (from count last : ℕ) (xs : List ℕ) (few : count 
                   ∙ (read-on (length file) last (count - (i + 1)) (p .done) (drop at file) (next .f) (next .rest) (next .is) (next .fits)
                   ∙ ap (readRules (length file) last (count - (i + 1)) (p .done ++ (x ∷ []))) (sym onward));
               kept =
-                  w ∙ (ap₂ (λ (u v : List ℕ). u ++ (bytesOf (numberedOf (ruleOf (decoded (drop at file)))) ++ v)) t r
-                  ∙ (ap (λ (g : List ℕ). a ++ (bytesOf (numberedOf (ruleOf g)) ++ drop (slotStart (i + 1)) xs)) frame
-                  ∙ (append-assoc (take 4 xs) (slots (p .done)) (bytesOf (numberedOf x) ++ drop (slotStart (i + 1)) xs)
-                  ∙ ap (λ (u : List ℕ). take 4 xs ++ u)
-                  (sym (append-assoc (slots (p .done)) (bytesOf (numberedOf x)) (drop (slotStart (i + 1)) xs))
-                  ∙ ap (λ (u : List ℕ). u ++ drop (slotStart (i + 1)) xs) (sym (slots-next (p .done) x))))));
+                  w ∙ (ap₂ (λ (g m : List ℕ). withRule i (numberedOf (entryIn g)) m) frame (p .kept)
+                  ∙ (ap (λ (j : ℕ). withRule j (numberedOf x) (withRules 0 (slots (p .done)) xs)) k
+                  ∙ (sym (rules-next 0 (slots (p .done)) (numberedOf x) xs)
+                  ∙ ap (λ (l : List Numbered). withRules 0 l xs) (sym (map-append numberedOf (p .done) (x ∷ []))))));
               within = in-file;
             }
 
-    pub stored-end : count ≤ i → image ≡ take 4 xs ++ (flat (map numberedOf (described whole .rules)) ++ drop (slotStart count) xs)
+    pub stored-end : count ≤ i → image ≡ withRules 0 (map numberedOf (described whole .rules)) xs
     stored-end h =
         let n : count - i ≡ 0 = omega arith in
-        let k : i ≡ count = omega (arith, p .upto) in
-        let a : whole ≡ ended (length file) (listing (p .done) last) (drop at file) = p .ahead ∙ ap (λ (k : ℕ). readRules (length file) last k (p .done) (drop at file)) n in
-        let b : described whole ≡ listing (p .done) last = ap described a ∙ ended-is (length file) (listing (p .done) last) (drop at file) (sym (ap verdict a) ∙ ok) in
-        p .kept ∙ ap₂ (λ (l : Listing) (m : ℕ). take 4 xs ++ (flat (map numberedOf (l .rules)) ++ drop (slotStart m) xs)) (sym b) k
+        let a : whole ≡ ended (length file) (rulesetFrom (p .done) last) (drop at file) = p .ahead ∙ ap (λ (k : ℕ). readRules (length file) last k (p .done) (drop at file)) n in
+        let b : described whole ≡ rulesetFrom (p .done) last = ap described a ∙ ended-is (length file) (rulesetFrom (p .done) last) (drop at file) (sym (ap verdict a) ∙ ok) in
+        p .kept ∙ ap (λ (l : Ruleset). withRules 0 (slots (l .rules)) xs) (sym b)
 
 -- ---- the whole file
 
@@ -199,7 +169,7 @@ module _ (file : List ℕ) (ok : verdict (readFile file) ≡ accepted) (line : H
   good-head : line .head .ok ≡ true
   good-head = head-ok file line e ok
 
-  pub file-few : line .head .count ≤ 512
+  pub file-few : line .head .count ≤ maxRules
   file-few = head-few file line e sound-head good-head
 
   pub file-within : line .next ≤ length file
@@ -216,30 +186,27 @@ module _ (file : List ℕ) (ok : verdict (readFile file) ≡ accepted) (line : H
       rules-were (length file) (line .head .last) (line .head .count) [] (drop (line .next) file) (described (readFile file))
       (rules-are ∙ accepted-is (readFile file) ok)
 
-  pub file-stored : (xs w z : List ℕ) → w ≡ headOf (line .head .count) (line .head .last) ++ drop 4 xs
-      → z ≡ take 4 w ++ (flat (map numberedOf (described (readRules (length file) (line .head .last) (line .head .count) [] (drop (line .next) file)) .rules)) ++ drop (slotStart (line .head .count)) w)
+  pub file-stored : (xs w z : List ℕ) → imageSize ≤ length xs → w ≡ withHead (line .head .count) (line .head .last) xs
+      → z ≡ withRules 0 (map numberedOf (described (readRules (length file) (line .head .last) (line .head .count) [] (drop (line .next) file)) .rules)) w
       → z ≡ laid (ledgerFor (described (readFile file))) xs
-  file-stored xs w z ew ez =
+  file-stored xs w z h ew ez =
       let b = described (readFile file) in
-      let n = line .head .count in
-      let l = line .head .last in
-      let u : b ≡ listing (were .es) l = were .whole in
-      let c : n ≡ length (map numberedOf (b .rules)) = sym (length-map (b .rules) numberedOf ∙ (ap (λ (q : Listing). length (q .rules)) u ∙ were .many)) in
-      let m : l ≡ b .last = sym (ap (λ (q : Listing). q .last) u) in
-      let d : drop (slotStart n) w ≡ drop (slotStart n) xs =
-      ap (drop (slotStart n)) ew ∙ (drop-append-add (headOf n l) (drop 4 xs) (26 * n) ∙ drop-drop (26 * n) 4 xs) in
-      ez ∙ (ap₂ (λ (h : List ℕ) (r : Read). take 4 h ++ (flat (map numberedOf (described r .rules)) ++ drop (slotStart n) w)) ew rules-are
-      ∙ (ap (λ (t : List ℕ). headOf n l ++ (flat (map numberedOf (b .rules)) ++ t)) d
-      ∙ ap₂ (λ (i j : ℕ). headOf i j ++ (flat (map numberedOf (b .rules)) ++ drop (slotStart i) xs)) c m))
+      let l = slots (b .rules) in
+      let u : b ≡ rulesetFrom (were .es) (line .head .last) = were .whole in
+      let c : line .head .count ≡ length l = sym (length-map (b .rules) numberedOf ∙ (ap (λ (q : Ruleset). length (q .rules)) u ∙ were .many)) in
+      let m : line .head .last ≡ b .last = sym (ap (λ (q : Ruleset). q .last) u) in
+      ez ∙ (ap₂ (λ (v : List ℕ) (r : Read). withRules 0 (slots (described r .rules)) v) ew rules-are
+      ∙ (ap₂ (λ (i j : ℕ). withRules 0 l (withHead i j xs)) c m
+      ∙ rules-laid xs (b .last) (each-numbered (b .rules)) (omega (arith, file-few, c))))
 
 -- ---- the answers
 
 module _ (file xs : List ℕ) where
-  pub load-short : length xs < 13316 → outcome (declined 0 0) xs ≡ loaded file xs
+  pub load-short : length xs < imageSize → outcome (declined 0 0) xs ≡ loaded file xs
   unfolding loaded
   load-short h = rw (lt-leb _ _ h)
 
-  module _ (h : 13316 ≤ length xs) where
+  module _ (h : imageSize ≤ length xs) where
     pub load-refused : (n p : ℕ) → declined n p ≡ verdict (readFile file) → outcome (declined n p) xs ≡ loaded file xs
     unfolding loaded
     load-refused n p e = rw (le-leb _ _ h) (ap₂ outcome e (kept (readFile file) e))

@@ -2,25 +2,29 @@
 -- Assumes nothing.
 use Prim.Native.Nat.{ℕ, zero, suc, _+_, _-_, _/_, _%_}
 use mathlib.Core.List.{List, [], _∷_, _++_}
-use mathlib.Core.Bool.{Bool, true, false, cond, _&&_}
-use lib.ListN.{length, getD, take, drop}
+use mathlib.Core.Bool.{Bool, cond, not, _&&_}
+use lib.ListN.{length}
 use lib.Dec.{leb, eqb}
-use Rattle.numbers.specs.Numbers.{two}
-use Rattle.rules.specs.Limits.{maxRules}
+use Rattle.rules.specs.Limits.{maxRules, maxNumber}
 use Rattle.rules.specs.Shape.{Entry}
+use Rattle.image.specs.State.{Ruleset, entry, member, isRuleset}
 use Rattle.frames.specs.Lines.{lineOf, framed, Parsed, soundLine}
 use Rattle.frames.specs.Lines.Parsed.{Bad, Good}
-use Rattle.file.specs.Listing.{Listing, entry, member}
+use Rattle.file.specs.Layout.{frameType, headType, edition, headEdition, headCount, headLast, headFrameSize, ruleType, bodySize, entryIn}
+
+-- a ruleset that a file can hold: two bytes can hold its last number
+unfoldable pub wellFormed : Ruleset → Bool
+wellFormed b = leb (b .last) maxNumber && isRuleset b
 
 -- ---- the writing
 
 -- head: 01, edition 01, rule count (2), last (2)
 abbrev pub headBody : ℕ → ℕ → List ℕ
-headBody n last = 1 ∷ 1 ∷ n / 256 ∷ n % 256 ∷ last / 256 ∷ last % 256 ∷ []
+headBody n last = headType ∷ edition ∷ n / 256 ∷ n % 256 ∷ last / 256 ∷ last % 256 ∷ []
 
 -- rule: 02, number (2), four lengths
 abbrev pub ruleFront : ℕ → ℕ → ℕ → ℕ → ℕ → List ℕ
-ruleFront n l t r p = 2 ∷ n / 256 ∷ n % 256 ∷ l ∷ t ∷ r ∷ p ∷ []
+ruleFront n l t r p = ruleType ∷ n / 256 ∷ n % 256 ∷ l ∷ t ∷ r ∷ p ∷ []
 
 -- and then their bytes
 abbrev pub ruleBody : Entry → List ℕ
@@ -39,58 +43,41 @@ ruleLines [] = []
 ruleLines (e ∷ es) = ruleLine e ++ ruleLines es
 
 -- the file of a ruleset
-unfoldable pub encode : Listing → List ℕ
+unfoldable pub encode : Ruleset → List ℕ
 encode b = headLine (length (b .rules)) (b .last) ++ ruleLines (b .rules)
 
 -- ---- the reading
 
 pub data Read : Type 0 where
-  Accepted : Listing → Read
+  Accepted : Ruleset → Read
   -- refusal 13, with its place
   Malformed : ℕ → Read
   -- refusal 14, with its place
   Broken : ℕ → Read
 
-abbrev pub headCount : List ℕ → ℕ
-headCount f = two 2 f
-
-abbrev pub headLast : List ℕ → ℕ
-headLast f = two 4 f
-
 -- a sound frame is a head
 abbrev pub isHead : List ℕ → Bool
-isHead f = eqb (length f) 7 && (eqb (getD f 0 0) 1 && (eqb (getD f 1 0) 1 && leb (headCount f) maxRules))
+isHead f =
+    eqb (length f) headFrameSize && (eqb (frameType f) headType && (eqb (headEdition f) edition && leb (headCount f) maxRules))
 
--- a sound frame has a rule's first byte and length
+-- a sound frame has a rule's type and length
 abbrev pub isRule : List ℕ → Bool
-isRule f = eqb (getD f 0 0) 2 && eqb (length f) (8 + (getD f 3 0 + (getD f 4 0 + (getD f 5 0 + getD f 6 0))))
-
--- the rule of such a frame
-abbrev pub ruleOf : List ℕ → Entry
-ruleOf f = record {
-  number = two 1 f;
-  rule = record {
-    left = take (getD f 3 0) (drop 7 f);
-    target = take (getD f 4 0) (drop (getD f 3 0) (drop 7 f));
-    right = take (getD f 5 0) (drop (getD f 4 0) (drop (getD f 3 0) (drop 7 f)));
-    phones = take (getD f 6 0) (drop (getD f 5 0) (drop (getD f 4 0) (drop (getD f 3 0) (drop 7 f))));
-  };
-}
+isRule f = eqb (frameType f) ruleType && eqb (length f) (bodySize f + 1)
 
 -- a rule after those of `done`: of the shape, with a number from 1 to last that none of them has
 abbrev pub fine : ℕ → List Entry → Entry → Bool
-fine last done e = entry last e && cond (member (e .number) done) false true
+fine last done e = entry last e && not (member (e .number) done)
 
 -- a frame that is a rule after those of `done`
 abbrev pub ruleFits : ℕ → List Entry → List ℕ → Bool
-ruleFits last done f = isRule f && fine last done (ruleOf f)
+ruleFits last done f = isRule f && fine last done (entryIn f)
 
 abbrev pub onLine : Parsed → Read → (List ℕ → List ℕ → Read) → Read
 onLine Bad r k = r
 onLine (Good f rest) r k = k f rest
 
 -- after the last rule there is nothing
-abbrev pub ended : ℕ → Listing → List ℕ → Read
+abbrev pub ended : ℕ → Ruleset → List ℕ → Read
 ended len b [] = Accepted b
 ended len b (x ∷ s) = Broken (len - length (x ∷ s))
 
@@ -99,7 +86,7 @@ abbrev pub readRules : ℕ → ℕ → ℕ → List Entry → List ℕ → Read
 readRules len last zero done s = ended len (record { rules = done; last = last }) s
 readRules len last (suc n) done s =
     onLine (soundLine s) (Malformed (len - length s))
-    (λ f rest. cond (ruleFits last done f) (readRules len last n (done ++ (ruleOf f ∷ [])) rest) (Broken (len - length s)))
+    (λ f rest. cond (ruleFits last done f) (readRules len last n (done ++ (entryIn f ∷ [])) rest) (Broken (len - length s)))
 
 unfoldable pub readFile : List ℕ → Read
 readFile s =

@@ -1,3 +1,3 @@
-pub mod Listing
+pub mod Layout
 pub mod File
 pub mod Loading

@@ -1,18 +1,18 @@
 -- What reading a file into lent memory, and writing a ruleset to lent bytes, give: the answer with document 01's number and place, and
 -- the memory after it.
 -- Assumes nothing.
-use Prim.Native.Nat.{ℕ, _+_, _-_, _≤_}
-use mathlib.Core.List.{List, [], map}
+use Prim.Native.Nat.{ℕ, suc, _-_, _≤_}
+use mathlib.Core.List.{List, [], _∷_, map}
 use mathlib.Core.Bool.{Bool, true, false, cond, _&&_}
-use lib.ListN.{length, getD}
-use lib.Dec.{leb, eqb}
+use lib.ListN.{length}
+use lib.Dec.{leb}
+use Rattle.rules.specs.Limits.{maxContext, maxTarget, maxPhones}
 use Rattle.rules.specs.Memory.{over}
-use Rattle.rules.specs.Shape.{first, Production, Entry}
+use Rattle.rules.specs.Shape.{shape}
 use Rattle.rules.specs.Refusals.{refusalNumber, refusalPlace, Reply, accepted, declined}
-use Rattle.rules.specs.declared.Rule.{Rule}
 use Rattle.rules.specs.declared.Numbered.{Numbered}
-use Rattle.image.specs.State.{Ledger}
-use Rattle.image.specs.Image.{imageSize, laid, entriesOf, valid, Edited, outcome, lastOf}
+use Rattle.image.specs.State.{Ruleset, Ledger, rulesetOf, entry, noEntry}
+use Rattle.image.specs.Image.{imageSize, ledgerOf, laid, withRule, valid, Edited, outcome}
 use Rattle.frames.specs.Lines.{Parsed}
 use Rattle.frames.specs.Lines.Parsed.{Bad, Good}
 use Rattle.file.specs.declared.Written.{Written}
@@ -21,31 +21,15 @@ use Rattle.file.specs.declared.heading.Head.{Head}
 use Rattle.file.specs.declared.heading.HeadLine.{HeadLine}
 use Rattle.file.specs.declared.parsing.Ruled.{Ruled}
 use Rattle.file.specs.declared.parsing.RuleLine.{RuleLine}
-use Rattle.file.specs.Listing.{Listing, entry}
-use Rattle.file.specs.File.{encode, Read, isHead, headCount, headLast, isRule, ruleOf, readFile}
+use Rattle.file.specs.Layout.{headCount, headLast, entryIn, numberedOf}
+use Rattle.file.specs.File.{encode, Read, isHead, isRule, readFile}
 use Rattle.file.specs.File.Read.{Accepted, Malformed, Broken}
 
--- the struct of a rule, with zeros past its symbols
-abbrev pub ruleStruct : Production → Rule
-ruleStruct r = record {
-  «left_len» = length (r .left);
-  «target_len» = length (r .target);
-  «right_len» = length (r .right);
-  «phone_len» = length (r .phones);
-  left = first 6 (r .left) 0;
-  target = first 4 (r .target) 0;
-  right = first 6 (r .right) 0;
-  phones = first 4 (r .phones) 0;
-}
-
-abbrev pub numberedOf : Entry → Numbered
-numberedOf e = record { number = e .number; rule = ruleStruct (e .rule) }
+-- ---- reading
 
 -- the state that a file describes
-abbrev pub ledgerFor : Listing → Ledger
+abbrev pub ledgerFor : Ruleset → Ledger
 ledgerFor b = record { list = map numberedOf (b .rules); last = b .last }
-
--- ---- reading
 
 abbrev pub verdict : Read → Reply
 verdict (Accepted b) = accepted
@@ -53,7 +37,7 @@ verdict (Malformed p) = declined 13 p
 verdict (Broken p) = declined 14 p
 
 -- what an accepted file describes
-abbrev pub described : Read → Listing
+abbrev pub described : Read → Ruleset
 described (Accepted b) = b
 described (Malformed p) = record { rules = []; last = 0 }
 described (Broken p) = record { rules = []; last = 0 }
@@ -71,9 +55,9 @@ loaded file image =
 
 -- ---- writing
 
--- the ruleset of an image
-abbrev pub listingOf : List ℕ → Listing
-listingOf image = record { rules = entriesOf image; last = lastOf image }
+-- the ruleset that an image holds
+abbrev pub rulesetIn : List ℕ → Ruleset
+rulesetIn image = rulesetOf (ledgerOf image)
 
 -- what a writing says: the bytes of the file, or document 01's number with its place
 pub data Report : Type 0 where
@@ -95,9 +79,9 @@ filing r out = record { report = r; bytes = out }
 unfoldable pub filed : List ℕ → List ℕ → Filed
 filed image out =
     cond (valid image)
-    (cond (leb (length (encode (listingOf image))) (length out))
-    (filing (wrote (length (encode (listingOf image)))) (over (encode (listingOf image)) out))
-    (filing (refused 15 (length (encode (listingOf image)))) out))
+    (cond (leb (length (encode (rulesetIn image))) (length out))
+    (filing (wrote (length (encode (rulesetIn image)))) (over (encode (rulesetIn image)) out))
+    (filing (refused 15 (length (encode (rulesetIn image)))) out))
     (filing (refused 0 0) out)
 
 -- ---- what the functions give on the way
@@ -114,30 +98,30 @@ abbrev pub headAt : ℕ → Parsed → HeadLine
 headAt len Bad = record { sound = false; next = 0; head = noHead }
 headAt len (Good f rest) = record { sound = true; next = len - length rest; head = headIn f }
 
--- never used
-abbrev pub blank : Numbered
-blank = numberedOf (record { number = 0; rule = record { left = []; target = []; right = []; phones = [] } })
-
 abbrev pub noneRuled : Ruled
-noneRuled = record { ok = false; entry = blank }
-
--- a frame's first byte and length are a rule's, and its lengths those that a rule can have
-abbrev pub ruleFrame : List ℕ → Bool
-ruleFrame f =
-    eqb (getD f 0 0) 2 && (eqb (length f) (8 + (getD f 3 0 + (getD f 4 0 + (getD f 5 0 + getD f 6 0)))) && (leb (getD f 3 0) 6 && (leb (getD f 4 0) 4 && (leb (getD f 5 0) 6 && leb (getD f 6 0) 4))))
+noneRuled = record { ok = false; entry = numberedOf noEntry }
 
 -- the rule of a frame: of the shape, with a number from 1 to last
 abbrev pub ruledIn : ℕ → List ℕ → Ruled
-ruledIn last f = cond (isRule f && entry last (ruleOf f)) (record { ok = true; entry = numberedOf (ruleOf f) }) noneRuled
+ruledIn last f = cond (isRule f && entry last (entryIn f)) (record { ok = true; entry = numberedOf (entryIn f) }) noneRuled
 
 -- the rule of a line, in a file of len bytes
 abbrev pub ruleAt : ℕ → ℕ → Parsed → RuleLine
 ruleAt last len Bad = record { sound = false; next = 0; ruled = noneRuled }
 ruleAt last len (Good f rest) = record { sound = true; next = len - length rest; ruled = ruledIn last f }
 
+-- a frame is that of a rule of the shape
+abbrev pub ruleFrame : List ℕ → Bool
+ruleFrame f = isRule f && shape (entryIn f .rule)
+
+-- rules put into the slots from a place on
+abbrev pub withRules : ℕ → List Numbered → List ℕ → List ℕ
+withRules place [] image = image
+withRules place (x ∷ l) image = withRules (suc place) l (withRule place x image)
+
 -- a rule struct whose lengths are not above its arrays
 pub record Short (x : Numbered) : Type 0 where
-  pub left : x .rule .«left_len» ≤ 6
-  pub target : x .rule .«target_len» ≤ 4
-  pub right : x .rule .«right_len» ≤ 6
-  pub phones : x .rule .«phone_len» ≤ 4
+  pub left : x .rule .«left_len» ≤ maxContext
+  pub target : x .rule .«target_len» ≤ maxTarget
+  pub right : x .rule .«right_len» ≤ maxContext
+  pub phones : x .rule .«phone_len» ≤ maxPhones

@@ -1,4 +1,5 @@
 // The first line of a rule file: its head.
+use crate::layout;
 ghost use mathlib.Core.Path.{_≡_};
 ghost use lib.ListN.{length};
 ghost use Rattle.frames.specs.Lines.{soundLine};
@@ -27,23 +28,23 @@ fn head_of(f: &[u8]) -> Head
         count: 0,
         last: 0,
     };
-    if f.len() != 7 {
+    if f.len() != layout::HEAD {
         return none;
     }
-    if f[0] != 1 {
+    if f[layout::TYPE] != layout::HEAD_TYPE {
         return none;
     }
-    if f[1] != 1 {
+    if f[layout::EDITION] != layout::FIRST_EDITION {
         return none;
     }
-    let count = image::two_at(f, 2) as usize;
-    if 512 < count {
+    let count = numbers::wide16(numbers::two_at(f, layout::COUNT));
+    if rules::MAX_RULES < count {
         return none;
     }
     Head {
         ok: true,
         count,
-        last: image::two_at(f, 4),
+        last: numbers::two_at(f, layout::LAST),
     }
 }
 
@@ -51,7 +52,7 @@ fn head_of(f: &[u8]) -> Head
 pub fn read_head(file: &[u8]) -> HeadLine
     ensures { λ r. ⌜ r ≡ headAt (length (now (file .entry))) (soundLine (now (file .entry))) ⌝ }
 {
-    let mut frame = [0u8; 7];
+    let mut frame = [0u8; layout::HEAD];
     let none = Head {
         ok: false,
         count: 0,
@@ -66,7 +67,7 @@ pub fn read_head(file: &[u8]) -> HeadLine
         };
     }
     let n = line.len;
-    if 7 < n {
+    if layout::HEAD < n {
         return HeadLine {
             sound: true,
             next: line.next,

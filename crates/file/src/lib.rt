@@ -1,5 +1,6 @@
 // The rule file, read into a ruleset in lent memory and written to lent bytes (document 01, "The rule file").
 mod heading;
+pub mod layout;
 mod loading;
 mod parsing;
 mod writing;
@@ -22,7 +23,7 @@ pub enum Written {
 pub fn read_file(file: &[u8], image: &mut [u8]) -> Answer
     ensures { λ r. ⌜ outcome (replyOf r) (now (image .exit)) ≡ loaded (now (file .entry)) (now (image .entry)) ⌝ }
 {
-    if image.len() < 13316 {
+    if image.len() < image::SIZE {
         return Answer::Refused(Refusal::NotRuleset(0));
     }
     let answer = loading::judge(file);
@@ -40,13 +41,10 @@ pub fn write_file(image: &[u8], out: &mut [u8]) -> Written
     if !image::is_ruleset(image) {
         return Written::Refused(Refusal::NotRuleset(0));
     }
-    let count = image::two_at(image, 0) as usize;
-    let last = image::two_at(image, 2);
-    let needed = writing::file_size(image, count);
+    let needed = writing::file_size(image);
     if out.len() < needed {
         return Written::Refused(Refusal::FileRoom(needed));
     }
-    writing::write_head(&mut *out, count, last);
-    writing::write_rules(image, count, last, out);
+    writing::write_ruleset(image, out);
     Written::Bytes(needed)
 }

@@ -1,20 +1,23 @@
 // A rule file judged whole, then stored in lent memory.
 use crate::heading;
+use crate::layout;
 use crate::parsing;
 use rules::Answer;
 use rules::Refusal;
 ghost use mathlib.Core.Path.{_≡_};
 ghost use mathlib.Core.Bool.{true};
-ghost use mathlib.Core.List.{_++_, [], map};
+ghost use mathlib.Core.List.{[], map};
 ghost use Prim.Native.Nat.{_+_, _*_, _/_, _%_, _^_, _<_, _≤_};
-ghost use lib.ListN.{length, getD, take, drop, set, replicate};
+ghost use lib.ListN.{length, getD, drop, set, replicate};
 ghost use lib.Bits.{bitOr};
+ghost use Rattle.rules.specs.Limits.{maxRules};
 ghost use Rattle.rules.specs.Refusals.{replyOf, accepted};
 ghost use Rattle.image.specs.Bits.{held};
-ghost use Rattle.image.specs.Image.{bytesOf, slotStart, flat, laid};
+ghost use Rattle.image.specs.Image.{imageSize, withRule, laid};
 ghost use Rattle.frames.specs.Lines.{decoded};
-ghost use Rattle.file.specs.File.{ruleOf, readRules, readFile};
-ghost use Rattle.file.specs.Loading.{numberedOf, ledgerFor, verdict, described, ruleFrame};
+ghost use Rattle.file.specs.Layout.{lineSize, entryIn, numberedOf};
+ghost use Rattle.file.specs.File.{readRules, readFile};
+ghost use Rattle.file.specs.Loading.{ledgerFor, verdict, described, ruleFrame, withRules};
 
 // Whether a set of numbers, a bit for each, holds n; then it does.
 fn mark(seen: &mut [u64], n: u16) -> bool
@@ -77,22 +80,22 @@ pub fn judge(file: &[u8]) -> Answer
 
 // The rule of a line that was judged, put into its slot without judging it again, and where the next line starts.
 fn store_rule(file: &[u8], at: usize, place: usize, image: &mut [u8]) -> usize
-    requires { ⌜ (ruleFrame (decoded (drop at (now file))) ≡ true) × ((place < 512) × (13316 ≤ length (now image))) ⌝ }
-    ensures next { λ r. ⌜ r ≡ at + (2 * length (decoded (drop at (now (file .entry)))) + 1) ⌝ }
-    ensures slot { λ _. ⌜ now (image .exit) ≡ take (slotStart place) (now (image .entry)) ++ (bytesOf (numberedOf (ruleOf (decoded (drop at (now (file .entry)))))) ++ drop (slotStart place + 26) (now (image .entry))) ⌝ }
+    requires { ⌜ (ruleFrame (decoded (drop at (now file))) ≡ true) × ((place < maxRules) × (imageSize ≤ length (now image))) ⌝ }
+    ensures next { λ r. ⌜ r ≡ at + lineSize (length (decoded (drop at (now (file .entry))))) ⌝ }
+    ensures slot { λ _. ⌜ now (image .exit) ≡ withRule place (numberedOf (entryIn (decoded (drop at (now (file .entry)))))) (now (image .entry)) ⌝ }
 {
     let n = parsing::frame_size(file, at);
-    let mut frame = [0u8; 28];
+    let mut frame = [0u8; layout::LONGEST];
     frames::decode(file, at, n, &mut frame);
-    let entry = parsing::entry_from(&frame[..n]);
+    let entry = parsing::entry_in(&frame[..n]);
     image::put_rule(&mut *image, place, entry);
     at + (2 * n + 1)
 }
 
 // The rules of lines that were judged, put into their slots.
 fn store_rules(file: &[u8], from: usize, count: usize, last: u16, image: &mut [u8])
-    requires { ⌜ (count ≤ 512) × ((from ≤ length (now file)) × ((13316 ≤ length (now image)) × (verdict (readRules (length (now file)) last count [] (drop from (now file))) ≡ accepted))) ⌝ }
-    ensures { λ _. ⌜ now (image .exit) ≡ take 4 (now (image .entry)) ++ (flat (map numberedOf (described (readRules (length (now (file .entry))) last count [] (drop from (now (file .entry)))) .rules)) ++ drop (slotStart count) (now (image .entry))) ⌝ }
+    requires { ⌜ (count ≤ maxRules) × ((from ≤ length (now file)) × ((imageSize ≤ length (now image)) × (verdict (readRules (length (now file)) last count [] (drop from (now file))) ≡ accepted))) ⌝ }
+    ensures { λ _. ⌜ now (image .exit) ≡ withRules 0 (map numberedOf (described (readRules (length (now (file .entry))) last count [] (drop from (now (file .entry)))) .rules)) (now (image .entry)) ⌝ }
 {
     let mut at = from;
     let mut i: usize = 0;
@@ -104,7 +107,7 @@ fn store_rules(file: &[u8], from: usize, count: usize, last: u16, image: &mut [u
 
 // A file that was judged, put into an image.
 pub fn store_file(file: &[u8], image: &mut [u8])
-    requires { ⌜ (13316 ≤ length (now image)) × (verdict (readFile (now file)) ≡ accepted) ⌝ }
+    requires { ⌜ (imageSize ≤ length (now image)) × (verdict (readFile (now file)) ≡ accepted) ⌝ }
     ensures { λ _. ⌜ now (image .exit) ≡ laid (ledgerFor (described (readFile (now (file .entry))))) (now (image .entry)) ⌝ }
 {
     let line = heading::read_head(file);

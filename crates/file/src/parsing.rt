@@ -1,14 +1,15 @@
 // The lines of a rule file after the first: a rule in each.
+use crate::layout;
 use rules::Numbered;
 use rules::Rule;
 ghost use mathlib.Core.Path.{_≡_};
 ghost use mathlib.Core.Bool.{true};
-ghost use Prim.Native.Nat.{_+_, _<_, _≤_};
-ghost use lib.ListN.{length, take, drop};
-ghost use Rattle.rules.specs.Shape.{first};
+ghost use Prim.Native.Nat.{_≤_};
+ghost use lib.ListN.{length, drop};
 ghost use Rattle.frames.specs.Lines.{soundLine, decoded};
-ghost use Rattle.file.specs.File.{ruleOf};
-ghost use Rattle.file.specs.Loading.{ruleStruct, numberedOf, noneRuled, ruleFrame, ruledIn, ruleAt};
+ghost use Rattle.file.specs.Layout.{longestFrame, entryIn, numberedOf};
+ghost use Rattle.file.specs.File.{isRule};
+ghost use Rattle.file.specs.Loading.{noneRuled, ruleFrame, ruledIn, ruleAt};
 
 // A rule that was read from a frame.
 pub struct Ruled {
@@ -23,114 +24,39 @@ pub struct RuleLine {
     pub ruled: Ruled,
 }
 
-fn wide(x: u8) -> usize
-    ensures { λ r. ⌜ (r ≡ x) × (r < 256) ⌝ }
-{
-    x as usize
-}
-
-// Six places of an array, of which the first n are those of a frame from `at` on.
-fn six(f: &[u8], at: usize, n: usize) -> [u8; 6]
-    requires { ⌜ (n ≤ 6) × (at + n ≤ length (now f)) ⌝ }
-    ensures { λ r. ⌜ r ≡ first 6 (take n (drop at (now (f .entry)))) 0 ⌝ }
-{
-    let mut a = [0u8; 6];
-    let mut k: usize = 0;
-    while k < n {
-        a[k] = f[at + k];
-        k += 1;
-    }
-    a
-}
-
-// The same for four.
-fn four(f: &[u8], at: usize, n: usize) -> [u8; 4]
-    requires { ⌜ (n ≤ 4) × (at + n ≤ length (now f)) ⌝ }
-    ensures { λ r. ⌜ r ≡ first 4 (take n (drop at (now (f .entry)))) 0 ⌝ }
-{
-    let mut a = [0u8; 4];
-    let mut k: usize = 0;
-    while k < n {
-        a[k] = f[at + k];
-        k += 1;
-    }
-    a
-}
-
-// Whether a frame has a rule's first byte and length, and lengths that a rule can have.
+// Whether a frame has a rule's type and length.
 fn is_rule(f: &[u8]) -> bool
-    ensures { λ r. ⌜ r ≡ ruleFrame (now (f .entry)) ⌝ }
+    ensures { λ r. ⌜ r ≡ isRule (now (f .entry)) ⌝ }
 {
-    if f.len() < 8 {
+    if f.len() <= layout::FRONT {
         return false;
     }
-    if f[0] != 2 {
+    if f[layout::TYPE] != layout::RULE_TYPE {
         return false;
     }
-    let l = wide(f[3]);
-    let t = wide(f[4]);
-    let r = wide(f[5]);
-    let p = wide(f[6]);
-    if f.len() != 8 + (l + (t + (r + p))) {
-        return false;
-    }
-    if 6 < l {
-        return false;
-    }
-    if 4 < t {
-        return false;
-    }
-    if 6 < r {
-        return false;
-    }
-    p <= 4
+    f.len() - 1 == layout::body_size(f)
 }
 
-// The rule of such a frame.
-fn rule_from(f: &[u8]) -> Rule
-    requires { ⌜ ruleFrame (now f) ≡ true ⌝ }
-    ensures { λ r. ⌜ r ≡ ruleStruct (ruleOf (now (f .entry)) .rule) ⌝ }
+// The rule of such a frame, with its number.
+pub fn entry_in(f: &[u8]) -> Numbered
+    requires { ⌜ isRule (now f) ≡ true ⌝ }
+    ensures { λ r. ⌜ r ≡ numberedOf (entryIn (now (f .entry))) ⌝ }
 {
-    let l = wide(f[3]);
-    let t = wide(f[4]);
-    let r = wide(f[5]);
-    let p = wide(f[6]);
-    let left = six(f, 7, l);
-    let target = four(f, 7 + l, t);
-    let right = six(f, 7 + l + t, r);
-    let phones = four(f, 7 + l + t + r, p);
-    Rule {
-        left_len: f[3],
-        target_len: f[4],
-        right_len: f[5],
-        phone_len: f[6],
-        left,
-        target,
-        right,
-        phones,
-    }
-}
-
-// The same with its number.
-pub fn entry_from(f: &[u8]) -> Numbered
-    requires { ⌜ ruleFrame (now f) ≡ true ⌝ }
-    ensures { λ r. ⌜ r ≡ numberedOf (ruleOf (now (f .entry))) ⌝ }
-{
-    let number = image::two_at(f, 1);
-    let rule = rule_from(f);
+    let number = numbers::two_at(f, layout::NUMBER);
+    let rule = layout::rule_in(f);
     Numbered { number, rule }
 }
 
-// The bytes of such a frame in the line that starts at a place, by its lengths.
+// The bytes of the frame in a line that was judged and starts at a place, by its lengths.
 pub fn frame_size(file: &[u8], at: usize) -> usize
     requires { ⌜ ruleFrame (decoded (drop at (now file))) ≡ true ⌝ }
-    ensures { λ r. ⌜ (r ≡ length (decoded (drop at (now (file .entry))))) × (r ≤ 28) ⌝ }
+    ensures { λ r. ⌜ (r ≡ length (decoded (drop at (now (file .entry))))) × (r ≤ longestFrame) ⌝ }
 {
-    let l = wide(frames::byte_at(file, at, 3));
-    let t = wide(frames::byte_at(file, at, 4));
-    let r = wide(frames::byte_at(file, at, 5));
-    let p = wide(frames::byte_at(file, at, 6));
-    8 + (l + (t + (r + p)))
+    let l = numbers::wide(frames::byte_at(file, at, layout::LEFT_LEN));
+    let t = numbers::wide(frames::byte_at(file, at, layout::TARGET_LEN));
+    let r = numbers::wide(frames::byte_at(file, at, layout::RIGHT_LEN));
+    let p = numbers::wide(frames::byte_at(file, at, layout::PHONES_LEN));
+    layout::FRONT + (l + (t + (r + p))) + 1
 }
 
 fn no_rule() -> Ruled
@@ -141,42 +67,40 @@ fn no_rule() -> Ruled
         target_len: 0,
         right_len: 0,
         phone_len: 0,
-        left: [0; 6],
-        target: [0; 4],
-        right: [0; 6],
-        phones: [0; 4],
+        left: [0; rules::MAX_CONTEXT],
+        target: [0; rules::MAX_TARGET],
+        right: [0; rules::MAX_CONTEXT],
+        phones: [0; rules::MAX_PHONES],
     };
     let entry = Numbered { number: 0, rule };
     Ruled { ok: false, entry }
 }
 
-// A rule's frame: a rule of the shape, with a number from 1 to `last`.
-fn rule_of(f: &[u8], last: u16) -> Ruled
+// The rule of a frame: of the shape, with a number from 1 to `last`.
+fn ruled_in(f: &[u8], last: u16) -> Ruled
     ensures { λ r. ⌜ r ≡ ruledIn last (now (f .entry)) ⌝ }
 {
     if !is_rule(f) {
         return no_rule();
     }
-    let rule = rule_from(f);
-    if !rules::well_shaped(rule) {
+    let entry = entry_in(f);
+    if !rules::well_shaped(entry.rule) {
         return no_rule();
     }
-    let number = image::two_at(f, 1);
-    if number < 1 {
+    if entry.number < 1 {
         return no_rule();
     }
-    if last < number {
+    if last < entry.number {
         return no_rule();
     }
-    let entry = Numbered { number, rule };
     Ruled { ok: true, entry }
 }
 
-// The rule line that starts at a place. The longest has 28 bytes.
+// The rule line that starts at a place.
 pub fn read_rule(file: &[u8], at: usize, last: u16) -> RuleLine
     ensures { λ r. ⌜ r ≡ ruleAt last (length (now (file .entry))) (soundLine (drop at (now (file .entry)))) ⌝ }
 {
-    let mut frame = [0u8; 28];
+    let mut frame = [0u8; layout::LONGEST];
     let line = frames::read_line(file, at, &mut frame);
     if !line.sound {
         let ruled = no_rule();
@@ -187,7 +111,7 @@ pub fn read_rule(file: &[u8], at: usize, last: u16) -> RuleLine
         };
     }
     let n = line.len;
-    if 28 < n {
+    if layout::LONGEST < n {
         let ruled = no_rule();
         return RuleLine {
             sound: true,
@@ -195,7 +119,7 @@ pub fn read_rule(file: &[u8], at: usize, last: u16) -> RuleLine
             ruled,
         };
     }
-    let ruled = rule_of(&frame[..n], last);
+    let ruled = ruled_in(&frame[..n], last);
     RuleLine {
         sound: true,
         next: line.next,

@@ -1,4 +1,5 @@
--- `file::read_file` meets its contract: the file is judged, then stored. Assumes nothing.
+-- `file::read_file` meets its contract: the file is judged, then stored.
+-- Assumes nothing.
 use mathlib.Core.Path.{sym, ap, _∙_}
 use Rattle.rules.specs.Refusals.{replyOf}
 use Rattle.file.proofs.Storing.{load-short, load-refused, load-accepted}

@@ -1,6 +1,8 @@
--- `file::heading::head_of` meets its contract: the tests in turn. Assumes nothing.
-use Rattle.file.proofs.Parts.{head-length, head-first, head-edition, head-many, head-ok}
+-- `file::heading::head_of` meets its contract: the tests in turn.
+-- Assumes nothing.
+use mathlib.Core.Path.{_∙_}
 use borrow.Author.Needs.{needs}
+use Rattle.file.proofs.Parts.{head-length, head-first, head-edition, head-many, head-ok}
 use Rattle.file.proofs.heading.head_of.Statement.{statement}
 use Rattle.file.proofs.heading.head_of.Tie as tie
 
@@ -22,17 +24,17 @@ returns-3 c = head-edition (c .before .before .before .before .before .before .a
 two-at-requires : tie.Need-two-at-requires
 two-at-requires c κs = search needs
 
-cast-count : tie.Need-cast-count
-cast-count c = search needs
+wide16-requires : tie.Need-wide16-requires
+wide16-requires c κs = search needs
 
 returns-4 : tie.Need-returns-4
-returns-4 c = head-many (c .before .before .before .before .before .before .before .before .args .f .now) (c .before .before .before .before .before .before .if1 .left) (c .before .before .before .before .if2 .left) (c .before .before .if3 .left) _ (c .before .two-at .ensures) (c .if4 .taken)
+returns-4 c = head-many (c .before .before .before .before .before .before .before .before .before .args .f .now) (c .before .before .before .before .before .before .before .if1 .left) (c .before .before .before .before .before .if2 .left) (c .before .before .before .if3 .left) (c .before .wide16 .result) (c .before .wide16 .ensures .0 ∙ c .before .before .two-at .ensures) (c .if4 .taken)
 
 two-at-requires-2 : tie.Need-two-at-requires-2
 two-at-requires-2 c κs = search needs
 
 returns-5 : tie.Need-returns-5
-returns-5 c = head-ok (c .before .before .before .before .before .before .before .before .before .args .f .now) (c .before .before .before .before .before .before .before .if1 .left) (c .before .before .before .before .before .if2 .left) (c .before .before .before .if3 .left) _ (c .before .before .two-at .ensures) (c .before .if4 .left) _ (c .two-at2 .ensures)
+returns-5 c = head-ok (c .before .before .before .before .before .before .before .before .before .before .args .f .now) (c .before .before .before .before .before .before .before .before .if1 .left) (c .before .before .before .before .before .before .if2 .left) (c .before .before .before .before .if3 .left) (c .before .before .wide16 .result) (c .before .before .wide16 .ensures .0 ∙ c .before .before .before .two-at .ensures) (c .before .if4 .left) _ (c .two-at2 .ensures)
 
 pub head-of-spec : {M : Type 1} → statement M
 head-of-spec =
@@ -44,7 +46,7 @@ head-of-spec =
     shared-slice-read-if3
     returns-3
     two-at-requires
-    cast-count
+    wide16-requires
     returns-4
     two-at-requires-2
     returns-5)

@@ -1,4 +1,5 @@
--- `file::loading::judge` meets its contract: the head, then the rules. Assumes nothing.
+-- `file::loading::judge` meets its contract: the head, then the rules.
+-- Assumes nothing.
 use mathlib.Core.Path.{refl, ap, _∙_}
 use borrow.Author.Tests.{not-true, not-false}
 use Rattle.file.specs.Loading.{verdict}

@@ -1,4 +1,5 @@
--- `file::loading::mark` meets its contract. Assumes nothing.
+-- `file::loading::mark` meets its contract.
+-- Assumes nothing.
 use Prim.Native.Nat.{_/_}
 use lib.ListN.{set}
 use mathlib.Core.Path.{ap}

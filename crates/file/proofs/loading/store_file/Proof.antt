@@ -1,4 +1,5 @@
--- `file::loading::store_file` meets its contract: the head, then the rules. Assumes nothing.
+-- `file::loading::store_file` meets its contract: the head, then the rules.
+-- Assumes nothing.
 use native.Mathlib.Omega.{arith}
 use Rattle.file.proofs.Storing.{file-few, file-within, file-rules, file-stored}
 use borrow.Author.Needs.{needs}
@@ -9,7 +10,7 @@ read-head-requires : tie.Need-read-head-requires
 read-head-requires c κs = search needs
 
 put-head-requires : tie.Need-put-head-requires
-put-head-requires c κs = (file-few (c .before .before .before .before .before .args .file .now) (c .before .before .before .before .before .pre .1) (c .before .before .read-head .result) (c .before .before .read-head .ensures), omega arith)
+put-head-requires c κs = let n = file-few (c .before .before .before .before .before .args .file .now) (c .before .before .before .before .before .pre .1) (c .before .before .read-head .result) (c .before .before .read-head .ensures) in (omega arith, omega arith)
 
 store-rules-requires : tie.Need-store-rules-requires
 store-rules-requires c κs = (file-few (c .before .before .before .before .before .before .before .before .before .args .file .now) (c .before .before .before .before .before .before .before .before .before .pre .1) (c .before .before .before .before .before .before .read-head .result) (c .before .before .before .before .before .before .read-head .ensures), (file-within (c .before .before .before .before .before .before .before .before .before .args .file .now) (c .before .before .before .before .before .before .before .before .before .pre .1) (c .before .before .before .before .before .before .read-head .result) (c .before .before .before .before .before .before .read-head .ensures), (search needs, file-rules (c .before .before .before .before .before .before .before .before .before .args .file .now) (c .before .before .before .before .before .before .before .before .before .pre .1) (c .before .before .before .before .before .before .read-head .result) (c .before .before .before .before .before .before .read-head .ensures))))
@@ -18,7 +19,7 @@ same-length : tie.Need-same-length
 same-length c = search needs
 
 returns : tie.Need-returns
-returns c = file-stored (c .before .before .before .before .before .before .before .before .before .before .before .before .args .file .now) (c .before .before .before .before .before .before .before .before .before .before .before .before .pre .1) (c .before .before .before .before .before .before .before .before .before .read-head .result) (c .before .before .before .before .before .before .before .before .before .read-head .ensures) (c .before .before .before .before .before .before .before .before .before .before .before .before .args .image .now) _ _ (c .before .before .before .before .before .before .put-head .ensures) (c .before .before .store-rules .ensures)
+returns c = file-stored (c .before .before .before .before .before .before .before .before .before .before .before .before .args .file .now) (c .before .before .before .before .before .before .before .before .before .before .before .before .pre .1) (c .before .before .before .before .before .before .before .before .before .read-head .result) (c .before .before .before .before .before .before .before .before .before .read-head .ensures) (c .before .before .before .before .before .before .before .before .before .before .before .before .args .image .now) _ _ (c .before .before .before .before .before .before .before .before .before .before .before .before .pre .0) (c .before .before .before .before .before .before .put-head .ensures) (c .before .before .store-rules .ensures)
 
 pub store-file-spec : {M : Type 1} → statement M
 store-file-spec =

@@ -1,4 +1,5 @@
--- `file::loading::store_rules` meets its contract. The loop's invariant: the rules so far stand in their slots. Assumes nothing.
+-- `file::loading::store_rules` meets its contract. The loop's invariant: the rules so far stand in their slots.
+-- Assumes nothing.
 use Prim.Native.Nat.{_-_}
 use native.Mathlib.Omega.{arith}
 use borrow.Author.Needs.{needs}

@@ -1,4 +1,5 @@
--- `file::parsing::frame_size` meets its contract: its lengths say how many bytes a frame has. Assumes nothing.
+-- `file::parsing::frame_size` meets its contract: its lengths say how many bytes a frame has.
+-- Assumes nothing.
 use native.Mathlib.Omega.{arith}
 use lib.ListN.{drop}
 use Rattle.frames.specs.Lines.{decoded}
@@ -43,6 +44,9 @@ add-result-3 c = search needs
 add-result-4 : tie.Need-add-result-4
 add-result-4 c = search needs
 
+add-result-5 : tie.Need-add-result-5
+add-result-5 c = search needs
+
 returns : tie.Need-returns
 returns c =
     let u = (frame-fits (decoded (drop (c .before .before .before .before .before .before .before .before .before .args .at) (c .before .before .before .before .before .before .before .before .before .args .file .now))) (c .before .before .before .before .before .before .before .before .before .pre)) in
@@ -69,4 +73,5 @@ frame-size-spec =
     add-result-2
     add-result-3
     add-result-4
+    add-result-5
     returns)

@@ -1,9 +1,11 @@
--- `file::parsing::read_rule` meets its contract: the frame of a line stands in the 28 lent bytes, where it has no more. Assumes nothing.
+-- `file::parsing::read_rule` meets its contract: the frame of a line stands in the lent bytes, where it has no more than they.
+-- Assumes nothing.
 use mathlib.Core.Path.{_≡_, refl, sym}
 use native.Mathlib.Omega.{arith}
 use borrow.Author.Tests.{not-true, not-false}
 use lib.ListN.{length, replicate}
 use lib.Seq.{length-take-le}
+use Rattle.file.specs.Layout.{longestFrame}
 use Rattle.file.proofs.NextLine.{rule-bad, rule-long, rule-read}
 use borrow.Author.Needs.{needs}
 use Rattle.file.proofs.parsing.read_rule.Statement.{statement}
@@ -30,14 +32,14 @@ returns-2 c = rule-long (c .before .before .before .before .before .before .befo
 array-share-prefix-frame : tie.Need-array-share-prefix-frame
 array-share-prefix-frame c = search needs
 
-slice-aggregate-rule-of : tie.Need-slice-aggregate-rule-of
-slice-aggregate-rule-of c = let l : length (c .before .before .before .before .before .read-line .last .1 .1 .0) ≡ 28 = search needs in sym (length-take-le _ _ (omega arith))
+slice-aggregate-ruled-in : tie.Need-slice-aggregate-ruled-in
+slice-aggregate-ruled-in c = let l : length (c .before .before .before .before .before .read-line .last .1 .1 .0) ≡ longestFrame = search needs in sym (length-take-le _ _ (omega arith))
 
-rule-of-requires : tie.Need-rule-of-requires
-rule-of-requires c κs = search needs
+ruled-in-requires : tie.Need-ruled-in-requires
+ruled-in-requires c κs = search needs
 
 returns-3 : tie.Need-returns-3
-returns-3 c = rule-read (c .before .before .before .before .before .before .before .before .before .args .file .now) (c .before .before .before .before .before .before .before .before .before .args .at) (c .before .before .before .before .before .before .before .before .before .args .last) (c .before .before .before .before .before .before .read-line .result) (c .before .before .before .before .before .before .read-line .ensures .0) (not-false _ (c .before .before .before .if1 .left)) (replicate 28 0) (c .before .before .before .before .before .before .read-line .last .1 .1 .0) refl (c .before .before .before .before .before .before .read-line .ensures .1) (c .before .before .if2 .left) (c .rule-of .result) (c .rule-of .ensures)
+returns-3 c = rule-read (c .before .before .before .before .before .before .before .before .before .args .file .now) (c .before .before .before .before .before .before .before .before .before .args .at) (c .before .before .before .before .before .before .before .before .before .args .last) (c .before .before .before .before .before .before .read-line .result) (c .before .before .before .before .before .before .read-line .ensures .0) (not-false _ (c .before .before .before .if1 .left)) (replicate longestFrame 0) (c .before .before .before .before .before .before .read-line .last .1 .1 .0) refl (c .before .before .before .before .before .before .read-line .ensures .1) (c .before .before .if2 .left) (c .ruled-in .result) (c .ruled-in .ensures)
 
 pub read-rule-spec : {M : Type 1} → statement M
 read-rule-spec =
@@ -50,6 +52,6 @@ read-rule-spec =
     no-rule-requires-2
     returns-2
     array-share-prefix-frame
-    slice-aggregate-rule-of
-    rule-of-requires
+    slice-aggregate-ruled-in
+    ruled-in-requires
     returns-3)

@@ -1,29 +1,34 @@
--- `file::writing::file_size` meets its contract. The loop's invariant: the sizes of the lines so far are added up. Assumes nothing.
+-- `file::writing::file_size` meets its contract. The loop's invariant: the sizes of the lines so far are added up.
+-- Assumes nothing.
 use Prim.Native.Nat.{_-_}
 use mathlib.Core.Path.{refl}
 use native.Mathlib.Omega.{arith}
 use borrow.Author.Needs.{needs}
-use Rattle.file.proofs.FileBytes.{Sized, sized-next, sized-end}
+use Rattle.image.proofs.Tests.{valid-long, valid-count}
+use Rattle.file.proofs.FileBytes.{Sized, rule-short, sized-next, sized-end}
 use Rattle.file.proofs.writing.file_size.Statement.{statement}
 use Rattle.file.proofs.writing.file_size.Tie as tie
 
 abbrev Inv-loop : tie.InvT-loop
-Inv-loop image count n₀ i₀ n i = Sized image count n i
+Inv-loop image count n₀ i₀ n i = Sized image n i
 
 abbrev μ-loop : tie.MeasureT-loop
 μ-loop image count n₀ i₀ n i = count - i
+
+rule-count-requires : tie.Need-rule-count-requires Inv-loop μ-loop
+rule-count-requires c κs = valid-long (c .before .args .image .now) (c .before .pre)
 
 loop-holds : tie.Need-loop-holds Inv-loop μ-loop
 loop-holds c = record { within = omega arith; sum = refl; small = omega arith }
 
 rule-at-requires : tie.Need-rule-at-requires Inv-loop μ-loop
-rule-at-requires c κs = search needs
+rule-at-requires c κs = let v = valid-count (c .before .before .before .before .args .image .now) (c .before .before .before .before .pre) in (omega arith, valid-long (c .before .before .before .before .args .image .now) (c .before .before .before .before .pre))
 
 rule-size-requires : tie.Need-rule-size-requires Inv-loop μ-loop
-rule-size-requires c κs = search needs
+rule-size-requires c κs = rule-short (c .before .before .before .before .before .args .image .now) (c .before .before .loop .i) (omega arith) (c .rule-at .result) (c .rule-at .ensures) (c .before .before .before .before .before .pre)
 
 add-n : tie.Need-add-n Inv-loop μ-loop
-add-n c = search needs
+add-n c = let v = valid-count (c .before .before .before .before .before .before .args .image .now) (c .before .before .before .before .before .before .pre) in omega arith
 
 add-i : tie.Need-add-i Inv-loop μ-loop
 add-i c = search needs
@@ -32,10 +37,10 @@ loop-less : tie.Need-loop-less Inv-loop μ-loop
 loop-less c = search needs
 
 loop-again : tie.Need-loop-again Inv-loop μ-loop
-loop-again c = let a = c .before .before .before .before .before .args in let l = c .before .before .before .loop in sized-next (a .image .now) (a .count) (l .n) (l .i) (c .rule-size .result) (c .before .rule-at .result) (l .inv) (c .before .before .loop-test .taken) (c .before .rule-at .ensures) (c .rule-size .ensures .0) (c .rule-size .ensures .1)
+loop-again c = sized-next (c .before .before .before .before .before .before .args .image .now) (c .before .before .before .loop .i) (omega arith) (c .before .rule-at .result) (c .before .rule-at .ensures) (c .before .before .before .loop .n) (c .rule-size .result) (c .before .before .before .loop .inv) (c .rule-size .ensures .0) (c .rule-size .ensures .1)
 
 returns : tie.Need-returns Inv-loop μ-loop
-returns c = let a = c .before .before .before .args in let l = c .before .loop in sized-end (a .image .now) (a .count) (l .n) (l .i) (l .inv) (c .loop-test .left)
+returns c = sized-end (c .before .before .before .before .args .image .now) (c .before .loop .n) (c .before .loop .i) (c .before .loop .inv) (omega arith)
 
 pub file-size-spec : {M : Type 1} → statement M
 file-size-spec =
@@ -43,6 +48,7 @@ file-size-spec =
     (tie.spec
     Inv-loop
     μ-loop
+    rule-count-requires
     loop-holds
     rule-at-requires
     rule-size-requires

@@ -1,7 +1,8 @@
--- `file::writing::rule_size` meets its contract. Assumes nothing.
+-- `file::writing::rule_size` meets its contract.
+-- Assumes nothing.
 use native.Mathlib.Omega.{arith}
-use Rattle.file.proofs.RuleBytes.{size-is}
 use borrow.Author.Needs.{needs}
+use Rattle.file.proofs.RuleBytes.{size-is}
 use Rattle.file.proofs.writing.rule_size.Statement.{statement}
 use Rattle.file.proofs.writing.rule_size.Tie as tie
 

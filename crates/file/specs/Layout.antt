@@ -1,0 +1,105 @@
+-- The two frames of the rule file, and where their parts lie. Two-byte fields are high byte first.
+-- Head: type 01, edition 01, rule count (2), last (2), checksum.
+-- Rule: type 02, number (2), four lengths (1 each: left, target, right, phones), their bytes in that order, checksum.
+-- Assumes nothing.
+use Prim.Native.Nat.{ℕ, _+_, _*_}
+use mathlib.Core.List.{List}
+use lib.ListN.{length, getD, take, drop}
+use Rattle.numbers.specs.Numbers.{two}
+use Rattle.rules.specs.Limits.{maxContext, maxTarget, maxPhones}
+use Rattle.rules.specs.Shape.{first, Production, Entry}
+use Rattle.rules.specs.declared.Rule.{Rule}
+use Rattle.rules.specs.declared.Numbered.{Numbered}
+
+abbrev pub frameType : List ℕ → ℕ
+frameType f = getD f 0 0
+
+-- bytes of the line of a frame of n bytes: two digits each, and 0A
+abbrev pub lineSize : ℕ → ℕ
+lineSize n = 2 * n + 1
+
+-- ---- a head
+
+abbrev pub headType : ℕ
+headType = 1
+
+abbrev pub edition : ℕ
+edition = 1
+
+abbrev pub headEdition : List ℕ → ℕ
+headEdition f = getD f 1 0
+
+abbrev pub headCount : List ℕ → ℕ
+headCount f = two 2 f
+
+abbrev pub headLast : List ℕ → ℕ
+headLast f = two 4 f
+
+abbrev pub headFrameSize : ℕ
+headFrameSize = 7
+
+abbrev pub headLineSize : ℕ
+headLineSize = lineSize headFrameSize
+
+-- ---- a rule
+
+abbrev pub ruleType : ℕ
+ruleType = 2
+
+abbrev pub frameNumber : List ℕ → ℕ
+frameNumber f = two 1 f
+
+abbrev pub leftLength : List ℕ → ℕ
+leftLength f = getD f 3 0
+
+abbrev pub targetLength : List ℕ → ℕ
+targetLength f = getD f 4 0
+
+abbrev pub rightLength : List ℕ → ℕ
+rightLength f = getD f 5 0
+
+abbrev pub phonesLength : List ℕ → ℕ
+phonesLength f = getD f 6 0
+
+-- bytes before the fields
+abbrev pub frontSize : ℕ
+frontSize = 7
+
+-- bytes of the frame without its checksum, by its lengths
+abbrev pub bodySize : List ℕ → ℕ
+bodySize f = frontSize + (leftLength f + (targetLength f + (rightLength f + phonesLength f)))
+
+-- bytes of the longest frame of a rule: each field full
+abbrev pub longestFrame : ℕ
+longestFrame = frontSize + (maxContext + (maxTarget + (maxContext + maxPhones))) + 1
+
+-- the rule: its four fields
+abbrev pub ruleIn : List ℕ → Production
+ruleIn f = record {
+  left = take (leftLength f) (drop frontSize f);
+  target = take (targetLength f) (drop (leftLength f) (drop frontSize f));
+  right = take (rightLength f) (drop (targetLength f) (drop (leftLength f) (drop frontSize f)));
+  phones = take (phonesLength f) (drop (rightLength f) (drop (targetLength f) (drop (leftLength f) (drop frontSize f))));
+}
+
+-- the same with its number
+abbrev pub entryIn : List ℕ → Entry
+entryIn f = record { number = frameNumber f; rule = ruleIn f }
+
+-- ---- a rule in a struct
+
+-- its lengths, and of each field as many symbols as its array has places, 0 past them
+abbrev pub ruleStruct : Production → Rule
+ruleStruct r = record {
+  «left_len» = length (r .left);
+  «target_len» = length (r .target);
+  «right_len» = length (r .right);
+  «phone_len» = length (r .phones);
+  left = first maxContext (r .left) 0;
+  target = first maxTarget (r .target) 0;
+  right = first maxContext (r .right) 0;
+  phones = first maxPhones (r .phones) 0;
+}
+
+abbrev pub numberedOf : Entry → Numbered
+numberedOf e = record { number = e .number; rule = ruleStruct (e .rule) }

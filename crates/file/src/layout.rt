@@ -1,0 +1,83 @@
+// The two frames of the rule file: where their parts lie, and the rule that a frame holds. Its bytes may also be those of another frame
+// that has four lengths and four fields at the same places.
+use rules::Rule;
+ghost use mathlib.Core.Path.{_≡_};
+ghost use Prim.Native.Nat.{_≤_};
+ghost use lib.ListN.{length, take};
+ghost use Rattle.rules.specs.Memory.{over};
+ghost use Rattle.file.specs.Layout.{frontSize, bodySize, ruleIn, ruleStruct};
+
+pub const TYPE: usize = 0;
+
+// A head: type, edition, rule count (2), last (2), checksum.
+pub const HEAD_TYPE: u8 = 1;
+pub const FIRST_EDITION: u8 = 1;
+pub const EDITION: usize = 1;
+pub const COUNT: usize = 2;
+pub const LAST: usize = 4;
+pub const HEAD: usize = 7;
+
+// A rule: type, number (2), four lengths (1 each: left, target, right, phones), their bytes, checksum.
+pub const RULE_TYPE: u8 = 2;
+pub const NUMBER: usize = 1;
+pub const LEFT_LEN: usize = 3;
+pub const TARGET_LEN: usize = 4;
+pub const RIGHT_LEN: usize = 5;
+pub const PHONES_LEN: usize = 6;
+pub const FRONT: usize = 7;
+pub const LONGEST_BODY: usize =
+    FRONT + rules::MAX_CONTEXT + rules::MAX_TARGET + rules::MAX_CONTEXT + rules::MAX_PHONES;
+pub const LONGEST: usize = LONGEST_BODY + 1;
+
+// The bytes of a rule's frame without its checksum, by its lengths.
+pub fn body_size(f: &[u8]) -> usize
+    requires { ⌜ frontSize ≤ length (now f) ⌝ }
+    ensures { λ r. ⌜ r ≡ bodySize (now (f .entry)) ⌝ }
+{
+    let l = numbers::wide(f[LEFT_LEN]);
+    let t = numbers::wide(f[TARGET_LEN]);
+    let r = numbers::wide(f[RIGHT_LEN]);
+    let p = numbers::wide(f[PHONES_LEN]);
+    FRONT + (l + (t + (r + p)))
+}
+
+// As many bytes of `s` as `room` has places, at its front.
+fn fill(room: &mut [u8], s: &[u8])
+    ensures { λ _. ⌜ now (room .exit) ≡ over (take (length (now (room .entry))) (now (s .entry))) (now (room .entry)) ⌝ }
+{
+    let n = room.len();
+    if n < s.len() {
+        image::put(room, 0, &s[..n]);
+    } else {
+        image::put(room, 0, s);
+    }
+}
+
+// The rule of a frame. A length above what a field can hold is kept as the length; the bytes that have no room are skipped.
+pub fn rule_in(f: &[u8]) -> Rule
+    requires { ⌜ bodySize (now f) ≤ length (now f) ⌝ }
+    ensures { λ r. ⌜ r ≡ ruleStruct (ruleIn (now (f .entry))) ⌝ }
+{
+    let target_at = FRONT + numbers::wide(f[LEFT_LEN]);
+    let right_at = target_at + numbers::wide(f[TARGET_LEN]);
+    let phones_at = right_at + numbers::wide(f[RIGHT_LEN]);
+    let end = phones_at + numbers::wide(f[PHONES_LEN]);
+    let mut left = [0u8; rules::MAX_CONTEXT];
+    let mut target = [0u8; rules::MAX_TARGET];
+    let mut right = [0u8; rules::MAX_CONTEXT];
+    let mut phones = [0u8; rules::MAX_PHONES];
+    fill(&mut left, &f[FRONT..target_at]);
+    fill(&mut target, &f[target_at..right_at]);
+    fill(&mut right, &f[right_at..phones_at]);
+    fill(&mut phones, &f[phones_at..end]);
+    Rule {
+        left_len: f[LEFT_LEN],
+        target_len: f[TARGET_LEN],
+        right_len: f[RIGHT_LEN],
+        phone_len: f[PHONES_LEN],
+        left,
+        target,
+        right,
+        phones,
+    }
+}
