@@ -11,22 +11,38 @@ pub const TYPE: usize = 0;
 
 // A head: type, edition, rule count (2), last (2), checksum.
 pub const HEAD_TYPE: u8 = 1;
+
 pub const FIRST_EDITION: u8 = 1;
+
 pub const EDITION: usize = 1;
+
 pub const COUNT: usize = 2;
+
 pub const LAST: usize = 4;
+
 pub const HEAD: usize = 7;
 
 // A rule: type, number (2), four lengths (1 each: left, target, right, phones), their bytes, checksum.
 pub const RULE_TYPE: u8 = 2;
+
 pub const NUMBER: usize = 1;
+
 pub const LEFT_LEN: usize = 3;
+
 pub const TARGET_LEN: usize = 4;
+
 pub const RIGHT_LEN: usize = 5;
+
 pub const PHONES_LEN: usize = 6;
+
 pub const FRONT: usize = 7;
-pub const LONGEST_BODY: usize =
-    FRONT + rules::MAX_CONTEXT + rules::MAX_TARGET + rules::MAX_CONTEXT + rules::MAX_PHONES;
+
+pub const LONGEST_BODY: usize = FRONT
+    + rules::MAX_CONTEXT
+    + rules::MAX_TARGET
+    + rules::MAX_CONTEXT
+    + rules::MAX_PHONES;
+
 pub const LONGEST: usize = LONGEST_BODY + 1;
 
 // The bytes of a rule's frame without its checksum, by its lengths.

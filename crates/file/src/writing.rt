@@ -16,6 +16,7 @@ ghost use Rattle.file.specs.Loading.{rulesetIn, Short};
 
 // The bytes of the line of a frame of n bytes: two digits each, and 0A. Those of a head's, and of a rule's without its fields.
 const HEAD_LINE: usize = 2 * layout::HEAD + 1;
+
 const FRONT_LINE: usize = 2 * (layout::FRONT + 1) + 1;
 
 // A rule's frame up to its lengths, at the front of lent bytes.
