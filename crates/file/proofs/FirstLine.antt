@@ -32,8 +32,8 @@ abbrev headLine : ℕ → Head → HeadLine
 headLine next h = record { sound = true; next = next; head = h }
 
 module _ (file : List ℕ) (line : Line) (e : line ≡ report (length file) (soundLine (drop 0 file))) where
-  pub head-bad : line .sound ≡ false → _≡_ {A = HeadLine} (record { sound = false; next = 0; head = noHead }) (headAt (length file) (soundLine file))
-  head-bad s = let b : soundLine file ≡ Bad = not-found file 0 line e s in rw b
+  pub head-bad : line .sound ≡ false → (h : Head) → h ≡ noHead → _≡_ {A = HeadLine} (record { sound = false; next = 0; head = h }) (headAt (length file) (soundLine file))
+  head-bad s h p = let b : soundLine file ≡ Bad = not-found file 0 line e s in rw (b, p)
 
   module _ (s : line .sound ≡ true) where
     k : Found file 0 line
@@ -42,8 +42,9 @@ module _ (file : List ℕ) (line : Line) (e : line ≡ report (length file) (sou
     head-by : (h : Head) → h ≡ headIn (k .f) → headLine (line .next) h ≡ headAt (length file) (soundLine file)
     head-by h p = ap₂ headLine (k .next) p ∙ ap (headAt (length file)) (sym (k .is))
 
-    pub head-long : headFrameSize < line .len → _≡_ {A = HeadLine} (record { sound = true; next = line .next; head = noHead }) (headAt (length file) (soundLine file))
-    head-long h = head-by noHead (head-length (k .f) (λ q. omega (arith, k .many)))
+    pub head-long : headFrameSize < line .len → (h : Head) → h ≡ noHead
+        → _≡_ {A = HeadLine} (record { sound = true; next = line .next; head = h }) (headAt (length file) (soundLine file))
+    head-long u h p = head-by h (p ∙ head-length (k .f) (λ q. omega (arith, k .many)))
 
     pub head-read : (xs z : List ℕ) → length xs ≡ headFrameSize → z ≡ over (take (length xs) (decoded (drop 0 file))) xs → line .len ≤ headFrameSize
         → (h : Head) → h ≡ headIn (take (line .len) z) → _≡_ {A = HeadLine} (record { sound = true; next = line .next; head = h }) (headAt (length file) (soundLine file))

@@ -147,7 +147,7 @@ module _ (last : ℕ) (w : List ℕ) where
   pub ruled-not : isRule w ≡ false → noneRuled ≡ ruledIn last w
   ruled-not i = rw i
 
-  -- a frame of more than 28 bytes is that of no rule of the shape
+  -- a frame longer than the longest is that of no rule of the shape
   pub ruled-long : longestFrame < length w → noneRuled ≡ ruledIn last w
   ruled-long h =
       let n : (isRule w && entry last (entryIn w)) ≡ false =

@@ -3,7 +3,7 @@ use crate::layout;
 ghost use mathlib.Core.Path.{_≡_};
 ghost use lib.ListN.{length};
 ghost use Rattle.frames.specs.Lines.{soundLine};
-ghost use Rattle.file.specs.Loading.{headIn, headAt};
+ghost use Rattle.file.specs.Loading.{noHead, headIn, headAt};
 
 // A head that was read from a frame.
 pub struct Head {
@@ -19,27 +19,32 @@ pub struct HeadLine {
     pub head: Head,
 }
 
-// A head's frame.
-fn head_of(f: &[u8]) -> Head
-    ensures { λ r. ⌜ r ≡ headIn (now (f .entry)) ⌝ }
+fn no_head() -> Head
+    ensures { λ r. ⌜ r ≡ noHead ⌝ }
 {
-    let none = Head {
+    Head {
         ok: false,
         count: 0,
         last: 0,
-    };
+    }
+}
+
+// The head of a frame.
+fn head_in(f: &[u8]) -> Head
+    ensures { λ r. ⌜ r ≡ headIn (now (f .entry)) ⌝ }
+{
     if f.len() != layout::HEAD {
-        return none;
+        return no_head();
     }
     if f[layout::TYPE] != layout::HEAD_TYPE {
-        return none;
+        return no_head();
     }
     if f[layout::EDITION] != layout::FIRST_EDITION {
-        return none;
+        return no_head();
     }
     let count = numbers::wide16(numbers::two_at(f, layout::COUNT));
     if rules::MAX_RULES < count {
-        return none;
+        return no_head();
     }
     Head {
         ok: true,
@@ -53,28 +58,25 @@ pub fn read_head(file: &[u8]) -> HeadLine
     ensures { λ r. ⌜ r ≡ headAt (length (now (file .entry))) (soundLine (now (file .entry))) ⌝ }
 {
     let mut frame = [0u8; layout::HEAD];
-    let none = Head {
-        ok: false,
-        count: 0,
-        last: 0,
-    };
     let line = frames::read_line(file, 0, &mut frame);
     if !line.sound {
+        let head = no_head();
         return HeadLine {
             sound: false,
             next: 0,
-            head: none,
+            head,
         };
     }
     let n = line.len;
     if layout::HEAD < n {
+        let head = no_head();
         return HeadLine {
             sound: true,
             next: line.next,
-            head: none,
+            head,
         };
     }
-    let head = head_of(&frame[..n]);
+    let head = head_in(&frame[..n]);
     HeadLine {
         sound: true,
         next: line.next,

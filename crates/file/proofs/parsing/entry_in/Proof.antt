@@ -1,7 +1,6 @@
 -- `file::parsing::entry_in` meets its contract.
 -- Assumes nothing.
 use native.Mathlib.Omega.{arith}
-use borrow.Author.Needs.{needs}
 use Rattle.file.proofs.Parts.{rule-whole}
 use Rattle.file.proofs.parsing.entry_in.Statement.{statement}
 use Rattle.file.proofs.parsing.entry_in.Tie as tie
