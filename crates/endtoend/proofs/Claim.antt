@@ -4,49 +4,45 @@
 use Prim.Native.Nat.{ℕ, _≤_}
 use mathlib.Core.Path.{_≡_, refl, sym, ap, _∙_}
 use mathlib.Core.Bool.{true}
-use mathlib.Core.List.{List, [], _∷_}
+use mathlib.Core.List.{List}
 use borrow.Author.Tests.{le-leb}
 use lib.Dec.{leb}
 use lib.ListN.{length, take, drop}
 use lib.Seq.{take-at}
 use Rattle.rules.specs.Memory.{over}
-use Rattle.rules.proofs.Cases.{byBool, and-l, and-r, and-i}
-use Rattle.rules.specs.Limits.{maxLetter}
-use Rattle.rules.specs.Shape.{allFrom}
+use Rattle.rules.proofs.Cases.{byBool}
 use Rattle.rules.specs.Refusals.{accepted}
 use Rattle.image.specs.State.{Ledger, start, rulesOf}
-use Rattle.image.specs.Image.{imageSize, ledgerOf, valid, entriesOf}
+use Rattle.image.specs.Image.{ledgerOf, valid, entriesOf}
 use Rattle.edits.specs.Ledger.{afterAll}
-use Rattle.history.specs.Replay.{Replay, FromEmpty, Replayed, replayed}
+use Rattle.history.specs.Replay.{Replay, FromEmpty, Replayed}
+use Rattle.history.proofs.EveryList.{replay-accepted}
 use Rattle.reading.specs.Fitting.{Str}
-use Rattle.reading.specs.Reading.{Reading, finished, stopped, plain}
-use Rattle.reading.specs.Speech.{phonesOf, numbersOf, delivered, judgedName, plainSaid}
+use Rattle.reading.specs.Speech.{Outcome, speaks, declines, phonesOf, numbersOf, delivered, plainOutcome, plainSaid}
 use Rattle.tables.specs.Words.{wordsFor, setsFor, Built, built}
 use Rattle.tables.specs.Walk.{Walked, walkSaid}
-use Rattle.tables.proofs.Steps.{Letters}
 use Rattle.tables.proofs.Theorem.{table-theorem, steps-theorem}
-use Rattle.endtoend.specs.EndToEnd.{heard, Lent, Given, editsOf, rulesAfter, Enough, Claim, EndToEnd}
+use Rattle.endtoend.specs.EndToEnd.{result, Lent, Given, takenEdits, rulesAfter, Enough, Claim, EndToEnd}
 
--- ---- what is heard does not depend on what the lent memory held, but for its length
+-- ---- what a call tells does not depend on what the lent memory held, but for its length
 
-delivered-heard : (o : Reading) (ps ns qs ms : List ℕ) → length ps ≡ length qs → length ns ≡ length ms
-    → heard (delivered o ps ns) ≡ heard (delivered o qs ms)
-delivered-heard (stopped n p) ps ns qs ms e f = refl
-delivered-heard (finished rs) ps ns qs ms e f =
-    byBool (leb (length (phonesOf rs)) (length qs))
-    (λ a. byBool (leb (length (numbersOf rs)) (length ms))
-    (λ b. rw (e, f, a, b, take-over (phonesOf rs) ps, take-over (phonesOf rs) qs, take-over (numbersOf rs) ns, take-over (numbersOf rs) ms))
+delivered-result : (o : Outcome) (ps ns qs ms : List ℕ) → length ps ≡ length qs → length ns ≡ length ms
+    → result (delivered o ps ns) ≡ result (delivered o qs ms)
+delivered-result (declines n p steps) ps ns qs ms e f = refl
+delivered-result (speaks xs steps) ps ns qs ms e f =
+    byBool (leb (length (phonesOf xs)) (length qs))
+    (λ a. byBool (leb (length (numbersOf xs)) (length ms))
+    (λ b. rw (e, f, a, b, take-over (phonesOf xs) ps, take-over (phonesOf xs) qs, take-over (numbersOf xs) ns, take-over (numbersOf xs) ms))
     (λ b. rw (e, f, a, b)))
     (λ a. rw (e, a))
   where
     take-over : (ys xs : List ℕ) → take (length ys) (over ys xs) ≡ ys
     take-over ys xs = take-at ys (drop (length ys) xs) (length ys) refl
 
-plain-heard : (image : List ℕ) (name : Str) (ps ns qs ms : List ℕ) → length ps ≡ length qs → length ns ≡ length ms
-    → heard (plainSaid image name ps ns) ≡ heard (plainSaid image name qs ms)
+plain-result : (image : List ℕ) (name : Str) (ps ns qs ms : List ℕ) → length ps ≡ length qs → length ns ≡ length ms
+    → result (plainSaid image name ps ns) ≡ result (plainSaid image name qs ms)
 unfolding plainSaid
-plain-heard image name ps ns qs ms e f =
-    byBool (valid image) (λ v. rw v (delivered-heard (judgedName name (plain (entriesOf image) name)) ps ns qs ms e f)) (λ v. rw v)
+plain-result image name ps ns qs ms e f = delivered-result (plainOutcome image name) ps ns qs ms e f
 
 -- ---- a build of a ruleset in memory that is long enough is accepted
 
@@ -55,34 +51,22 @@ enough-built : (image ws ss : List ℕ) → valid image ≡ true → wordsFor (e
 unfolding built
 enough-built image ws ss v w s = rw (v, le-leb _ _ w, le-leb _ _ s)
 
-name-letters : (name : Str) → allFrom maxLetter name ≡ true → Letters name
-name-letters [] h = tt
-name-letters (b ∷ w) h =
-    let u = and-r (leb 1 b) _ h in
-    (and-i (and-l (leb 1 b) _ h) (and-l (leb b maxLetter) _ u), name-letters w (and-r (leb b maxLetter) _ u))
-
--- ---- a replay with room for a ruleset is accepted
-
-long-accepted : (image code answers : List ℕ) → imageSize ≤ length image → replayed image code answers .reply ≡ accepted
-unfolding replayed
-long-accepted image code answers h = rw (le-leb _ _ h)
-
 -- the rules of the image are those of the ledger after the edits
 state-rules : (image : List ℕ) (g : Ledger) → ledgerOf image ≡ g → entriesOf image ≡ rulesOf g
 unfolding entriesOf
 state-rules image g e = ap rulesOf e
 
 module _ (m : Lent) (g : Given)
-    (r : Replayed (m .image) (m .code) (m .answers) (g .replay))
+    (r : Replayed (m .image) (m .code) (m .answers) (m .places) (g .replay))
     (b : g .build ≡ built (g .replay .image) (m .words) (m .sets))
     (p : g .plain ≡ plainSaid (g .replay .image) (m .name) (m .«plain-phones») (m .«plain-numbers»))
     (w : g .walk ≡ walkSaid (g .replay .image) (g .build .words) (g .build .sets) (m .name) (m .«walk-phones») (m .«walk-numbers»)) where
   module _ (e : Enough m) where
-    done : FromEmpty (editsOf m) (m .answers) (g .replay .image) (g .replay .answers)
-    done = r .claim (ap (λ (x : Replay). x .reply) (r .whole) ∙ long-accepted (m .image) (m .code) (m .answers) (e .image))
+    done : FromEmpty (takenEdits m) (m .image) (m .answers) (m .places) (g .replay)
+    done = r .claim (ap (λ (x : Replay). x .reply) (r .whole) ∙ replay-accepted (m .image) (m .code) (m .answers) (m .places) (e .image))
 
     rules-are : entriesOf (g .replay .image) ≡ rulesAfter m
-    rules-are = state-rules (g .replay .image) (afterAll start (editsOf m)) (done .state)
+    rules-are = state-rules (g .replay .image) (afterAll start (takenEdits m)) (done .state)
 
     ready : built (g .replay .image) (m .words) (m .sets) .reply ≡ accepted
     ready =
@@ -101,14 +85,13 @@ module _ (m : Lent) (g : Given)
       edits = done;
       tables = ap (λ (x : Built). x .reply) b ∙ ready;
       alike =
-          ap (λ (x : Walked). heard (x .said)) walk-is
-          ∙ (ap heard (table-theorem (g .replay .image) (m .words) (m .sets) (m .name) (m .«walk-phones») (m .«walk-numbers») ready)
-          ∙ (plain-heard (g .replay .image) (m .name) (m .«walk-phones») (m .«walk-numbers») (m .«plain-phones») (m .«plain-numbers») (e .phones) (e .numbers)
-          ∙ ap heard (sym p)));
+          ap (λ (x : Walked). result (x .said)) walk-is
+          ∙ (ap result (table-theorem (g .replay .image) (m .words) (m .sets) (m .name) (m .«walk-phones») (m .«walk-numbers») ready)
+          ∙ (plain-result (g .replay .image) (m .name) (m .«walk-phones») (m .«walk-numbers») (m .«plain-phones») (m .«plain-numbers») (e .phones) (e .numbers)
+          ∙ ap result (sym p)));
       steps = λ n.
           ap (λ (x : Walked). x .steps) walk-is
-          ∙ steps-theorem (g .replay .image) (m .words) (m .sets) (m .name) (m .«walk-phones») (m .«walk-numbers») ready (n .short)
-          (name-letters (m .name) (n .letters));
+          ∙ steps-theorem (g .replay .image) (m .words) (m .sets) (m .name) (m .«walk-phones») (m .«walk-numbers») ready n;
     }
 
   -- the four calls, one after the other, make the claim

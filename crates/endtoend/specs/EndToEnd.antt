@@ -3,43 +3,37 @@
 -- Assumes nothing.
 use Prim.Native.Nat.{ℕ, _+_, _*_, _≤_}
 use mathlib.Core.Path.{_≡_}
-use mathlib.Core.Bool.{true}
 use mathlib.Core.List.{List}
 use lib.ListN.{length, take}
-use Rattle.rules.specs.Limits.{maxName, maxLetter}
-use Rattle.rules.specs.Shape.{Entry, allFrom}
+use Rattle.rules.specs.Shape.{Entry}
 use Rattle.rules.specs.Refusals.{accepted}
 use Rattle.image.specs.State.{start, rulesOf}
 use Rattle.image.specs.Image.{imageSize}
 use Rattle.edits.specs.Ledger.{Edit, afterAll}
 use Rattle.history.specs.Replay.{taken, Replay, FromEmpty, Replayed}
 use Rattle.reading.specs.Fitting.{Str}
-use Rattle.reading.specs.Speech.{Told, spoken, refused, Said, plainSaid}
+use Rattle.reading.specs.Speech.{Told, spoken, refused, SoundName, Said, plainSaid}
 use Rattle.tables.specs.Words.{wordsFor, setsFor, Built, built}
 use Rattle.tables.specs.Walk.{Walked, walkSaid}
 
--- what is heard of a call: a refusal's number and place, or its phones and its rule numbers, in order
-pub data Heard : Type 0 where
-  phones : List ℕ → List ℕ → Heard
-  silence : ℕ → ℕ → Heard
+-- what a call tells its caller: a refusal's number and place, or its phones and its rule numbers, in order
+pub data Result : Type 0 where
+  phones : List ℕ → List ℕ → Result
+  refusal : ℕ → ℕ → Result
 
-abbrev pub heardAs : Told → List ℕ → List ℕ → Heard
-heardAs (spoken p n) ps ns = phones (take p ps) (take n ns)
-heardAs (refused n p) ps ns = silence n p
+abbrev pub resultAs : Told → List ℕ → List ℕ → Result
+resultAs (spoken p n) ps ns = phones (take p ps) (take n ns)
+resultAs (refused n p) ps ns = refusal n p
 
-abbrev pub heard : Said → Heard
-heard s = heardAs (s .told) (s .phones) (s .numbers)
-
--- a name of at most 64 letters
-pub record Name (name : Str) : Type 0 where
-  pub short : length name ≤ maxName
-  pub letters : allFrom maxLetter name ≡ true
+abbrev pub result : Said → Result
+result s = resultAs (s .told) (s .phones) (s .numbers)
 
 -- all lent memory as it was, in the order of the function's parameters
 pub record Lent : Type 0 where
   pub image : List ℕ
   pub code : List ℕ
   pub answers : List ℕ
+  pub places : List ℕ
   pub words : List ℕ
   pub sets : List ℕ
   pub name : Str
@@ -48,12 +42,13 @@ pub record Lent : Type 0 where
   pub «walk-phones» : List ℕ
   pub «walk-numbers» : List ℕ
 
-abbrev pub lent : List ℕ → List ℕ → List ℕ → List ℕ → List ℕ → Str → List ℕ → List ℕ → List ℕ → List ℕ → Lent
-lent image code answers words sets name pp pn wp wn =
+abbrev pub lent : List ℕ → List ℕ → List ℕ → List ℕ → List ℕ → List ℕ → Str → List ℕ → List ℕ → List ℕ → List ℕ → Lent
+lent image code answers places words sets name pp pn wp wn =
     record {
       image = image;
       code = code;
       answers = answers;
+      places = places;
       words = words;
       sets = sets;
       name = name;
@@ -74,11 +69,11 @@ abbrev pub given : Replay → Built → Said → Walked → Given
 given r b p w = record { replay = r; build = b; plain = p; walk = w }
 
 -- the edits taken, and the rules that the ledger holds after them
-abbrev pub editsOf : Lent → List Edit
-editsOf m = taken (m .code) (m .answers)
+abbrev pub takenEdits : Lent → List Edit
+takenEdits m = taken (m .code) (m .answers) (m .places)
 
 abbrev pub rulesAfter : Lent → List Entry
-rulesAfter m = rulesOf (afterAll start (editsOf m))
+rulesAfter m = rulesOf (afterAll start (takenEdits m))
 
 -- the memory is long enough for a ruleset and for the tables of the rules after the edits, and both readings are lent as much
 pub record Enough (m : Lent) : Type 0 where
@@ -89,18 +84,18 @@ pub record Enough (m : Lent) : Type 0 where
   pub numbers : length (m .«walk-numbers») ≡ length (m .«plain-numbers»)
 
 pub record Claim (m : Lent) (g : Given) : Type 0 where
-  -- each answer and the ruleset after are the ledger's; no number was given twice
-  pub edits : FromEmpty (editsOf m) (m .answers) (g .replay .image) (g .replay .answers)
+  -- each answer with its place, and the ruleset after, are the ledger's; no number was given twice
+  pub edits : FromEmpty (takenEdits m) (m .image) (m .answers) (m .places) (g .replay)
   -- the tables were built
   pub tables : g .build .reply ≡ accepted
   -- walk and plain reading are alike
-  pub alike : heard (g .walk .said) ≡ heard (g .plain)
+  pub alike : result (g .walk .said) ≡ result (g .plain)
   -- the steps counted are 2n + 2
-  pub steps : Name (m .name) → g .walk .steps ≡ 2 * length (m .name) + 2
+  pub steps : SoundName (m .name) → g .walk .steps ≡ 2 * length (m .name) + 2
 
 pub record EndToEnd (m : Lent) (g : Given) : Type 0 where
   -- each call got the ruleset, and the walk the tables, as the calls before left them
-  pub replayed : Replayed (m .image) (m .code) (m .answers) (g .replay)
+  pub replayed : Replayed (m .image) (m .code) (m .answers) (m .places) (g .replay)
   pub built-after : g .build ≡ built (g .replay .image) (m .words) (m .sets)
   pub read : g .plain ≡ plainSaid (g .replay .image) (m .name) (m .«plain-phones») (m .«plain-numbers»)
   pub walked : g .walk ≡ walkSaid (g .replay .image) (g .build .words) (g .build .sets) (m .name) (m .«walk-phones») (m .«walk-numbers»)

@@ -23,6 +23,7 @@ pub fn run<'a>(
     image: &mut [u8],
     code: &[usize],
     answers: &mut [u8],
+    places: &mut [usize],
     words: &'a mut [u16],
     sets: &'a mut [u64],
     name: &[u8],
@@ -31,12 +32,12 @@ pub fn run<'a>(
     walk_phones: &mut [u8],
     walk_numbers: &mut [u16],
 ) -> Answers
-    ensures { λ r. ⌜ EndToEnd (lent (now (image .entry)) (now (code .entry)) (now (answers .entry)) (now (words .entry)) (now (sets .entry)) (now (name .entry)) (now («plain_phones» .entry)) (now («plain_numbers» .entry)) (now («walk_phones» .entry)) (now («walk_numbers» .entry))) (given (replaying (replyOf (r .replay)) (now (image .exit)) (now (answers .exit))) (building (replyOf (r .build)) (now (words .exit)) (now (sets .exit))) (saying (toldOf (r .plain)) (now («plain_phones» .exit)) (now («plain_numbers» .exit))) (walkedOf (r .walk) (now («walk_phones» .exit)) (now («walk_numbers» .exit)))) ⌝ }
+    ensures { λ r. ⌜ EndToEnd (lent (now (image .entry)) (now (code .entry)) (now (answers .entry)) (now (places .entry)) (now (words .entry)) (now (sets .entry)) (now (name .entry)) (now («plain_phones» .entry)) (now («plain_numbers» .entry)) (now («walk_phones» .entry)) (now («walk_numbers» .entry))) (given (replaying (replyOf (r .replay)) (now (image .exit)) (now (answers .exit)) (now (places .exit))) (building (replyOf (r .build)) (now (words .exit)) (now (sets .exit))) (saying (toldOf (r .plain)) (now («plain_phones» .exit)) (now («plain_numbers» .exit))) (walkedOf (r .walk) (now («walk_phones» .exit)) (now («walk_numbers» .exit)))) ⌝ }
 {
-    let replay = history::replay(image, code, answers);
+    let replay = history::replay(image, code, answers, places);
     let build = build::build(image, words, sets);
     let plain = reading::read_name(image, name, plain_phones, plain_numbers);
-    let walk = walk::walk(image, words, sets, name, walk_phones, walk_numbers);
+    let walk = compiled::speak_compiled(image, words, sets, name, walk_phones, walk_numbers);
     Answers {
         replay,
         build,

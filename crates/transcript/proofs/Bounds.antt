@@ -12,7 +12,7 @@ use Rattle.frames.specs.Lines.{pastLine, lineAfter, soundLine}
 use Rattle.reading.specs.Speech.{Told, spoken, refused}
 use Rattle.tables.specs.Walk.{walkSaid}
 use Rattle.transcript.specs.Answers.{spokenBody, refusedBody, printed, toldBody}
-use Rattle.transcript.specs.Names.{Asked, unsound, name, asked, lentPhones, lentNumbers, spelt, answerTo, nameAnswer, ToldWithin}
+use Rattle.transcript.specs.Names.{Asked, unsound, name, asked, lentPhones, lentNumbers, nameLine, answerTo, nameAnswer, ToldWithin}
 use Rattle.transcript.proofs.Fields.{length-spoken}
 use Rattle.transcript.proofs.Printed.{length-printed}
 use Rattle.transcript.proofs.Spoken.{walk-within}
@@ -42,15 +42,15 @@ told-short (spoken p n) steps phones numbers w =
 told-short (refused k p) steps phones numbers w = omega (arith, length-printed (refusedBody k p))
 
 module _ (image words sets : List ℕ) where
-  spelt-short : (letters : List ℕ) → length (spelt image words sets letters) ≤ 783
-  unfolding spelt lentPhones lentNumbers
-  spelt-short letters =
+  nameLine-short : (letters : List ℕ) → length (nameLine image words sets letters) ≤ 783
+  unfolding nameLine lentPhones lentNumbers
+  nameLine-short letters =
       let w = walkSaid image words sets letters lentPhones lentNumbers in
       told-short (w .said .told) (w .steps) (w .said .phones) (w .said .numbers) (walk-within image words sets letters lentPhones lentNumbers)
 
   asked-short : (a : Asked) → length (answerTo image words sets a) ≤ 783
   asked-short unsound = omega (arith, length-printed (refusedBody 13 0))
-  asked-short (name letters) = spelt-short letters
+  asked-short (name letters) = nameLine-short letters
 
   pub answer-short : (s : List ℕ) → length (nameAnswer image words sets s) ≤ 783
   unfolding nameAnswer

@@ -12,7 +12,7 @@ use lib.ListN.{length, take, drop, getD, length-append, take-append-drop}
 use lib.Seq.{paste, take-length, drop-drop, take-suc, take-all, length-take-le}
 use Rattle.rules.specs.Memory.{over, overAt}
 use Rattle.rules.proofs.Memory.{over-at, over-at-length, over-part}
-use Rattle.transcript.specs.Answers.{two, twos, spokenFront, spokenBody}
+use Rattle.transcript.specs.Answers.{bytes2, twos, spokenFront, spokenBody}
 
 pub paste-all : (d s : List ℕ) (at : ℕ) → paste d at s (length s) ≡ overAt at s d
 paste-all d s at =
@@ -53,7 +53,7 @@ module _ (xs numbers : List ℕ) (from : ℕ) (room : from + 2 * length numbers 
         let t = twos (take k numbers) in
         ap length (p .written) ∙ over-at-length t xs from (omega (arith, length-twos (take k numbers), length-take-le k numbers h))
 
-    pub put-next : k < length numbers → (at′ : ℕ) (w′ : List ℕ) → at′ ≡ at + 2 → w′ ≡ overAt at (two (getD numbers k 0)) w → Put xs numbers from at′ (k + 1) w′
+    pub put-next : k < length numbers → (at′ : ℕ) (w′ : List ℕ) → at′ ≡ at + 2 → w′ ≡ overAt at (bytes2 (getD numbers k 0)) w → Put xs numbers from at′ (k + 1) w′
     put-next h at′ w′ e f =
         let t = take k numbers in
         let n = getD numbers k 0 in
@@ -64,7 +64,7 @@ module _ (xs numbers : List ℕ) (from : ℕ) (room : from + 2 * length numbers 
           within = omega arith;
           here = omega arith;
           written =
-              f ∙ (over-on (twos t) (two n) xs w from at (omega arith) a (p .written)
+              f ∙ (over-on (twos t) (bytes2 n) xs w from at (omega arith) a (p .written)
               ∙ ap (λ (z : List ℕ). overAt from z xs) (sym (ap twos s ∙ twos-append t (n ∷ []))));
         }
 

@@ -1,6 +1,5 @@
 pub mod Fields
 pub mod Printed
-pub mod Heard
+pub mod NameLine
 pub mod Spoken
-pub mod Preparing
 pub mod Bounds

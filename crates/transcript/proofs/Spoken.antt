@@ -15,44 +15,39 @@ use Rattle.rules.specs.Refusals.{refusalNumber, refusalPlace}
 use Rattle.rules.specs.declared.Refusal.{Refusal}
 use Rattle.image.specs.Image.{valid, entriesOf}
 use Rattle.frames.specs.Lines.{soundLine}
-use Rattle.reading.specs.Reading.{Reading, finished, stopped}
-use Rattle.reading.specs.Speech.{Told, refused, toldOf, Said, saying, phonesOf, numbersOf, delivered, judgedName}
+use Rattle.reading.specs.Speech.{Outcome, speaks, declines, atOnce, judgedCall, Told, toldOf, saying, phonesOf, numbersOf, delivered}
 use Rattle.reading.specs.declared.Speech.{Speech}
 use Rattle.reading.specs.declared.Speech.the-variants.{Spoken, Refused}
-use Rattle.tables.specs.Words.{leftOf, rightOf}
-use Rattle.tables.specs.Walk.{Walked, walkedAs, walkWords, walkSteps, walkSaid}
+use Rattle.tables.specs.Words.{compiledFrom}
+use Rattle.tables.specs.Walk.{Walked, walkedAs, walkThrough, walkFor, walkSaid}
 use Rattle.transcript.specs.Answers.{spokenBody, refusedBody, printed, refusalLine, toldBody, walkedLine}
 use Rattle.transcript.proofs.Printed.{length-printed}
-use Rattle.transcript.specs.Names.{Asked, unsound, name, lentPhones, lentNumbers, spelt, asked, answerTo, nameAnswer, cut, heard, ToldWithin}
+use Rattle.transcript.specs.Names.{Asked, unsound, name, lentPhones, lentNumbers, nameLine, asked, answerTo, nameAnswer, cut, nameIn, ToldWithin}
 
-pub delivered-within : (o : Reading) (phones numbers : List ℕ) → ToldWithin (delivered o phones numbers .told) (length phones) (length numbers)
-delivered-within (stopped n p) phones numbers = tt
-delivered-within (finished rs) phones numbers =
-    byBool (leb (length (phonesOf rs)) (length phones))
-    (λ e. rw e (byBool (leb (length (numbersOf rs)) (length numbers)) (λ f. rw f (leb-true _ _ e, leb-true _ _ f)) (λ f. rw f tt)))
+pub delivered-within : (o : Outcome) (phones numbers : List ℕ) → ToldWithin (delivered o phones numbers .told) (length phones) (length numbers)
+delivered-within (declines n p steps) phones numbers = tt
+delivered-within (speaks xs steps) phones numbers =
+    byBool (leb (length (phonesOf xs)) (length phones))
+    (λ e. rw e (byBool (leb (length (numbersOf xs)) (length numbers)) (λ f. rw f (leb-true _ _ e, leb-true _ _ f)) (λ f. rw f tt)))
     (λ e. rw e tt)
 
 module _ (image words sets : List ℕ) where
   pub walk-within : (letters phones numbers : List ℕ) → ToldWithin (walkSaid image words sets letters phones numbers .said .told) (length phones) (length numbers)
-  unfolding walkSaid
+  unfolding walkFor
   walk-within letters phones numbers =
-      byBool (valid image)
-      (λ e. rw e (delivered-within (judgedName letters (walkWords words sets (entriesOf image) letters)) phones numbers))
-      (λ e. rw e tt)
+      delivered-within (judgedCall image letters (walkThrough (compiledFrom words sets) (entriesOf image) letters)) phones numbers
 
   -- the answer to a name over 64 letters
   overlong : (letters phones numbers : List ℕ) → valid image ≡ true → leb (length letters) maxName ≡ false
-      → walkSaid image words sets letters phones numbers ≡ walkedAs (saying (refused 2 0) phones numbers) 0
-  unfolding walkSaid
+      → walkSaid image words sets letters phones numbers ≡ walkedAs (atOnce 2 0) phones numbers
+  unfolding walkFor
   overlong letters phones numbers v e =
-      let s : Said = saying (refused 2 0) phones numbers in
-      let j : judgedName letters (walkWords words sets (entriesOf image) letters) ≡ stopped 2 0 = rw e in
-      ap (λ (b : Bool). walkedAs (cond b (delivered (judgedName letters (walkWords words sets (entriesOf image) letters)) phones numbers) (saying (refused 0 0) phones numbers)) (walkSteps (leftOf words sets) (rightOf words sets) letters)) v
-      ∙ ap (λ (o : Reading). walkedAs (delivered o phones numbers) (walkSteps (leftOf words sets) (rightOf words sets) letters)) j
+      let j : judgedCall image letters (walkThrough (compiledFrom words sets) (entriesOf image) letters) ≡ atOnce 2 0 = rw (v, e) in
+      ap (λ (o : Outcome). walkedAs o phones numbers) j
 
-  cut-spelt : (letters : List ℕ) → valid image ≡ true → spelt image words sets (take 65 letters) ≡ spelt image words sets letters
-  unfolding spelt
-  cut-spelt letters v =
+  cut-line : (letters : List ℕ) → valid image ≡ true → nameLine image words sets (take 65 letters) ≡ nameLine image words sets letters
+  unfolding nameLine
+  cut-line letters v =
       byBool (leb (length letters) maxName)
       (λ e. let l = leb-true (length letters) maxName e in ap (λ (w : List ℕ). walkedLine (walkSaid image words sets w lentPhones lentNumbers)) (take-all 65 letters (omega arith)))
       (λ e.
@@ -62,7 +57,7 @@ module _ (image words sets : List ℕ) where
 
   pub cut-answer : (a : Asked) → valid image ≡ true → answerTo image words sets (cut a) ≡ answerTo image words sets a
   cut-answer unsound v = refl
-  cut-answer (name letters) v = cut-spelt letters v
+  cut-answer (name letters) v = cut-line letters v
 
 -- ---- an answer by cases
 
@@ -82,24 +77,24 @@ length-refusal x = length-printed (refusedBody (refusalNumber x) (refusalPlace x
 -- a walk whose answer is given with its lent memory
 module _ (image words sets letters : List ℕ) (told : Told) (steps : ℕ) (phones numbers : List ℕ)
     (e : record { said = saying told phones numbers; steps = steps } ≡ walkSaid image words sets letters lentPhones lentNumbers) where
-  pub spelt-is : printed (toldBody told steps phones numbers) ≡ spelt image words sets letters
-  unfolding spelt
-  spelt-is = ap walkedLine e
+  pub nameLine-is : printed (toldBody told steps phones numbers) ≡ nameLine image words sets letters
+  unfolding nameLine
+  nameLine-is = ap walkedLine e
 
   pub told-within : (a b : ℕ) → a ≡ 256 → b ≡ 64 → ToldWithin told a b
   unfolding lentPhones lentNumbers
   told-within a b p q = rw (p, q) (subst (λ (w : Walked). ToldWithin (w .said .told) 256 64) (sym e) (walk-within image words sets letters lentPhones lentNumbers))
 
--- ---- what was heard, answered
+-- ---- what was found in a line, answered
 
-module _ (image words sets s kept : List ℕ) (end : ℕ) (v : valid image ≡ true) (h : heard end kept ≡ cut (asked (soundLine s))) where
-  by-heard : answerTo image words sets (heard end kept) ≡ nameAnswer image words sets s
+module _ (image words sets s kept : List ℕ) (end : ℕ) (v : valid image ≡ true) (h : nameIn end kept ≡ cut (asked (soundLine s))) where
+  by-name-ind : answerTo image words sets (nameIn end kept) ≡ nameAnswer image words sets s
   unfolding nameAnswer
-  by-heard = ap (answerTo image words sets) h ∙ cut-answer image words sets (asked (soundLine s)) v
+  by-name-ind = ap (answerTo image words sets) h ∙ cut-answer image words sets (asked (soundLine s)) v
 
   pub answered-none : end ≡ 0 → printed (refusedBody 13 0) ≡ nameAnswer image words sets s
-  answered-none e = ap (λ (n : ℕ). answerTo image words sets (heard n kept)) (sym e) ∙ by-heard
+  answered-none e = ap (λ (n : ℕ). answerTo image words sets (nameIn n kept)) (sym e) ∙ by-name-ind
 
-  pub answered-name : 0 < end → spelt image words sets (take (end - 1) (drop 1 kept)) ≡ nameAnswer image words sets s
+  pub answered-name : 0 < end → nameLine image words sets (take (end - 1) (drop 1 kept)) ≡ nameAnswer image words sets s
   answered-name e =
-      ap (λ (b : Bool). answerTo image words sets (cond b unsound (name (take (end - 1) (drop 1 kept))))) (sym (ne-eqb end 0 (omega arith))) ∙ by-heard
+      ap (λ (b : Bool). answerTo image words sets (cond b unsound (name (take (end - 1) (drop 1 kept))))) (sym (ne-eqb end 0 (omega arith))) ∙ by-name-ind

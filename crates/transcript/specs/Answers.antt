@@ -11,25 +11,25 @@ use Rattle.reading.specs.Speech.{Told, spoken, refused}
 use Rattle.tables.specs.Walk.{Walked}
 
 -- a field of two bytes
-abbrev pub two : ℕ → List ℕ
-two n = n / 256 % 256 ∷ n % 256 ∷ []
+abbrev pub bytes2 : ℕ → List ℕ
+bytes2 n = n / 256 % 256 ∷ n % 256 ∷ []
 
 -- a field of four bytes
-abbrev pub four : ℕ → List ℕ
-four n = n / 16777216 % 256 ∷ n / 65536 % 256 ∷ n / 256 % 256 ∷ n % 256 ∷ []
+abbrev pub bytes4 : ℕ → List ℕ
+bytes4 n = n / 16777216 % 256 ∷ n / 65536 % 256 ∷ n / 256 % 256 ∷ n % 256 ∷ []
 
 abbrev pub twos : List ℕ → List ℕ
 twos [] = []
-twos (n ∷ l) = two n ++ twos l
+twos (n ∷ l) = bytes2 n ++ twos l
 
 abbrev pub spokenFront : ℕ → ℕ → List ℕ
-spokenFront steps count = 4 ∷ two steps ++ two count
+spokenFront steps count = 4 ∷ bytes2 steps ++ bytes2 count
 
 unfoldable pub spokenBody : ℕ → List ℕ → List ℕ → List ℕ
 spokenBody steps phones numbers = ((spokenFront steps (length phones) ++ phones) ++ (length numbers % 256 ∷ [])) ++ twos numbers
 
 abbrev pub refusedBody : ℕ → ℕ → List ℕ
-refusedBody number place = 5 ∷ number ∷ four place
+refusedBody number place = 5 ∷ number ∷ bytes4 place
 
 -- the line of a body
 unfoldable pub printed : List ℕ → List ℕ

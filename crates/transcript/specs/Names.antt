@@ -33,12 +33,12 @@ unfoldable pub lentNumbers : List ℕ
 lentNumbers = replicate 64 0
 
 -- the line of a name's walk
-unfoldable pub spelt : List ℕ → List ℕ → List ℕ → List ℕ → List ℕ
-spelt image words sets letters = walkedLine (walkSaid image words sets letters lentPhones lentNumbers)
+unfoldable pub nameLine : List ℕ → List ℕ → List ℕ → List ℕ → List ℕ
+nameLine image words sets letters = walkedLine (walkSaid image words sets letters lentPhones lentNumbers)
 
 abbrev pub answerTo : List ℕ → List ℕ → List ℕ → Asked → List ℕ
 answerTo image words sets unsound = printed (refusedBody 13 0)
-answerTo image words sets (name letters) = spelt image words sets letters
+answerTo image words sets (name letters) = nameLine image words sets letters
 
 -- what is printed for the line that s starts with
 unfoldable pub nameAnswer : List ℕ → List ℕ → List ℕ → List ℕ → List ℕ
@@ -52,8 +52,8 @@ cut unsound = unsound
 cut (name letters) = name (take 65 letters)
 
 -- what stands in a frame that was read, its letters ending before `end`; 0 for no name
-abbrev pub heard : ℕ → List ℕ → Asked
-heard end frame = cond (eqb end 0) unsound (name (take (end - 1) (drop 1 frame)))
+abbrev pub nameIn : ℕ → List ℕ → Asked
+nameIn end frame = cond (eqb end 0) unsound (name (take (end - 1) (drop 1 frame)))
 
 -- as many phones and numbers as are told are there
 abbrev pub ToldWithin : Told → ℕ → ℕ → Type 0

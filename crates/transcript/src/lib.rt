@@ -1,4 +1,4 @@
-// What `say` answers: a rule file prepared once, then a name's line in and its answer's line out (document 01, "The six rules").
+// What `say` answers: a name's line in and its answer's line out (document 01, "The six rules").
 use reading::Speech;
 use rules::Answer;
 use rules::Refusal;
@@ -12,9 +12,8 @@ ghost use Rattle.frames.specs.Lines.{soundLine, lineAfter};
 ghost use Rattle.reading.specs.Speech.{toldOf};
 ghost use Rattle.rules.specs.Refusals.{replyOf, accepted};
 ghost use Rattle.image.specs.Image.{valid};
-ghost use Rattle.transcript.specs.Answers.{two, twos, spokenFront, spokenBody, printed, refusalLine, toldBody};
-ghost use Rattle.transcript.specs.Names.{asked, spelt, nameAnswer, cut, heard, ToldWithin};
-ghost use Rattle.transcript.specs.Prepared.{ready, prepared};
+ghost use Rattle.transcript.specs.Answers.{bytes2, twos, spokenFront, spokenBody, printed, refusalLine, toldBody};
+ghost use Rattle.transcript.specs.Names.{asked, nameLine, nameAnswer, cut, nameIn, ToldWithin};
 
 // ---- answers
 
@@ -23,12 +22,6 @@ pub fn low(n: usize) -> u8
     ensures { λ r. ⌜ r ≡ n % 256 ⌝ }
 {
     (n % 256) as u8
-}
-
-fn wide(n: u16) -> usize
-    ensures { λ r. ⌜ r ≡ n ⌝ }
-{
-    n as usize
 }
 
 // The line of a refusal, and its length.
@@ -63,7 +56,7 @@ pub fn put_field(body: &mut [u8], at: usize, field: &[u8]) -> usize
 fn put_two(body: &mut [u8], at: usize, n: usize) -> usize
     requires { ⌜ at + 2 ≤ length (now body) ⌝ }
     ensures next { λ r. ⌜ r ≡ at + 2 ⌝ }
-    ensures bytes { λ _. ⌜ now (body .exit) ≡ overAt at (two n) (now (body .entry)) ⌝ }
+    ensures bytes { λ _. ⌜ now (body .exit) ≡ overAt at (bytes2 n) (now (body .entry)) ⌝ }
 {
     let field = [low(n / 256), low(n)];
     put_field(body, at, &field)
@@ -78,7 +71,7 @@ pub fn put_numbers(body: &mut [u8], from: usize, numbers: &[u16]) -> usize
     let mut at = from;
     let mut k: usize = 0;
     while k < numbers.len() {
-        at = put_two(&mut *body, at, wide(numbers[k]));
+        at = put_two(&mut *body, at, numbers::wide16(numbers[k]));
         k += 1;
     }
     at
@@ -145,21 +138,21 @@ pub fn answer_line(answer: WalkAnswer, phones: &[u8], numbers: &[u16], out: &mut
 // A name is walked, and its answer's line printed.
 fn speak<'a>(image: &[u8], words: &'a [u16], sets: &'a [u64], name: &[u8], out: &mut [u8]) -> usize
     requires { ⌜ (valid (now image) ≡ true) × (783 ≤ length (now out)) ⌝ }
-    ensures len { λ r. ⌜ r ≡ length (spelt (now (image .entry)) (now (words .entry)) (now (sets .entry)) (now (name .entry))) ⌝ }
-    ensures bytes { λ _. ⌜ now (out .exit) ≡ over (spelt (now (image .entry)) (now (words .entry)) (now (sets .entry)) (now (name .entry))) (now (out .entry)) ⌝ }
+    ensures len { λ r. ⌜ r ≡ length (nameLine (now (image .entry)) (now (words .entry)) (now (sets .entry)) (now (name .entry))) ⌝ }
+    ensures bytes { λ _. ⌜ now (out .exit) ≡ over (nameLine (now (image .entry)) (now (words .entry)) (now (sets .entry)) (now (name .entry))) (now (out .entry)) ⌝ }
 {
     let mut phones = [0u8; 256];
     let mut numbers = [0u16; 64];
-    let answer = walk::walk_valid(image, words, sets, name, &mut phones, &mut numbers);
+    let answer = compiled::speak_words(words, sets, image, name, &mut phones, &mut numbers);
     answer_line(answer, &phones, &numbers, out)
 }
 
 // The frame of the line at a place: where its letters end, which start at 1; 0 if it is unsound or does not start with 03. Of a longer frame,
 // whose name is over 64 letters, 65 letters are kept.
-fn hear(text: &[u8], at: usize, frame: &mut [u8]) -> usize
+fn name_in(text: &[u8], at: usize, frame: &mut [u8]) -> usize
     requires { ⌜ length (now frame) ≡ 67 ⌝ }
     ensures end { λ r. ⌜ r ≤ 66 ⌝ }
-    ensures name { λ r. ⌜ heard r (now (frame .exit)) ≡ cut (asked (soundLine (drop at (now (text .entry))))) ⌝ }
+    ensures name { λ r. ⌜ nameIn r (now (frame .exit)) ≡ cut (asked (soundLine (drop at (now (text .entry))))) ⌝ }
 {
     let line = frames::read_line(text, at, &mut *frame);
     if !line.sound {
@@ -197,29 +190,11 @@ pub fn answer_name<'a>(
 {
     let next = frames::next_line(text, at);
     let mut frame = [0u8; 67];
-    let end = hear(text, at, &mut frame);
+    let end = name_in(text, at, &mut frame);
     if end == 0 {
         let len = refusal_line(Refusal::BadLine(0), out);
         return Answered { next, len };
     }
     let len = speak(image, words, sets, &frame[1..end], out);
     Answered { next, len }
-}
-
-// ---- the rule file
-
-// A rule file read into lent memory, and its tables built there. Where this is accepted, the memory holds a ruleset, and names need no further
-// check of it.
-pub fn prepare(rules: &[u8], image: &mut [u8], words: &mut [u16], sets: &mut [u64]) -> Answer
-    ensures all { λ r. ⌜ ready (replyOf r) (now (image .exit)) (now (words .exit)) (now (sets .exit)) ≡ prepared (now (rules .entry)) (now (image .entry)) (now (words .entry)) (now (sets .entry)) ⌝ }
-    ensures usable { λ r. ⌜ (replyOf r ≡ accepted → valid (now (image .exit)) ≡ true) ⌝ }
-{
-    if 32768 < rules.len() {
-        return Answer::Refused(Refusal::BadLine(32768));
-    }
-    let answer = file::read_file(rules, &mut *image);
-    if let Answer::Refused(why) = answer {
-        return Answer::Refused(why);
-    }
-    build::build(&*image, words, sets)
 }

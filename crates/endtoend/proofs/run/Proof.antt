@@ -14,8 +14,8 @@ build-requires c κs = search needs
 read-name-requires : tie.Need-read-name-requires
 read-name-requires c κs = search needs
 
-walk-requires : tie.Need-walk-requires
-walk-requires c κs = search needs
+speak-compiled-requires : tie.Need-speak-compiled-requires
+speak-compiled-requires c κs = search needs
 
 same-length : tie.Need-same-length
 same-length c = search needs
@@ -41,13 +41,16 @@ same-length-7 c = search needs
 same-length-8 : tie.Need-same-length-8
 same-length-8 c = search needs
 
+same-length-9 : tie.Need-same-length-9
+same-length-9 c = search needs
+
 returns : tie.Need-returns
 returns c =
     let walked = c .before .before .before .before in
     let read = walked .before .before .before .before .before .before .before .before .before .before in
     let built = read .before .before .before .before .before .before .before .before in
     let replayed = built .before .before .before .before .before .before .before .before in
-    end-to-end _ _ (replayed .replay .ensures) (built .build .ensures) (read .read-name .ensures) (walked .walk .ensures)
+    end-to-end _ _ (replayed .replay .ensures) (built .build .ensures) (read .read-name .ensures) (walked .speak-compiled .ensures)
 
 pub run-spec : {M : Type 1} → statement M
 run-spec =
@@ -56,7 +59,7 @@ run-spec =
     replay-requires
     build-requires
     read-name-requires
-    walk-requires
+    speak-compiled-requires
     same-length
     same-length-2
     same-length-3
@@ -65,4 +68,5 @@ run-spec =
     same-length-6
     same-length-7
     same-length-8
+    same-length-9
     returns)

@@ -14,11 +14,11 @@ use Rattle.transcript.proofs.answer_name.Tie as tie
 next-line-requires : tie.Need-next-line-requires
 next-line-requires c κs = search needs
 
-slice-aggregate-hear : tie.Need-slice-aggregate-hear
-slice-aggregate-hear c = search needs
+slice-aggregate-name-in : tie.Need-slice-aggregate-name-in
+slice-aggregate-name-in c = search needs
 
-hear-requires : tie.Need-hear-requires
-hear-requires c κs = search needs
+name-in-requires : tie.Need-name-in-requires
+name-in-requires c κs = search needs
 
 refusal-line-requires : tie.Need-refusal-line-requires
 refusal-line-requires c κs = search needs
@@ -29,7 +29,7 @@ same-length c = search needs
 returns : tie.Need-returns
 returns c =
     let a = c .before .before .before .before .before .before .before .before .before .before .before .before .before .before .args in
-    let h = c .before .before .before .before .before .before .hear in
+    let h = c .before .before .before .before .before .before .name-in in
     let e = answered-none (a .image .now) (a .words .now) (a .sets .now) (drop (a .at) (a .text .now)) (h .last .1 .1 .0) (h .result) (c .before .before .before .before .before .before .before .before .before .before .before .before .before .before .pre .0) (h .ensures .1) (c .before .before .before .before .if1 .taken) in
     let s = c .before .before .refusal-line in
     (c .before .before .before .before .before .before .before .before .next-line .ensures, (s .ensures .0 ∙ (sym (length-refusal (BadLine 0)) ∙ ap length e), s .ensures .1 ∙ ap (λ (l : List ℕ). over l (a .out .now)) e))
@@ -52,7 +52,7 @@ same-length-2 c = search needs
 returns-2 : tie.Need-returns-2
 returns-2 c =
     let a = c .before .before .before .before .before .before .before .before .before .before .before .before .before .before .before .before .args in
-    let h = c .before .before .before .before .before .before .before .before .hear in
+    let h = c .before .before .before .before .before .before .before .before .name-in in
     let e = answered-name (a .image .now) (a .words .now) (a .sets .now) (drop (a .at) (a .text .now)) (h .last .1 .1 .0) (h .result) (c .before .before .before .before .before .before .before .before .before .before .before .before .before .before .before .before .pre .0) (h .ensures .1) (omega (arith, c .before .before .before .before .before .before .if1 .left)) in
     let s = c .before .before .speak in
     (c .before .before .before .before .before .before .before .before .before .before .next-line .ensures, (s .ensures .0 ∙ ap length e, s .ensures .1 ∙ ap (λ (l : List ℕ). over l (a .out .now)) e))
@@ -62,8 +62,8 @@ answer-name-spec =
     tie.close
     (tie.spec
     next-line-requires
-    slice-aggregate-hear
-    hear-requires
+    slice-aggregate-name-in
+    name-in-requires
     refusal-line-requires
     same-length
     returns

@@ -1,6 +1,6 @@
 -- `transcript::speak` meets its contract: what the walk tells fits its lent memory. Assumes nothing.
 use Rattle.rules.specs.Memory.{over}
-use Rattle.transcript.proofs.Spoken.{spelt-is, told-within}
+use Rattle.transcript.proofs.Spoken.{nameLine-is, told-within}
 use Rattle.transcript.specs.Names.{lentPhones, lentNumbers}
 use Rattle.reading.specs.Speech.{toldOf}
 use lib.ListN.{length}
@@ -12,14 +12,14 @@ use borrow.Author.Needs.{needs}
 use Rattle.transcript.proofs.speak.Statement.{statement}
 use Rattle.transcript.proofs.speak.Tie as tie
 
-slice-aggregate-walk-valid : tie.Need-slice-aggregate-walk-valid
-slice-aggregate-walk-valid c = search needs
+slice-aggregate-speak-words : tie.Need-slice-aggregate-speak-words
+slice-aggregate-speak-words c = search needs
 
-slice-aggregate-walk-valid-2 : tie.Need-slice-aggregate-walk-valid-2
-slice-aggregate-walk-valid-2 c = search needs
+slice-aggregate-speak-words-2 : tie.Need-slice-aggregate-speak-words-2
+slice-aggregate-speak-words-2 c = search needs
 
-walk-valid-requires : tie.Need-walk-valid-requires
-walk-valid-requires c κs = search needs
+speak-words-requires : tie.Need-speak-words-requires
+speak-words-requires c κs = search needs
 
 slice-aggregate-answer-line : tie.Need-slice-aggregate-answer-line
 slice-aggregate-answer-line c = search needs
@@ -31,7 +31,7 @@ answer-line-requires : tie.Need-answer-line-requires
 unfolding lentPhones lentNumbers
 answer-line-requires c κs =
     let a = c .before .before .before .before .before .before .before .before .before .before .before .before .before .args in
-    let w = c .before .before .before .before .before .walk-valid in
+    let w = c .before .before .before .before .before .speak-words in
     let lp : length (w .last .1 .1 .1 .1 .0) ≡ 256 = search needs in
     let ln : length (w .last .1 .1 .1 .1 .1 .0) ≡ 64 = search needs in
     (omega arith, (omega arith, (search needs, told-within (a .image .now) (a .words .now) (a .sets .now) (a .name .now) (toldOf (w .result .speech)) (w .result .steps) (w .last .1 .1 .1 .1 .0) (w .last .1 .1 .1 .1 .1 .0) (w .ensures) _ _ lp ln)))
@@ -43,8 +43,8 @@ returns : tie.Need-returns
 unfolding lentPhones lentNumbers
 returns c =
     let a = c .before .before .before .before .before .before .before .before .before .before .before .before .before .before .before .before .args in
-    let w = c .before .before .before .before .before .before .before .before .walk-valid in
-    let e = spelt-is (a .image .now) (a .words .now) (a .sets .now) (a .name .now) (toldOf (w .result .speech)) (w .result .steps) (w .last .1 .1 .1 .1 .0) (w .last .1 .1 .1 .1 .1 .0) (w .ensures) in
+    let w = c .before .before .before .before .before .before .before .before .speak-words in
+    let e = nameLine-is (a .image .now) (a .words .now) (a .sets .now) (a .name .now) (toldOf (w .result .speech)) (w .result .steps) (w .last .1 .1 .1 .1 .0) (w .last .1 .1 .1 .1 .1 .0) (w .ensures) in
     let s = c .before .before .answer-line in
     (s .ensures .0 ∙ ap length e, s .ensures .1 ∙ ap (λ (l : List ℕ). over l (a .out .now)) e)
 
@@ -52,9 +52,9 @@ pub speak-spec : {M : Type 1} → statement M
 speak-spec =
     tie.close
     (tie.spec
-    slice-aggregate-walk-valid
-    slice-aggregate-walk-valid-2
-    walk-valid-requires
+    slice-aggregate-speak-words
+    slice-aggregate-speak-words-2
+    speak-words-requires
     slice-aggregate-answer-line
     slice-aggregate-answer-line-2
     answer-line-requires

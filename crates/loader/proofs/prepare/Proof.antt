@@ -1,9 +1,9 @@
-use Rattle.transcript.proofs.Preparing.{too-long, refused-file, built-file, never-taken, accepted-valid}
+use Rattle.loader.proofs.Preparing.{too-long, refused-file, built-file, never-taken, accepted-valid}
 use Rattle.rules.specs.Refusals.{replyOf, refusalNumber, refusalPlace}
--- `transcript::prepare` meets its contract; what a build accepts is a ruleset. Assumes nothing.
+-- `loader::prepare` meets its contract; what a build accepts is a ruleset. Assumes nothing.
 use borrow.Author.Needs.{needs}
-use Rattle.transcript.proofs.prepare.Statement.{statement}
-use Rattle.transcript.proofs.prepare.Tie as tie
+use Rattle.loader.proofs.prepare.Statement.{statement}
+use Rattle.loader.proofs.prepare.Tie as tie
 
 returns : tie.Need-returns
 returns c =

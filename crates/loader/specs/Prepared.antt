@@ -6,6 +6,7 @@ use mathlib.Core.List.{List}
 use lib.Dec.{leb}
 use lib.ListN.{length}
 use Rattle.rules.specs.Refusals.{Reply, accepted, declined}
+use Rattle.image.specs.Image.{imageSize}
 use Rattle.tables.specs.Words.{Built, built}
 use Rattle.file.specs.Loading.{loaded}
 
@@ -31,8 +32,11 @@ abbrev pub onward : Reply → List ℕ → List ℕ → List ℕ → Prepared
 onward accepted image words sets = withTables image (built image words sets)
 onward (declined n p) image words sets = ready (declined n p) image words sets
 
--- 13 with place 32,768 for a longer file, then the refusals of the reading, then those of the build
+-- 0 for memory too short for a ruleset; 13 with place 32,768 for a longer file; then the refusals of the reading, then those of the build
 unfoldable pub prepared : List ℕ → List ℕ → List ℕ → List ℕ → Prepared
 prepared rules image words sets =
-    cond (leb (length rules) maxInput) (onward (loaded rules image .reply) (loaded rules image .image) words sets)
-    (ready (declined 13 maxInput) image words sets)
+    cond (leb imageSize (length image))
+    (cond (leb (length rules) maxInput)
+    (onward (loaded rules image .reply) (loaded rules image .image) words sets)
+    (ready (declined 13 maxInput) image words sets))
+    (ready (declined 0 0) image words sets)

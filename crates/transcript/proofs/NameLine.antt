@@ -15,7 +15,7 @@ use Rattle.frames.specs.declared.Line.{Line}
 use Rattle.frames.specs.Lines.{Parsed, soundLine, decoded, report}
 use Rattle.frames.proofs.Lines.{sound-was}
 use Rattle.frames.proofs.Report.{Found, found, not-found, decoded-sound}
-use Rattle.transcript.specs.Names.{unsound, name, lettersIn, asked, cut, heard}
+use Rattle.transcript.specs.Names.{unsound, name, lettersIn, asked, cut, nameIn}
 
 -- ---- 67 bytes of a frame
 
@@ -54,8 +54,8 @@ long-letters f h = sym (take-take 65 (length f - 2) (drop 1 f) (omega arith))
 module _ (text : List ℕ) (at : ℕ) (line : Line) (xs z : List ℕ)
     (e : line ≡ report (length text) (soundLine (drop at text)))
     (h : z ≡ over (take (length xs) (decoded (drop at text))) xs) (n : length xs ≡ 67) where
-  pub heard-bad : line .sound ≡ false → heard 0 z ≡ cut (asked (soundLine (drop at text)))
-  heard-bad s = sym (ap (λ (l : Parsed). cut (asked l)) (not-found text at line e s))
+  pub nameIn-bad : line .sound ≡ false → nameIn 0 z ≡ cut (asked (soundLine (drop at text)))
+  nameIn-bad s = sym (ap (λ (l : Parsed). cut (asked l)) (not-found text at line e s))
 
   module _ (s : line .sound ≡ true) where
     g : Found text at line
@@ -73,21 +73,21 @@ module _ (text : List ℕ) (at : ℕ) (line : Line) (xs z : List ℕ)
     said : cut (asked (soundLine (drop at text))) ≡ cut (cond (eqb (getD z 0 0) 3) (name (lettersIn (g .f))) unsound)
     said = ap (λ (l : Parsed). cut (asked l)) (g .is) ∙ ap (λ (k : ℕ). cut (cond (eqb k 3) (name (lettersIn (g .f))) unsound)) (sym first)
 
-    pub heard-other : eqb (getD z 0 0) 3 ≡ false → heard 0 z ≡ cut (asked (soundLine (drop at text)))
-    heard-other o = sym (said ∙ ap (λ (b : Bool). cut (cond b (name (lettersIn (g .f))) unsound)) o)
+    pub nameIn-other : eqb (getD z 0 0) 3 ≡ false → nameIn 0 z ≡ cut (asked (soundLine (drop at text)))
+    nameIn-other o = sym (said ∙ ap (λ (b : Bool). cut (cond b (name (lettersIn (g .f))) unsound)) o)
 
     module _ (o : eqb (getD z 0 0) 3 ≡ true) where
       named : cut (asked (soundLine (drop at text))) ≡ name (take 65 (lettersIn (g .f)))
       named = said ∙ ap (λ (b : Bool). cut (cond b (name (lettersIn (g .f))) unsound)) o
 
-      pub heard-long : 67 < line .len → heard 66 z ≡ cut (asked (soundLine (drop at text)))
-      heard-long l =
+      pub nameIn-long : 67 < line .len → nameIn 66 z ≡ cut (asked (soundLine (drop at text)))
+      nameIn-long l =
           let m = g .many in
           ap (λ (w : List ℕ). name (take 65 (drop 1 w))) held
           ∙ (ap name (letters-kept (g .f) xs 65 (omega arith) (omega arith) ∙ long-letters (g .f) (omega arith)) ∙ sym named)
 
-      pub heard-short : line .len ≤ 67 → heard (line .len - 1) z ≡ cut (asked (soundLine (drop at text)))
-      heard-short l =
+      pub nameIn-short : line .len ≤ 67 → nameIn (line .len - 1) z ≡ cut (asked (soundLine (drop at text)))
+      nameIn-short l =
           let m = g .many in
           let k : line .len - 1 - 1 ≡ length (g .f) - 2 = omega (arith, two) in
           ap (λ (b : Bool). cond b unsound (name (take (line .len - 1 - 1) (drop 1 z)))) (ne-eqb (line .len - 1) 0 (omega (arith, two)))
