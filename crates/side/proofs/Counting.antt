@@ -5,8 +5,9 @@ use Prim.Native.Nat.{ℕ, _+_, _*_, _≤_, _<_}
 use native.Mathlib.Omega.{arith}
 use mathlib.Core.List.{List}
 use lib.ListN.{length, getD}
+use Rattle.tables.specs.Words.{rowSize}
 use Rattle.tables.specs.States.{states}
-use Rattle.side.specs.Patterns.{patternAt, patternsOf, Patterns, stateCount}
+use Rattle.side.specs.Patterns.{patternAt, patternsOf, Patterns, stateCount, maxPattern}
 use Rattle.side.specs.Wrote.{Wrote, Past}
 use Rattle.side.specs.Steps.{cell, Descended, Numbered, Counted}
 use Rattle.side.specs.declared.Place.{Place}
@@ -16,9 +17,9 @@ use Rattle.side.proofs.Inserting as I
 module _ (ps ls : List ℕ) (i : ℕ) where
   pub record Symbols (xs ys : List ℕ) (at : Place) (m : ℕ) : Type 0 where
     pub numbered : I.Symbols ps ls i (cell ys) (at .state) (at .count) m
-    pub past : Past (64 * at .count) xs ys
+    pub past : Past (rowSize * at .count) xs ys
 
-module _ (ps ls : List ℕ) (i : ℕ) (ok : Patterns ps ls (i + 1)) (xs : List ℕ) (room : 64 * stateCount ps ls (i + 1) ≤ length xs) where
+module _ (ps ls : List ℕ) (i : ℕ) (ok : Patterns ps ls (i + 1)) (xs : List ℕ) (room : rowSize * stateCount ps ls (i + 1) ≤ length xs) where
   pub begin : (n : ℕ) → Numbered (states (patternsOf ps ls i)) xs → n ≡ stateCount ps ls i → Symbols ps ls i xs xs (record { state = 0; count = n }) 0
   begin n nb f =
       record {
@@ -35,12 +36,12 @@ module _ (ps ls : List ℕ) (i : ℕ) (ok : Patterns ps ls (i + 1)) (xs : List �
 
     module _ (h : m < getD ls i 0) where
       abbrev c : ℕ
-      c = getD ps (10 * i + m) 0
+      c = getD ps (maxPattern * i + m) 0
 
-      small : c < 64
+      small : c < rowSize
       small = I.symbols-small ps ls i ok (cell ys) (at .state) (at .count) m (s .numbered) h
 
-      pub asks : (c < 64) × (at .state < at .count) × (at .count < 65536) × (64 * at .count ≤ length ys) × (cell ys (at .state) c ≡ 0 → 64 * at .count + 64 ≤ length ys)
+      pub asks : (c < rowSize) × (at .state < at .count) × (at .count < 65536) × (rowSize * at .count ≤ length ys) × (cell ys (at .state) c ≡ 0 → rowSize * at .count + rowSize ≤ length ys)
       asks = (
         small,
         lt,
@@ -65,7 +66,7 @@ module _ (ps ls : List ℕ) (i : ℕ) (ok : Patterns ps ls (i + 1)) (xs : List �
 
 -- ---- the patterns
 
-pub first : (ps ls xs ys : List ℕ) → Wrote xs 0 64 (λ _. 0) ys → Counted ps ls 0 ys 1 ys
+pub first : (ps ls xs ys : List ℕ) → Wrote xs 0 rowSize (λ _. 0) ys → Counted ps ls 0 ys 1 ys
 unfolding patternsOf
 first ps ls xs ys w =
     record {
@@ -86,7 +87,7 @@ another ps ls n i xs ys zs count r h a b =
     }
 
 -- what the first row's clearing left, too
-pub all : (ps ls : List ℕ) (n : ℕ) (xs ys zs : List ℕ) (r : ℕ) → Wrote xs 0 64 (λ _. 0) ys → Counted ps ls n ys r zs → Counted ps ls n xs r zs
+pub all : (ps ls : List ℕ) (n : ℕ) (xs ys zs : List ℕ) (r : ℕ) → Wrote xs 0 rowSize (λ _. 0) ys → Counted ps ls n ys r zs → Counted ps ls n xs r zs
 all ps ls n xs ys zs r w a =
     record {
       count = a .count;

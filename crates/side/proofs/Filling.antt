@@ -13,10 +13,10 @@ use Rattle.rules.specs.Memory.{over}
 use Rattle.reading.specs.Fitting.{Str}
 use Rattle.tables.specs.States.{states, member, index, longest, numbered}
 use Rattle.tables.proofs.Trie.{failure}
-use Rattle.tables.specs.Words.{tab}
+use Rattle.tables.specs.Words.{tab, rowSize, setSize}
 use Rattle.tables.proofs.Numbering.{index-lt}
 use Rattle.tables.proofs.Words.{length-tab, getD-tab}
-use Rattle.side.specs.Patterns.{patternsOf, Patterns, stateCount}
+use Rattle.side.specs.Patterns.{patternsOf, Patterns, stateCount, maxPattern}
 use Rattle.side.specs.Wrote.{Wrote, Past}
 use Rattle.side.specs.Steps.{cell, run, part, Inside, Symbols, Numbered}
 use Rattle.side.specs.Filled.{Level, Final, Owned, Finished, Raised, sideRows, sideSets}
@@ -49,19 +49,19 @@ module _ (ps ls : List ℕ) (n : ℕ) (ok : Patterns ps ls n) where
 
     -- the first d symbols, and their run
     module _ (d : ℕ) (l : d ≤ getD ls i 0) where
-      prefix-is : part ps (10 * i) (10 * i + d) ≡ take d (getD pats i [])
+      prefix-is : part ps (maxPattern * i) (maxPattern * i + d) ≡ take d (getD pats i [])
       prefix-is = part-is ps ls i d l ∙ ap (take d) (sym (patterns-at ps ls n i h))
 
-      pub symbols : Symbols ps (10 * i) (10 * i + d)
+      pub symbols : Symbols ps (maxPattern * i) (maxPattern * i + d)
       symbols = symbols-of ps ls n i d ok h l
 
-      pub run-is : (rows : List ℕ) → Cells pats rows → run (cell rows) 0 (part ps (10 * i) (10 * i + d)) ≡ index (take d (getD pats i [])) st
+      pub run-is : (rows : List ℕ) → Cells pats rows → run (cell rows) 0 (part ps (maxPattern * i) (maxPattern * i + d)) ≡ index (take d (getD pats i [])) st
       run-is rows cs =
-          run-own pats rows cs (part ps (10 * i) (10 * i + d)) (small-part ps (10 * i) (10 * i + d) symbols)
+          run-own pats rows cs (part ps (maxPattern * i) (maxPattern * i + d)) (small-part ps (maxPattern * i) (maxPattern * i + d) symbols)
           (ap (λ (w : Str). member w st) prefix-is ∙ prefix-member pats i d in-list)
           ∙ ap (λ (w : Str). index w st) prefix-is
 
-      pub prefix-lt : (rows : List ℕ) → Cells pats rows → run (cell rows) 0 (part ps (10 * i) (10 * i + d)) < length st
+      pub prefix-lt : (rows : List ℕ) → Cells pats rows → run (cell rows) 0 (part ps (maxPattern * i) (maxPattern * i + d)) < length st
       prefix-lt rows cs = rw (run-is rows cs) (index-lt (take d (getD pats i [])) st (prefix-member pats i d in-list))
 
     -- ---- the own sets
@@ -71,12 +71,12 @@ module _ (ps ls : List ℕ) (n : ℕ) (ok : Patterns ps ls n) where
         let e = patterns-at ps ls n i h in
         take-all (getD ls i 0) (getD pats i []) (omega (arith, ap length e, pattern-length ps ls n ok i h))
 
-    pub own-next : (rows sets sets′ : List ℕ) (q e count : ℕ) → Numbered st rows → Owned pats i sets → e ≡ 10 * i + getD ls i 0 → q ≡ run (cell rows) 0 (part ps (10 * i) e)
-        → Wrote sets (8 * q + i / 64) 1 (λ _. bitOr (getD sets (8 * q + i / 64) 0) (2 ^ (i % 64))) sets′ → Owned pats (i + 1) sets′
+    pub own-next : (rows sets sets′ : List ℕ) (q e count : ℕ) → Numbered st rows → Owned pats i sets → e ≡ maxPattern * i + getD ls i 0 → q ≡ run (cell rows) 0 (part ps (maxPattern * i) e)
+        → Wrote sets (setSize * q + i / 64) 1 (λ _. bitOr (getD sets (setSize * q + i / 64) 0) (2 ^ (i % 64))) sets′ → Owned pats (i + 1) sets′
     own-next rows sets sets′ q e count nb own f g w =
         O.put pats i in-list q sets sets′ own
         (subst (λ (x : Str). member x st ≡ true) pattern-is (prefix-member pats i (getD ls i 0) in-list))
-        (g ∙ ap (λ (k : ℕ). run (cell rows) 0 (part ps (10 * i) k)) f ∙ run-is (getD ls i 0) (omega arith) rows (numbered-cells pats rows nb) ∙ ap (λ (x : Str). index x st) pattern-is)
+        (g ∙ ap (λ (k : ℕ). run (cell rows) 0 (part ps (maxPattern * i) k)) f ∙ run-is (getD ls i 0) (omega arith) rows (numbered-cells pats rows nb) ∙ ap (λ (x : Str). index x st) pattern-is)
         w (omega (arith, ok .few))
 
     -- ---- one length
@@ -89,13 +89,13 @@ module _ (ps ls : List ℕ) (n : ℕ) (ok : Patterns ps ls n) where
       level-skip l = R.skip pats rows sets d i lv in-list (omega (arith, ap length (patterns-at ps ls n i h), pattern-length ps ls n ok i h))
 
       module _ (pos : 0 < d) (l : d ≤ getD ls i 0) where
-        q-is : run (cell rows) 0 (part ps (10 * i) (10 * i + d)) ≡ index (take d (getD pats i [])) st
+        q-is : run (cell rows) 0 (part ps (maxPattern * i) (maxPattern * i + d)) ≡ index (take d (getD pats i [])) st
         q-is = run-is d l rows (level-cells pats rows sets d i lv)
 
-        f-is : run (cell rows) 0 (part ps (10 * i + 1) (10 * i + d)) ≡ failure st (index (take d (getD pats i [])) st)
+        f-is : run (cell rows) 0 (part ps (maxPattern * i + 1) (maxPattern * i + d)) ≡ failure st (index (take d (getD pats i [])) st)
         f-is =
-            let a = 10 * i in
-            let e = 10 * i + d in
+            let a = maxPattern * i in
+            let e = maxPattern * i + d in
             let s = symbols d l in
             let t : part ps (a + 1) e ≡ tail (take d (getD pats i [])) = part-tail ps a e (omega arith) (s .inside) ∙ ap tail (prefix-is d l) in
             run-fail pats rows sets d (lv .final) (part ps (a + 1) e) (small-part ps (a + 1) e (symbols-rest ps a e s (omega arith))) (short (a + 1) e (omega arith))
@@ -105,21 +105,21 @@ module _ (ps ls : List ℕ) (n : ℕ) (ok : Patterns ps ls n) where
             short : (b e : ℕ) → e - b ≤ d → length (part ps b e) ≤ d
             short b e h = simp length-take (omega arith)
 
-        pub differ : run (cell rows) 0 (part ps (10 * i) (10 * i + d)) ≡ run (cell rows) 0 (part ps (10 * i + 1) (10 * i + d)) → ⊥
+        pub differ : run (cell rows) 0 (part ps (maxPattern * i) (maxPattern * i + d)) ≡ run (cell rows) 0 (part ps (maxPattern * i + 1) (maxPattern * i + d)) → ⊥
         differ e = R.differ pats rows sets d i lv in-list pos (long-is d l) (sym q-is ∙ e ∙ f-is)
 
-        pub level-again : run (cell rows) 0 (part ps (10 * i) (10 * i + d)) < length (states (take i pats)) → Level pats rows sets d (i + 1)
+        pub level-again : run (cell rows) 0 (part ps (maxPattern * i) (maxPattern * i + d)) < length (states (take i pats)) → Level pats rows sets d (i + 1)
         level-again low = R.again pats rows sets d i lv in-list pos (long-is d l) (subst (λ (q : ℕ). q < length (states (take i pats))) q-is low)
 
         pub level-next : (rows′ sets′ : List ℕ)
-            → Finished rows sets (run (cell rows) 0 (part ps (10 * i) (10 * i + d))) (run (cell rows) 0 (part ps (10 * i + 1) (10 * i + d))) rows′ sets′ → Level pats rows′ sets′ d (i + 1)
+            → Finished rows sets (run (cell rows) 0 (part ps (maxPattern * i) (maxPattern * i + d))) (run (cell rows) 0 (part ps (maxPattern * i + 1) (maxPattern * i + d))) rows′ sets′ → Level pats rows′ sets′ d (i + 1)
         level-next rows′ sets′ f =
             R.next pats rows sets d i lv in-list pos (long-is d l) rows′ sets′ (subst₂ (λ (x y : ℕ). Finished rows sets x y rows′ sets′) q-is f-is f)
 
-  pub level-inside : (rows sets : List ℕ) (d i : ℕ) → Level pats rows sets d i → 64 * stateCount ps ls n ≤ length rows → Inside rows (stateCount ps ls n)
+  pub level-inside : (rows sets : List ℕ) (d i : ℕ) → Level pats rows sets d i → rowSize * stateCount ps ls n ≤ length rows → Inside rows (stateCount ps ls n)
   level-inside rows sets d i lv h = inside pats rows (level-cells pats rows sets d i lv) h
 
-  pub own-inside : (rows : List ℕ) → Numbered st rows → 64 * stateCount ps ls n ≤ length rows → Inside rows (stateCount ps ls n)
+  pub own-inside : (rows : List ℕ) → Numbered st rows → rowSize * stateCount ps ls n ≤ length rows → Inside rows (stateCount ps ls n)
   own-inside rows nb h = inside pats rows (numbered-cells pats rows nb) h
 
   pub level-end : (rows sets : List ℕ) (d : ℕ) → 0 < d → Level pats rows sets d n → Level pats rows sets (d + 1) 0
@@ -137,19 +137,19 @@ module _ (ps ls : List ℕ) (n count d : ℕ) (xs zs : List ℕ) where
     pub reached : i ≤ n
     pub level : Level (patternsOf ps ls n) rows sets d i
     pub low : top < length (states (take i (patternsOf ps ls n)))
-    pub rowsPast : Past (64 * count) xs rows
-    pub setsPast : Past (8 * count) zs sets
+    pub rowsPast : Past (rowSize * count) xs rows
+    pub setsPast : Past (setSize * count) zs sets
 
 pub rise-same : {ps ls xs zs rows sets rows′ sets′ : List ℕ} {n count d i top top′ : ℕ} → rows′ ≡ rows → sets′ ≡ sets → top′ ≡ top → Rising ps ls n count d xs zs rows sets top i → Rising ps ls n count d xs zs rows′ sets′ top′ i
 rise-same {ps} {ls} {xs} {zs} {rows} {sets} {rows′} {sets′} {n} {count} {d} {i} {top} {top′} a b e r =
     subst (λ (t : ℕ). Rising ps ls n count d xs zs rows′ sets′ t i) (sym e) (subst₂ (λ (x y : List ℕ). Rising ps ls n count d xs zs x y top i) (sym a) (sym b) r)
 
-module _ (ps ls : List ℕ) (n count d : ℕ) (xs zs : List ℕ) (ok : Patterns ps ls n) (cn : count ≡ stateCount ps ls n) (room : 64 * count ≤ length xs) (place : 8 * count ≤ length zs) (pos : 0 < d) where
+module _ (ps ls : List ℕ) (n count d : ℕ) (xs zs : List ℕ) (ok : Patterns ps ls n) (cn : count ≡ stateCount ps ls n) (room : rowSize * count ≤ length xs) (place : setSize * count ≤ length zs) (pos : 0 < d) where
   pub rise-begin : Level (patternsOf ps ls n) xs zs d 0 → Rising ps ls n count d xs zs xs zs 0 0
-  rise-begin lv = record { reached = omega arith; level = lv; low = some-state []; rowsPast = past-none (64 * count) xs; setsPast = past-none (8 * count) zs }
+  rise-begin lv = record { reached = omega arith; level = lv; low = some-state []; rowsPast = past-none (rowSize * count) xs; setsPast = past-none (setSize * count) zs }
 
   module _ (rows sets : List ℕ) (top i : ℕ) (r : Rising ps ls n count d xs zs rows sets top i) where
-    pub rise-end : n ≤ i → (Level (patternsOf ps ls n) rows sets (d + 1) 0) × (Past (64 * count) xs rows) × (Past (8 * count) zs sets)
+    pub rise-end : n ≤ i → (Level (patternsOf ps ls n) rows sets (d + 1) 0) × (Past (rowSize * count) xs rows) × (Past (setSize * count) zs sets)
     rise-end h =
         let e : i ≡ n = omega (arith, r .reached) in
         (level-end ps ls n ok rows sets d pos (subst (Level (patternsOf ps ls n) rows sets d) e (r .level)), r .rowsPast, r .setsPast)
@@ -171,15 +171,15 @@ module _ (ps ls : List ℕ) (n count d : ℕ) (xs zs : List ℕ) (ok : Patterns 
 
       module _ (l : d ≤ getD ls i 0) where
         abbrev q : ℕ
-        q = run (cell rows) 0 (part ps (10 * i) (10 * i + d))
+        q = run (cell rows) 0 (part ps (maxPattern * i) (maxPattern * i + d))
 
         abbrev f : ℕ
-        f = run (cell rows) 0 (part ps (10 * i + 1) (10 * i + d))
+        f = run (cell rows) 0 (part ps (maxPattern * i + 1) (maxPattern * i + d))
 
         within : Inside rows count
         within = subst (Inside rows) (sym cn) (level-inside ps ls n ok rows sets d i (r .level) (omega (arith, cn, r .rowsPast .len)))
 
-        pub rise-asks : (Inside rows count) × (8 * count ≤ length sets) × (Symbols ps (10 * i) (10 * i + d)) × (10 * i < 10 * i + d) × (q ≡ f → ⊥)
+        pub rise-asks : (Inside rows count) × (setSize * count ≤ length sets) × (Symbols ps (maxPattern * i) (maxPattern * i + d)) × (maxPattern * i < maxPattern * i + d) × (q ≡ f → ⊥)
         rise-asks = (within, omega (arith, r .setsPast .len), symbols ps ls n ok i h d l, omega arith, differ ps ls n ok i h rows sets d (r .level) pos l)
 
         cells : Cells (patternsOf ps ls n) rows
@@ -192,8 +192,8 @@ module _ (ps ls : List ℕ) (n count d : ℕ) (xs zs : List ℕ) (ok : Patterns 
               reached = omega arith;
               level = level-next ps ls n ok i h rows sets d (r .level) pos l rows′ sets′ fin;
               low = rw (run-is ps ls n ok i h d l rows cells) (prefix-early (patternsOf ps ls n) i (in-list ps ls n ok i h) d);
-              rowsPast = past-more (64 * count) xs rows rows′ (r .rowsPast) (past-wrote (64 * count) (64 * q) 64 _ rows rows′ (fin .row) (omega (arith, cn)));
-              setsPast = past-more (8 * count) zs sets sets′ (r .setsPast) (past-wrote (8 * count) (8 * q) 8 _ sets sets′ (fin .set) (omega (arith, cn)));
+              rowsPast = past-more (rowSize * count) xs rows rows′ (r .rowsPast) (past-wrote (rowSize * count) (rowSize * q) rowSize _ rows rows′ (fin .row) (omega (arith, cn)));
+              setsPast = past-more (setSize * count) zs sets sets′ (r .setsPast) (past-wrote (setSize * count) (setSize * q) setSize _ sets sets′ (fin .set) (omega (arith, cn)));
             }
 
         -- the state of pattern i is an earlier one's, or it is completed now
@@ -214,27 +214,27 @@ module _ (ps ls : List ℕ) (n count : ℕ) (zs : List ℕ) where
   pub record Owning (sets : List ℕ) (i : ℕ) : Type 0 where
     pub reached : i ≤ n
     pub owned : Owned (patternsOf ps ls n) i sets
-    pub setsPast : Past (8 * count) zs sets
+    pub setsPast : Past (setSize * count) zs sets
 
-module _ (ps ls : List ℕ) (n count : ℕ) (zs rows : List ℕ) (ok : Patterns ps ls n) (cn : count ≡ stateCount ps ls n) (room : 64 * count ≤ length rows) (place : 8 * count ≤ length zs) (nb : Numbered (states (patternsOf ps ls n)) rows) where
+module _ (ps ls : List ℕ) (n count : ℕ) (zs rows : List ℕ) (ok : Patterns ps ls n) (cn : count ≡ stateCount ps ls n) (room : rowSize * count ≤ length rows) (place : setSize * count ≤ length zs) (nb : Numbered (states (patternsOf ps ls n)) rows) where
   pub own-begin : Owned (patternsOf ps ls n) 0 zs → Owning ps ls n count zs zs 0
-  own-begin o = record { reached = omega arith; owned = o; setsPast = past-none (8 * count) zs }
+  own-begin o = record { reached = omega arith; owned = o; setsPast = past-none (setSize * count) zs }
 
   module _ (sets : List ℕ) (i : ℕ) (r : Owning ps ls n count zs sets i) where
-    pub own-end : n ≤ i → (Owned (patternsOf ps ls n) n sets) × (Past (8 * count) zs sets)
+    pub own-end : n ≤ i → (Owned (patternsOf ps ls n) n sets) × (Past (setSize * count) zs sets)
     own-end h = (subst (λ (k : ℕ). Owned (patternsOf ps ls n) k sets) (let e : i ≡ n = omega (arith, r .reached) in e) (r .owned), r .setsPast)
 
     module _ (h : i < n) (w : ℕ) (wi : w ≡ getD ls i 0) where
-      pub own-asks : (Inside rows count) × (Symbols ps (10 * i) (10 * i + w))
+      pub own-asks : (Inside rows count) × (Symbols ps (maxPattern * i) (maxPattern * i + w))
       own-asks = (subst (Inside rows) (sym cn) (own-inside ps ls n ok rows nb (omega (arith, cn))), symbols ps ls n ok i h w (omega arith))
 
-      pub own-another : (q : ℕ) (sets′ : List ℕ) → (q ≡ run (cell rows) 0 (part ps (10 * i) (10 * i + w))) → q < count
-          → Wrote sets (8 * q + i / 64) 1 (λ _. bitOr (getD sets (8 * q + i / 64) 0) (2 ^ (i % 64))) sets′ → Owning ps ls n count zs sets′ (i + 1)
+      pub own-another : (q : ℕ) (sets′ : List ℕ) → (q ≡ run (cell rows) 0 (part ps (maxPattern * i) (maxPattern * i + w))) → q < count
+          → Wrote sets (setSize * q + i / 64) 1 (λ _. bitOr (getD sets (setSize * q + i / 64) 0) (2 ^ (i % 64))) sets′ → Owning ps ls n count zs sets′ (i + 1)
       own-another q sets′ e b o =
           record {
             reached = omega arith;
-            owned = own-next ps ls n ok i h rows sets sets′ q (10 * i + w) count nb (r .owned) (omega arith) e o;
-            setsPast = past-more (8 * count) zs sets sets′ (r .setsPast) (past-wrote (8 * count) (8 * q + i / 64) 1 _ sets sets′ o (omega (arith, ok .few)));
+            owned = own-next ps ls n ok i h rows sets sets′ q (maxPattern * i + w) count nb (r .owned) (omega arith) e o;
+            setsPast = past-more (setSize * count) zs sets sets′ (r .setsPast) (past-wrote (setSize * count) (setSize * q + i / 64) 1 _ sets sets′ o (omega (arith, ok .few)));
           }
 
 -- ---- the whole side
@@ -261,67 +261,67 @@ past-from : (k m : ℕ) (xs ys : List ℕ) → k ≡ m → Past k xs ys → Past
 past-from k m xs ys e p = subst (λ (j : ℕ). Past j xs ys) e p
 
 module _ (ps ls : List ℕ) (n : ℕ) (ok : Patterns ps ls n) where
-  module _ (rows sets : List ℕ) (lv : Level (patternsOf ps ls n) rows sets 11 0) where
+  module _ (rows sets : List ℕ) (lv : Level (patternsOf ps ls n) rows sets (maxPattern + 1) 0) where
     all-final : (q : ℕ) → q < stateCount ps ls n → Final (patternsOf ps ls n) rows sets q
     all-final =
-        R.level-all (patternsOf ps ls n) rows sets 10 lv
+        R.level-all (patternsOf ps ls n) rows sets maxPattern lv
         (λ k h.
         let g : k < n = omega (arith, patterns-length ps ls n) in
         omega (arith, ap length (patterns-at ps ls n k g), pattern-length ps ls n ok k g, ok .short k g))
 
-    pub rows-filled : (xs : List ℕ) → 64 * stateCount ps ls n ≤ length xs → Past (64 * stateCount ps ls n) xs rows → rows ≡ over (sideRows (patternsOf ps ls n)) xs
+    pub rows-filled : (xs : List ℕ) → rowSize * stateCount ps ls n ≤ length xs → Past (rowSize * stateCount ps ls n) xs rows → rows ≡ over (sideRows (patternsOf ps ls n)) xs
     rows-filled xs h p =
-        over-tab (64 * stateCount ps ls n) _ xs rows h p
+        over-tab (rowSize * stateCount ps ls n) _ xs rows h p
         (λ k l.
-        let e : 64 * (k / 64) + k % 64 ≡ k = omega arith in
-        ap (λ (j : ℕ). getD rows j 0) (sym e) ∙ all-final (k / 64) (omega arith) .row (k % 64) (omega arith))
+        let e : rowSize * (k / rowSize) + k % rowSize ≡ k = omega arith in
+        ap (λ (j : ℕ). getD rows j 0) (sym e) ∙ all-final (k / rowSize) (omega arith) .row (k % rowSize) (omega arith))
 
-    pub sets-filled : (xs : List ℕ) → 8 * stateCount ps ls n ≤ length xs → Past (8 * stateCount ps ls n) xs sets → sets ≡ over (sideSets (patternsOf ps ls n)) xs
+    pub sets-filled : (xs : List ℕ) → setSize * stateCount ps ls n ≤ length xs → Past (setSize * stateCount ps ls n) xs sets → sets ≡ over (sideSets (patternsOf ps ls n)) xs
     sets-filled xs h p =
-        over-tab (8 * stateCount ps ls n) _ xs sets h p
+        over-tab (setSize * stateCount ps ls n) _ xs sets h p
         (λ k l.
-        let e : 8 * (k / 8) + k % 8 ≡ k = omega arith in
-        ap (λ (j : ℕ). getD sets j 0) (sym e) ∙ all-final (k / 8) (omega arith) .set (k % 8) (omega arith))
+        let e : setSize * (k / setSize) + k % setSize ≡ k = omega arith in
+        ap (λ (j : ℕ). getD sets j 0) (sym e) ∙ all-final (k / setSize) (omega arith) .set (k % setSize) (omega arith))
 
-  pub none-yet : (count : ℕ) (xs ys : List ℕ) → count ≡ stateCount ps ls n → Wrote xs 0 (8 * count) (λ _. 0) ys → Owned (patternsOf ps ls n) 0 ys
-  none-yet count xs ys e w = O.none-owned (patternsOf ps ls n) xs ys (subst (λ (k : ℕ). Wrote xs 0 (8 * k) (λ _. 0) ys) e w)
+  pub none-yet : (count : ℕ) (xs ys : List ℕ) → count ≡ stateCount ps ls n → Wrote xs 0 (setSize * count) (λ _. 0) ys → Owned (patternsOf ps ls n) 0 ys
+  none-yet count xs ys e w = O.none-owned (patternsOf ps ls n) xs ys (subst (λ (k : ℕ). Wrote xs 0 (setSize * k) (λ _. 0) ys) e w)
 
 -- the loop over the lengths
 module _ (ps ls : List ℕ) (n count : ℕ) (xs zs : List ℕ) where
   pub record Filling (rows sets : List ℕ) (d : ℕ) : Type 0 where
     pub from : 0 < d
-    pub to : d ≤ 11
+    pub to : d ≤ maxPattern + 1
     pub level : Level (patternsOf ps ls n) rows sets d 0
-    pub rowsPast : Past (64 * count) xs rows
-    pub setsPast : Past (8 * count) zs sets
+    pub rowsPast : Past (rowSize * count) xs rows
+    pub setsPast : Past (setSize * count) zs sets
 
 module _ (ps ls : List ℕ) (n count : ℕ) (xs zs : List ℕ) (ok : Patterns ps ls n) (cn : count ≡ stateCount ps ls n) where
   pub fill-begin : Numbered (states (patternsOf ps ls n)) xs → Owned (patternsOf ps ls n) n zs → Filling ps ls n count xs zs xs zs 1
   fill-begin nb own =
-      record { from = omega arith; to = omega arith; level = level-begin ps ls n ok xs zs nb own; rowsPast = past-none (64 * count) xs; setsPast = past-none (8 * count) zs }
+      record { from = omega arith; to = omega arith; level = level-begin ps ls n ok xs zs nb own; rowsPast = past-none (rowSize * count) xs; setsPast = past-none (setSize * count) zs }
 
-  pub fill-next : (rows sets rows′ sets′ : List ℕ) (d : ℕ) → d < 11 → Filling ps ls n count xs zs rows sets d
-      → (Level (patternsOf ps ls n) rows′ sets′ (d + 1) 0) × (Past (64 * count) rows rows′) × (Past (8 * count) sets sets′) → Filling ps ls n count xs zs rows′ sets′ (d + 1)
+  pub fill-next : (rows sets rows′ sets′ : List ℕ) (d : ℕ) → d ≤ maxPattern → Filling ps ls n count xs zs rows sets d
+      → (Level (patternsOf ps ls n) rows′ sets′ (d + 1) 0) × (Past (rowSize * count) rows rows′) × (Past (setSize * count) sets sets′) → Filling ps ls n count xs zs rows′ sets′ (d + 1)
   fill-next rows sets rows′ sets′ d h r s =
       record {
         from = omega arith;
         to = omega arith;
         level = s .0;
-        rowsPast = past-more (64 * count) xs rows rows′ (r .rowsPast) (s .1);
-        setsPast = past-more (8 * count) zs sets sets′ (r .setsPast) (s .2);
+        rowsPast = past-more (rowSize * count) xs rows rows′ (r .rowsPast) (s .1);
+        setsPast = past-more (setSize * count) zs sets sets′ (r .setsPast) (s .2);
       }
 
-  module _ (rows sets : List ℕ) (d : ℕ) (r : Filling ps ls n count xs zs rows sets d) (h : 11 ≤ d) where
-    top : Level (patternsOf ps ls n) rows sets 11 0
-    top = subst (λ (k : ℕ). Level (patternsOf ps ls n) rows sets k 0) (let e : d ≡ 11 = omega (arith, r .to) in e) (r .level)
+  module _ (rows sets : List ℕ) (d : ℕ) (r : Filling ps ls n count xs zs rows sets d) (h : maxPattern < d) where
+    top : Level (patternsOf ps ls n) rows sets (maxPattern + 1) 0
+    top = subst (λ (k : ℕ). Level (patternsOf ps ls n) rows sets k 0) (let e : d ≡ maxPattern + 1 = omega (arith, r .to) in e) (r .level)
 
-    pub fill-rows : (us : List ℕ) → 64 * stateCount ps ls n ≤ length us → Past (64 * count) us xs → rows ≡ over (sideRows (patternsOf ps ls n)) us
+    pub fill-rows : (us : List ℕ) → rowSize * stateCount ps ls n ≤ length us → Past (rowSize * count) us xs → rows ≡ over (sideRows (patternsOf ps ls n)) us
     fill-rows us g p =
         rows-filled ps ls n ok rows sets top us g
-        (past-from (64 * count) (64 * stateCount ps ls n) us rows (ap (λ (k : ℕ). 64 * k) cn) (past-more (64 * count) us xs rows p (r .rowsPast)))
+        (past-from (rowSize * count) (rowSize * stateCount ps ls n) us rows (ap (λ (k : ℕ). rowSize * k) cn) (past-more (rowSize * count) us xs rows p (r .rowsPast)))
 
-    pub fill-sets : (us vs : List ℕ) → 8 * stateCount ps ls n ≤ length us → Wrote us 0 (8 * count) (λ _. 0) vs → Past (8 * count) vs zs → sets ≡ over (sideSets (patternsOf ps ls n)) us
+    pub fill-sets : (us vs : List ℕ) → setSize * stateCount ps ls n ≤ length us → Wrote us 0 (setSize * count) (λ _. 0) vs → Past (setSize * count) vs zs → sets ≡ over (sideSets (patternsOf ps ls n)) us
     fill-sets us vs g w p =
         sets-filled ps ls n ok rows sets top us g
-        (past-from (8 * count) (8 * stateCount ps ls n) us sets (ap (λ (k : ℕ). 8 * k) cn)
-        (past-more (8 * count) us vs sets (past-wrote (8 * count) 0 (8 * count) _ us vs w (omega arith)) (past-more (8 * count) vs zs sets p (r .setsPast))))
+        (past-from (setSize * count) (setSize * stateCount ps ls n) us sets (ap (λ (k : ℕ). setSize * k) cn)
+        (past-more (setSize * count) us vs sets (past-wrote (setSize * count) 0 (setSize * count) _ us vs w (omega arith)) (past-more (setSize * count) vs zs sets p (r .setsPast))))

@@ -12,22 +12,23 @@ use lib.Dec.{eqb, eqb→eq}
 use lib.ListN.{length, getD, take, drop, length-append, length-take, length-drop, take-append-drop}
 use lib.Seq.{append-snoc, take-suc, take-all, getD-take, getD-drop}
 use borrow.Author.Tests.{eqb-false}
+use Rattle.tables.specs.Words.{rowSize}
 use Rattle.rules.proofs.Cases.{byBool}
 use Rattle.reading.specs.Fitting.{Str}
-use Rattle.tables.specs.States.{member, index, numberOne, states, numbered, child}
+use Rattle.tables.specs.States.{member, index, numberOne, states, numbered, child, rightStates}
 use Rattle.tables.proofs.Trie.{distinct, insert}
 use Rattle.tables.proofs.Truth.{clash, true-eq}
 use Rattle.tables.proofs.Suffix.{same-refl, Closed}
 use Rattle.tables.proofs.Count.{Within, states-length}
 use Rattle.tables.proofs.Numbering.{member-append, getD-index, index-lt, index-new, numbered-closed, numbered-nil, numbered-pattern, distinct-states, index-nil}
 use Rattle.tables.proofs.Build.{child-new, child-kept, child-fresh, other-string, child-none, states-more}
-use Rattle.side.specs.Patterns.{patternAt, patternsOf, Patterns, stateCount}
+use Rattle.side.specs.Patterns.{patternAt, patternsOf, Patterns, stateCount, maxPattern}
 use Rattle.side.specs.Steps.{Children, NewChild, Step}
 
 -- ---- one step
 
 module _ (st : List Str) (root : member [] st ≡ true) (once : distinct st ≡ true) (closed : Closed (numbered st)) (zeroth : index [] st ≡ 0)
-    (q c : ℕ) (h : q < length st) (small : c < 64) (look look′ : ℕ → ℕ → ℕ) (nb : Children st look) (r m : ℕ) (d : Step look look′ q (length st) c r m) where
+    (q c : ℕ) (h : q < length st) (small : c < rowSize) (look look′ : ℕ → ℕ → ℕ) (nb : Children st look) (r m : ℕ) (d : Step look look′ q (length st) c r m) where
   abbrev new : Str
   new = getD st q [] ++ (c ∷ [])
 
@@ -56,12 +57,12 @@ module _ (st : List Str) (root : member [] st ≡ true) (once : distinct st ≡ 
     one-more = length-append st (new ∷ [])
 
     -- the other children of the old states
-    other : (k e : ℕ) → k < length st → e < 64 → (k ≢ q) ⊎ (e ≢ c) → look′ k e ≡ child (st ++ (new ∷ [])) k e
+    other : (k e : ℕ) → k < length st → e < rowSize → (k ≢ q) ⊎ (e ≢ c) → look′ k e ≡ child (st ++ (new ∷ [])) k e
     other k e l o n =
         made .1 .1 .other k e l o n ∙ nb .children k e l o
         ∙ sym (child-kept st once closed q c h t k e l (other-string st once closed q c h t k e l n))
 
-    old-row : (k e : ℕ) → k < length st → e < 64 → look′ k e ≡ child (st ++ (new ∷ [])) k e
+    old-row : (k e : ℕ) → k < length st → e < rowSize → look′ k e ≡ child (st ++ (new ∷ [])) k e
     old-row k e l o =
         byBool (eqb k q)
         (λ u. byBool (eqb e c)
@@ -80,7 +81,7 @@ module _ (st : List Str) (root : member [] st ≡ true) (once : distinct st ≡ 
           rows = record { children = λ k e l o. both k e l o (decLe (suc k) (length st)) };
         }
       where
-        both : (k e : ℕ) → k < length (st ++ (new ∷ [])) → e < 64 → Dec (k < length st) → look′ k e ≡ child (st ++ (new ∷ [])) k e
+        both : (k e : ℕ) → k < length (st ++ (new ∷ [])) → e < rowSize → Dec (k < length st) → look′ k e ≡ child (st ++ (new ∷ [])) k e
         both k e l o (yes y) = old-row k e y o
         both k e l o (no y) =
             let a : k ≡ length st = omega (arith, one-more) in
@@ -166,7 +167,7 @@ module _ (pats : List Str) (p : Str) where
     str : getD (upto m) q [] ≡ take m p
     str = ap (λ (k : ℕ). getD (upto m) k []) (i .state) ∙ getD-index (take m p) (upto m) (has-prefix m)
 
-    module _ (h : m < length p) (small : getD p m 0 < 64) where
+    module _ (h : m < length p) (small : getD p m 0 < rowSize) where
       -- where there is no child there is one state more to come
       pub more : look q (getD p m 0) ≡ 0 → length (upto (m + 1)) ≡ n + 1
       more z =
@@ -240,26 +241,26 @@ module _ (ps ls : List ℕ) (n : ℕ) (ok : Patterns ps ls n) where
         let b = ok .room in
         simp (length-take, length-drop) (omega arith)
 
-    pub pattern-symbol : (m : ℕ) → m < getD ls i 0 → getD (patternAt ps ls i) m 0 ≡ getD ps (10 * i + m) 0
-    pattern-symbol m l = getD-take (getD ls i 0) (drop (10 * i) ps) m 0 l ∙ getD-drop (10 * i) ps m 0
+    pub pattern-symbol : (m : ℕ) → m < getD ls i 0 → getD (patternAt ps ls i) m 0 ≡ getD ps (maxPattern * i + m) 0
+    pattern-symbol m l = getD-take (getD ls i 0) (drop (maxPattern * i) ps) m 0 l ∙ getD-drop (maxPattern * i) ps m 0
 
-    pub symbol-small : (m : ℕ) → m < getD ls i 0 → getD ps (10 * i + m) 0 < 64
-    symbol-small m l = ok .small (10 * i + m) (omega (arith, ok .short i h))
+    pub symbol-small : (m : ℕ) → m < getD ls i 0 → getD ps (maxPattern * i + m) 0 < rowSize
+    symbol-small m l = ok .small (maxPattern * i + m) (omega (arith, ok .short i h))
 
 within-snoc : (b : ℕ) (l : List Str) (x : Str) → Within b l → length x ≤ b → Within b (l ++ (x ∷ []))
 unfolding Within
 within-snoc b [] x w h = (h, tt)
 within-snoc b (y ∷ l) x w h = (w .0, within-snoc b l x (w .1) h)
 
-within-all : (ps ls : List ℕ) (n : ℕ) → Patterns ps ls n → Within 10 (patternsOf ps ls n)
+within-all : (ps ls : List ℕ) (n : ℕ) → Patterns ps ls n → Within maxPattern (patternsOf ps ls n)
 unfolding Within patternsOf
 within-all ps ls zero ok = tt
 within-all ps ls (suc n) ok =
-    within-snoc 10 (patternsOf ps ls n) (patternAt ps ls n) (within-all ps ls n (patterns-less ps ls n (suc n) (omega arith) ok))
+    within-snoc maxPattern (patternsOf ps ls n) (patternAt ps ls n) (within-all ps ls n (patterns-less ps ls n (suc n) (omega arith) ok))
     (omega (arith, pattern-length ps ls (suc n) ok n (omega arith), ok .short n (omega arith)))
 
-pub count-few : (ps ls : List ℕ) (n : ℕ) → Patterns ps ls n → stateCount ps ls n ≤ 5121
-count-few ps ls n ok = omega (arith, states-length 10 (patternsOf ps ls n) (within-all ps ls n ok), patterns-length ps ls n, ok .few)
+pub count-few : (ps ls : List ℕ) (n : ℕ) → Patterns ps ls n → stateCount ps ls n ≤ rightStates
+count-few ps ls n ok = omega (arith, states-length maxPattern (patternsOf ps ls n) (within-all ps ls n ok), patterns-length ps ls n, ok .few)
 
 -- ---- the symbols of pattern i, as they lie
 
@@ -283,12 +284,12 @@ module _ (ps ls : List ℕ) (i : ℕ) where
 
     module _ (h : m < getD ls i 0) where
       abbrev c : ℕ
-      c = getD ps (10 * i + m) 0
+      c = getD ps (maxPattern * i + m) 0
 
       is : getD (patternAt ps ls i) m 0 ≡ c
       is = pattern-symbol ps ls (i + 1) ok i (omega arith) m h
 
-      pub symbols-small : c < 64
+      pub symbols-small : c < rowSize
       symbols-small = symbol-small ps ls (i + 1) ok i (omega arith) m h
 
       -- a new state is one of those that are counted
@@ -308,11 +309,11 @@ module _ (ps ls : List ℕ) (i : ℕ) where
         (f .0 ∙ sym as-states, subst (λ (l : List Str). Children (states l) look) (sym (patterns-next ps ls i)) (f .1))
 
 -- where no state but the empty string's is numbered, it has no child
-pub no-child : (look : ℕ → ℕ → ℕ) → ((c : ℕ) → c < 64 → look 0 c ≡ 0) → (ps ls : List ℕ) → Children (states (patternsOf ps ls 0)) look
+pub no-child : (look : ℕ → ℕ → ℕ) → ((c : ℕ) → c < rowSize → look 0 c ≡ 0) → (ps ls : List ℕ) → Children (states (patternsOf ps ls 0)) look
 unfolding patternsOf
 no-child look f ps ls = record { children = λ q c h l. row q c h l }
   where
-    row : (q c : ℕ) → q < 1 → c < 64 → look q c ≡ child ([] ∷ []) q c
+    row : (q c : ℕ) → q < 1 → c < rowSize → look q c ≡ child ([] ∷ []) q c
     row q c h l =
         let e : q ≡ 0 = omega arith in
         ap (λ (k : ℕ). look k c) e ∙ f c l ∙ sym (ap (λ (k : ℕ). child ([] ∷ []) k c) e)

@@ -16,7 +16,7 @@ use Rattle.tables.specs.States.{longest, member, index, states, numbered, entry
 use Rattle.tables.proofs.Trie.{failure}
 use Rattle.tables.proofs.Suffix.{same-refl, Closed, longest-passes}
 use Rattle.tables.proofs.Symbols.{Small}
-use Rattle.tables.specs.Words.{pack}
+use Rattle.tables.specs.Words.{pack, rowSize, setSize}
 use Rattle.tables.proofs.Numbering.{getD-index, index-lt, numbered-closed, numbered-nil, numbered-pattern, index-nil}
 use Rattle.tables.proofs.Build.{entry-child, entry-word, entry-fail, ends-failure, complete-row}
 use Rattle.tables.proofs.Sets.{pack-or}
@@ -71,7 +71,7 @@ module _ (pats : List Str) where
 
   -- each cell holds an entry or a child
   abbrev pub Cells : List ℕ → Type 0
-  Cells rows = (q c : ℕ) → q < length st → c < 64 → (cell rows q c ≡ entry st q c) ⊎ (cell rows q c ≡ child st q c)
+  Cells rows = (q c : ℕ) → q < length st → c < rowSize → (cell rows q c ≡ entry st q c) ⊎ (cell rows q c ≡ child st q c)
 
   pub level-cells : (rows sets : List ℕ) (d i : ℕ) → Level pats rows sets d i → Cells rows
   level-cells rows sets d i lv q c h l = ⊎-elim (λ z. inl (z .row c l)) (λ z. inr (z .row c l)) (lv .either q h)
@@ -89,14 +89,14 @@ module _ (pats : List Str) where
     below q c (inr y) = rw y (child-lt q c)
 
     module _ (either : Cells rows) where
-      pub inside : 64 * length st ≤ length rows → Inside rows (length st)
+      pub inside : rowSize * length st ≤ length rows → Inside rows (length st)
       inside h =
           record {
             some = some-state;
             room = h;
             below = λ k l.
-                let e : 64 * (k / 64) + k % 64 ≡ k = omega arith in
-                subst (λ (j : ℕ). getD rows j 0 < length st) e (below (k / 64) (k % 64) (either (k / 64) (k % 64) (omega arith) (omega arith)));
+                let e : rowSize * (k / rowSize) + k % rowSize ≡ k = omega arith in
+                subst (λ (j : ℕ). getD rows j 0 < length st) e (below (k / rowSize) (k % rowSize) (either (k / rowSize) (k % rowSize) (omega arith) (omega arith)));
           }
 
       closed-append : (v w : Str) → member (v ++ w) st ≡ true → member v st ≡ true
@@ -162,10 +162,10 @@ module _ (pats : List Str) where
     holds-or = at-or _ _ _ pats (λ x m. or-again (same x (getD st q [])) (ends x (getD st f [])) (ends x (getD st q [])) (ends-failure st root closed x (numbered-pattern pats x m) q a s e))
 
     module _ (rows sets rows′ sets′ : List ℕ) (done : Finished rows sets q f rows′ sets′) (ff : Final pats rows sets f) where
-      row-of : (x : ℕ) (c : ℕ) → c < 64 → cell rows q c ≡ x → cond (eqb x 0) (entry st f c) x ≡ entry st q c → cell rows′ q c ≡ entry st q c
+      row-of : (x : ℕ) (c : ℕ) → c < rowSize → cell rows q c ≡ x → cond (eqb x 0) (entry st f c) x ≡ entry st q c → cell rows′ q c ≡ entry st q c
       row-of x c l i h = done .row .wrote c l ∙ ap₂ (λ (u v : ℕ). cond (eqb u 0) v u) i (ff .row c l) ∙ h
 
-      set-of : (g : ℕ → Bool) (j : ℕ) → j < 8 → getD sets (8 * q + j) 0 ≡ word g j → ((p : ℕ) → (g p || holds pats (getD st f []) p) ≡ holds pats (getD st q []) p) → getD sets′ (8 * q + j) 0 ≡ word (holds pats (getD st q [])) j
+      set-of : (g : ℕ → Bool) (j : ℕ) → j < setSize → getD sets (setSize * q + j) 0 ≡ word g j → ((p : ℕ) → (g p || holds pats (getD st f []) p) ≡ holds pats (getD st q []) p) → getD sets′ (setSize * q + j) 0 ≡ word (holds pats (getD st q [])) j
       set-of g j l i h = done .set .wrote j l ∙ ap₂ bitOr i (ff .set j l) ∙ word-or g (holds pats (getD st f [])) (holds pats (getD st q [])) j h
 
       pub completes : Final pats rows sets q ⊎ Young pats rows sets q → Final pats rows′ sets′ q
@@ -184,7 +184,7 @@ module _ (pats : List Str) where
 pub raised-old : {rows sets : List ℕ} {q u v top : ℕ} → q ≡ u → q ≤ top → Raised rows sets u v top top rows sets
 raised-old a h = record { old = λ l. (refl, (refl, refl)); new = λ l. absurd (omega arith) }
 
-pub raised-new : {rows sets rows′ sets′ : List ℕ} {q f top : ℕ} (u v : ℕ) → q ≡ u → f ≡ v → top < q → Wrote rows (64 * q) 64 (completed rows q f) rows′ → Wrote sets (8 * q) 8 (united sets q f) sets′
+pub raised-new : {rows sets rows′ sets′ : List ℕ} {q f top : ℕ} (u v : ℕ) → q ≡ u → f ≡ v → top < q → Wrote rows (rowSize * q) rowSize (completed rows q f) rows′ → Wrote sets (setSize * q) setSize (united sets q f) sets′
     → Raised rows sets u v top q rows′ sets′
 raised-new {rows} {sets} {rows′} {sets′} {q} {f} {top} u v a b h r s =
     record {

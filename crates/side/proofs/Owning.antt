@@ -13,12 +13,13 @@ use lib.Bits.{bitOr}
 use lib.ListN.{length, getD, take, length-take}
 use lib.Seq.{take-suc}
 use borrow.Author.Tests.{eqb-false, ne-eqb, eq-eqb}
+use Rattle.rules.specs.Limits.{maxRules}
 use Rattle.rules.proofs.Cases.{byBool}
 use Rattle.reading.specs.Fitting.{Str, same}
 use Rattle.tables.specs.States.{member, index, states}
 use Rattle.tables.proofs.Truth.{true-eq}
 use Rattle.tables.proofs.Suffix.{same-refl, same-eq}
-use Rattle.tables.specs.Words.{pack}
+use Rattle.tables.specs.Words.{pack, setSize}
 use Rattle.tables.proofs.Numbering.{getD-index, index-getD, distinct-states}
 use Rattle.tables.proofs.Sets.{pack-put}
 use Rattle.side.specs.Wrote.{Wrote}
@@ -36,12 +37,12 @@ unfolding pack
 pack-none zero = refl
 pack-none (suc n) = rw (pack-none n)
 
-pub none-owned : (pats : List Str) (xs ys : List ℕ) → Wrote xs 0 (8 * length (states pats)) (λ _. 0) ys → Owned pats 0 ys
+pub none-owned : (pats : List Str) (xs ys : List ℕ) → Wrote xs 0 (setSize * length (states pats)) (λ _. 0) ys → Owned pats 0 ys
 none-owned pats xs ys w =
     record {
       words = λ q j h l.
-          let e : 0 + (8 * q + j) ≡ 8 * q + j = omega arith in
-          ap (λ (k : ℕ). getD ys k 0) (sym e) ∙ w .wrote (8 * q + j) (omega arith) ∙ sym (pack-none 64);
+          let e : 0 + (setSize * q + j) ≡ setSize * q + j = omega arith in
+          ap (λ (k : ℕ). getD ys k 0) (sym e) ∙ w .wrote (setSize * q + j) (omega arith) ∙ sym (pack-none 64);
     }
 
 module _ (pats : List Str) (i : ℕ) (h : i < length pats) (s : Str) where
@@ -85,18 +86,18 @@ module _ (pats : List Str) (i : ℕ) (h : i < length pats) (q : ℕ) (xs ys : Li
   abbrev st : List Str
   st = states pats
 
-  pub put : member (getD pats i []) st ≡ true → q ≡ index (getD pats i []) st → Wrote xs (8 * q + i / 64) 1 (λ _. bitOr (getD xs (8 * q + i / 64) 0) (2 ^ (i % 64))) ys → i < 512 → Owned pats (i + 1) ys
+  pub put : member (getD pats i []) st ≡ true → q ≡ index (getD pats i []) st → Wrote xs (setSize * q + i / 64) 1 (λ _. bitOr (getD xs (setSize * q + i / 64) 0) (2 ^ (i % 64))) ys → i < maxRules → Owned pats (i + 1) ys
   put m e w few = record { words = λ k j l n. at k j l n }
     where
-      other : (k j : ℕ) → k < length st → j < 8 → (8 * k + j ≡ 8 * q + i / 64 → ⊥) → ((b : ℕ) → b < 64 → (eqb (64 * j + b) i && same (getD pats i []) (getD st k [])) ≡ false)
-          → getD ys (8 * k + j) 0 ≡ word (owns (take (i + 1) pats) (getD st k [])) j
+      other : (k j : ℕ) → k < length st → j < setSize → (setSize * k + j ≡ setSize * q + i / 64 → ⊥) → ((b : ℕ) → b < 64 → (eqb (64 * j + b) i && same (getD pats i []) (getD st k [])) ≡ false)
+          → getD ys (setSize * k + j) 0 ≡ word (owns (take (i + 1) pats) (getD st k [])) j
       other k j l n d f =
-          untouched xs ys (8 * q + i / 64) (8 * k + j) _ w d ∙ own .words k j l n ∙ stays pats i h (getD st k []) j f
+          untouched xs ys (setSize * q + i / 64) (setSize * k + j) _ w d ∙ own .words k j l n ∙ stays pats i h (getD st k []) j f
 
       str : getD st q [] ≡ getD pats i []
       str = ap (λ (x : ℕ). getD st x []) e ∙ getD-index (getD pats i []) st m
 
-      at : (k j : ℕ) → k < length st → j < 8 → getD ys (8 * k + j) 0 ≡ word (owns (take (i + 1) pats) (getD st k [])) j
+      at : (k j : ℕ) → k < length st → j < setSize → getD ys (setSize * k + j) 0 ≡ word (owns (take (i + 1) pats) (getD st k [])) j
       at k j l n =
           byBool (eqb k q)
           (λ u.
@@ -104,7 +105,7 @@ module _ (pats : List Str) (i : ℕ) (h : i < length pats) (q : ℕ) (xs ys : Li
           byBool (eqb j (i / 64))
           (λ v.
           let b : j ≡ i / 64 = eqb→eq j (i / 64) (true-eq (eqb j (i / 64)) v) in
-          let c : 8 * k + j ≡ 8 * q + i / 64 + 0 = omega arith in
+          let c : setSize * k + j ≡ setSize * q + i / 64 + 0 = omega arith in
           let t : same (getD pats i []) (getD st q []) ≡ true = ap (same (getD pats i [])) str ∙ same-refl (getD pats i []) in
           ap (λ (x : ℕ). getD ys x 0) c ∙ w .wrote 0 (omega arith)
           ∙ ap (λ (x : ℕ). bitOr x (2 ^ (i % 64))) (own .words q (i / 64) (omega arith) (omega arith))

@@ -7,9 +7,10 @@ use native.Mathlib.Decide.{decLe}
 use mathlib.Core.List.{List, [], _∷_, _++_, tail}
 use lib.ListN.{length, getD, take, drop, List·getD-append}
 use lib.Seq.{drop-cons, getD-at}
+use Rattle.tables.specs.Words.{rowSize}
 use Rattle.reading.specs.Fitting.{Str}
 use Rattle.tables.proofs.Symbols.{Small}
-use Rattle.side.specs.Patterns.{patternAt, patternsOf, Patterns}
+use Rattle.side.specs.Patterns.{patternAt, patternsOf, Patterns, maxPattern}
 use Rattle.side.specs.Steps.{part, Symbols}
 use Rattle.side.proofs.Inserting.{patterns-length}
 use Rattle.side.proofs.Running.{part-cons}
@@ -32,16 +33,16 @@ take-twice (suc d) (suc n) [] h = refl
 take-twice (suc d) (suc n) (x ∷ l) h = ap (λ (w : Str). x ∷ w) (take-twice d n l (omega arith))
 
 -- the first d symbols of pattern i
-pub part-is : (ps ls : List ℕ) (i d : ℕ) → d ≤ getD ls i 0 → part ps (10 * i) (10 * i + d) ≡ take d (patternAt ps ls i)
+pub part-is : (ps ls : List ℕ) (i d : ℕ) → d ≤ getD ls i 0 → part ps (maxPattern * i) (maxPattern * i + d) ≡ take d (patternAt ps ls i)
 part-is ps ls i d h =
-    let e : 10 * i + d - 10 * i ≡ d = omega arith in
-    ap (λ (k : ℕ). take k (drop (10 * i) ps)) e ∙ sym (take-twice d (getD ls i 0) (drop (10 * i) ps) h)
+    let e : maxPattern * i + d - maxPattern * i ≡ d = omega arith in
+    ap (λ (k : ℕ). take k (drop (maxPattern * i) ps)) e ∙ sym (take-twice d (getD ls i 0) (drop (maxPattern * i) ps) h)
 
 -- all but the first symbol
 pub part-tail : (ps : List ℕ) (a e : ℕ) → a < e → e ≤ length ps → part ps (a + 1) e ≡ tail (part ps a e)
 part-tail ps a e h l = sym (ap tail (part-cons ps a e h l))
 
-small-take : (n a : ℕ) (ps : List ℕ) → a + n ≤ length ps → ((k : ℕ) → a ≤ k → k < a + n → getD ps k 0 < 64) → Small (take n (drop a ps))
+small-take : (n a : ℕ) (ps : List ℕ) → a + n ≤ length ps → ((k : ℕ) → a ≤ k → k < a + n → getD ps k 0 < rowSize) → Small (take n (drop a ps))
 small-take zero a ps l h = tt
 small-take (suc n) a ps l h =
     subst (λ (w : Str). Small (take (suc n) w)) (sym (drop-cons ps a 0 (omega arith)))
@@ -50,7 +51,7 @@ small-take (suc n) a ps l h =
 pub small-part : (ps : List ℕ) (a e : ℕ) → Symbols ps a e → Small (part ps a e)
 small-part ps a e s = small-take (e - a) a ps (omega (arith, s .order, s .inside)) (λ k b c. s .small k b (omega (arith, s .order)))
 
-pub symbols-of : (ps ls : List ℕ) (n i d : ℕ) → Patterns ps ls n → i < n → d ≤ getD ls i 0 → Symbols ps (10 * i) (10 * i + d)
+pub symbols-of : (ps ls : List ℕ) (n i d : ℕ) → Patterns ps ls n → i < n → d ≤ getD ls i 0 → Symbols ps (maxPattern * i) (maxPattern * i + d)
 symbols-of ps ls n i d ok h l =
     record {
       order = omega arith;

@@ -12,6 +12,7 @@ use lib.Dec.{eqb, eqb→eq}
 use lib.ListN.{length, getD, take, length-take}
 use lib.Seq.{getD-take}
 use borrow.Author.Tests.{eqb-false}
+use Rattle.tables.specs.Words.{rowSize, setSize}
 use Rattle.rules.proofs.Cases.{byBool}
 use Rattle.reading.specs.Fitting.{Str}
 use Rattle.tables.specs.States.{longest, member, index, states, numbered, entry, child}
@@ -28,19 +29,19 @@ use Rattle.side.proofs.Levels.{completes}
 
 -- ---- what is not written stays
 
-row-kept : (rows rows′ : List ℕ) (q k : ℕ) (g : ℕ → ℕ) → Wrote rows (64 * q) 64 g rows′ → k ≢ q → (c : ℕ) → c < 64 → cell rows′ k c ≡ cell rows k c
+row-kept : (rows rows′ : List ℕ) (q k : ℕ) (g : ℕ → ℕ) → Wrote rows (rowSize * q) rowSize g rows′ → k ≢ q → (c : ℕ) → c < rowSize → cell rows′ k c ≡ cell rows k c
 row-kept rows rows′ q k g w d c l = go (decLe (suc k) q)
   where
     go : Dec (k < q) → cell rows′ k c ≡ cell rows k c
-    go (yes y) = w .below (64 * k + c) (omega arith)
-    go (no y) = let z : q < k = omega arith in w .above (64 * k + c) (omega arith)
+    go (yes y) = w .below (rowSize * k + c) (omega arith)
+    go (no y) = let z : q < k = omega arith in w .above (rowSize * k + c) (omega arith)
 
-set-kept : (sets sets′ : List ℕ) (q k : ℕ) (g : ℕ → ℕ) → Wrote sets (8 * q) 8 g sets′ → k ≢ q → (j : ℕ) → j < 8 → getD sets′ (8 * k + j) 0 ≡ getD sets (8 * k + j) 0
+set-kept : (sets sets′ : List ℕ) (q k : ℕ) (g : ℕ → ℕ) → Wrote sets (setSize * q) setSize g sets′ → k ≢ q → (j : ℕ) → j < setSize → getD sets′ (setSize * k + j) 0 ≡ getD sets (setSize * k + j) 0
 set-kept sets sets′ q k g w d j l = go (decLe (suc k) q)
   where
-    go : Dec (k < q) → getD sets′ (8 * k + j) 0 ≡ getD sets (8 * k + j) 0
-    go (yes y) = w .below (8 * k + j) (omega arith)
-    go (no y) = let z : q < k = omega arith in w .above (8 * k + j) (omega arith)
+    go : Dec (k < q) → getD sets′ (setSize * k + j) 0 ≡ getD sets (setSize * k + j) 0
+    go (yes y) = w .below (setSize * k + j) (omega arith)
+    go (no y) = let z : q < k = omega arith in w .above (setSize * k + j) (omega arith)
 
 module _ (pats : List Str) (rows sets rows′ sets′ : List ℕ) (q f : ℕ) (done : Finished rows sets q f rows′ sets′) (k : ℕ) (d : k ≢ q) where
   final-kept : Final pats rows sets k → Final pats rows′ sets′ k

@@ -8,7 +8,7 @@ use mathlib.Core.List.{List, [], _∷_}
 use lib.ListN.{length, getD, take}
 use Rattle.reading.specs.Fitting.{Str, same, ends}
 use Rattle.tables.specs.States.{states, entry, index, child}
-use Rattle.tables.specs.Words.{pack, tab}
+use Rattle.tables.specs.Words.{pack, tab, rowSize, setSize}
 use Rattle.side.specs.Wrote.{Wrote}
 use Rattle.side.specs.Steps.{cell, completed, united}
 
@@ -31,10 +31,10 @@ word f j = pack (λ b. f (64 * j + b)) 64
 
 -- the rows and the sets of a list of patterns
 abbrev pub sideRows : List Str → List ℕ
-sideRows pats = tab (64 * length (states pats)) (λ k. entry (states pats) (k / 64) (k % 64))
+sideRows pats = tab (rowSize * length (states pats)) (λ k. entry (states pats) (k / rowSize) (k % rowSize))
 
 abbrev pub sideSets : List Str → List ℕ
-sideSets pats = tab (8 * length (states pats)) (λ k. word (holds pats (getD (states pats) (k / 8) [])) (k % 8))
+sideSets pats = tab (setSize * length (states pats)) (λ k. word (holds pats (getD (states pats) (k / setSize) [])) (k % setSize))
 
 module _ (pats : List Str) (rows sets : List ℕ) where
   abbrev st : List Str
@@ -42,13 +42,13 @@ module _ (pats : List Str) (rows sets : List ℕ) where
 
   -- the row and the set of q are finished
   pub record Final (q : ℕ) : Type 0 where
-    pub row : (c : ℕ) → c < 64 → cell rows q c ≡ entry st q c
-    pub set : (j : ℕ) → j < 8 → getD sets (8 * q + j) 0 ≡ word (holds pats (getD st q [])) j
+    pub row : (c : ℕ) → c < rowSize → cell rows q c ≡ entry st q c
+    pub set : (j : ℕ) → j < setSize → getD sets (setSize * q + j) 0 ≡ word (holds pats (getD st q [])) j
 
   -- they hold its children, and the places of the patterns that are its string
   pub record Young (q : ℕ) : Type 0 where
-    pub row : (c : ℕ) → c < 64 → cell rows q c ≡ child st q c
-    pub set : (j : ℕ) → j < 8 → getD sets (8 * q + j) 0 ≡ word (owns pats (getD st q [])) j
+    pub row : (c : ℕ) → c < rowSize → cell rows q c ≡ child st q c
+    pub set : (j : ℕ) → j < setSize → getD sets (setSize * q + j) 0 ≡ word (owns pats (getD st q [])) j
 
   -- the states of fewer than d symbols are finished, and those of d symbols that start one of the first i patterns
   pub record Level (d i : ℕ) : Type 0 where
@@ -58,11 +58,11 @@ module _ (pats : List Str) (rows sets : List ℕ) where
 
 -- the places of the first i patterns stand in the sets of their own states
 pub record Owned (pats : List Str) (i : ℕ) (sets : List ℕ) : Type 0 where
-  pub words : (q j : ℕ) → q < length (states pats) → j < 8 → getD sets (8 * q + j) 0 ≡ word (owns (take i pats) (getD (states pats) q [])) j
+  pub words : (q j : ℕ) → q < length (states pats) → j < setSize → getD sets (setSize * q + j) 0 ≡ word (owns (take i pats) (getD (states pats) q [])) j
 
 pub record Finished (rows sets : List ℕ) (q f : ℕ) (rows′ sets′ : List ℕ) : Type 0 where
-  pub row : Wrote rows (64 * q) 64 (completed rows q f) rows′
-  pub set : Wrote sets (8 * q) 8 (united sets q f) sets′
+  pub row : Wrote rows (rowSize * q) rowSize (completed rows q f) rows′
+  pub set : Wrote sets (setSize * q) setSize (united sets q f) sets′
 
 -- state q is finished from f where it lies above top, and r is the higher of both
 pub record Raised (rows sets : List ℕ) (q f top r : ℕ) (rows′ sets′ : List ℕ) : Type 0 where

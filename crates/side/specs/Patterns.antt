@@ -1,25 +1,31 @@
--- The patterns of one side, as they lie in two lists: pattern i has ls[i] symbols of ps, from 10 i on.
+-- The patterns of one side, as they lie in two lists: pattern i has ls[i] symbols of ps, from maxPattern i on.
 -- Assumes nothing.
-use Prim.Native.Nat.{ℕ, zero, suc, _*_, _≤_, _<_}
+use Prim.Native.Nat.{ℕ, zero, suc, _+_, _*_, _≤_, _<_}
 use mathlib.Core.List.{List, [], _∷_, _++_}
 use lib.ListN.{length, getD, take, drop}
+use Rattle.rules.specs.Limits.{maxRules, maxContext, maxTarget}
+use Rattle.tables.specs.Words.{rowSize}
 use Rattle.reading.specs.Fitting.{Str}
 use Rattle.tables.specs.States.{states}
 
+-- the most symbols that a pattern has: a target and a right context
+abbrev pub maxPattern : ℕ
+maxPattern = maxTarget + maxContext
+
 abbrev pub patternAt : List ℕ → List ℕ → ℕ → Str
-patternAt ps ls i = take (getD ls i 0) (drop (10 * i) ps)
+patternAt ps ls i = take (getD ls i 0) (drop (maxPattern * i) ps)
 
 unfoldable pub patternsOf : List ℕ → List ℕ → ℕ → List Str
 patternsOf ps ls zero = []
 patternsOf ps ls (suc n) = patternsOf ps ls n ++ (patternAt ps ls n ∷ [])
 
--- n patterns of at most 10 symbols
+-- n patterns
 pub record Patterns (ps ls : List ℕ) (n : ℕ) : Type 0 where
-  pub few : n ≤ 512
-  pub room : 10 * n ≤ length ps
+  pub few : n ≤ maxRules
+  pub room : maxPattern * n ≤ length ps
   pub lens : n ≤ length ls
-  pub short : (i : ℕ) → i < n → getD ls i 0 ≤ 10
-  pub small : (k : ℕ) → k < 10 * n → getD ps k 0 < 64
+  pub short : (i : ℕ) → i < n → getD ls i 0 ≤ maxPattern
+  pub small : (k : ℕ) → k < maxPattern * n → getD ps k 0 < rowSize
 
 -- how many states the first n patterns have
 abbrev pub stateCount : List ℕ → List ℕ → ℕ → ℕ

@@ -1,5 +1,6 @@
 -- The loop over the patterns that numbers their prefixes.
 -- Assumes nothing.
+use Rattle.tables.specs.Words.{rowSize}
 use Rattle.side.specs.Patterns.{stateCount}
 use Prim.Native.Nat.{_+_, _-_, _*_, _≤_}
 use mathlib.Core.Path.{_∙_}
@@ -22,7 +23,7 @@ clear-row-requires : tie.Need-clear-row-requires Inv-loop μ-loop
 clear-row-requires c κs =
     let st = c .before .before .before .before in
     let h = count-some (st .args .pats .now) (st .args .lens .now) (st .args .n) in
-    let g : 64 ≤ length (st .args .rows .now) = omega (arith, st .pre .1) in g
+    let g : rowSize ≤ length (st .args .rows .now) = omega (arith, st .pre .1) in g
 
 loop-holds : tie.Need-loop-holds Inv-loop μ-loop
 loop-holds c = (omega arith, C.first _ _ _ _ (c .before .before .clear-row .ensures))
@@ -38,7 +39,7 @@ number-one-requires c κs =
     let ls = st .args .lens .now in
     let h : l .loop .i + 1 ≤ st .args .n = omega arith in
     let g = count-grows ps ls (l .loop .i + 1) (st .args .n) h in
-    let m : 64 * stateCount ps ls (l .loop .i + 1) ≤ length (l .loop .rows) = omega (arith, pre .1, l .loop .inv .1 .past .len, r .kept .0) in
+    let m : rowSize * stateCount ps ls (l .loop .i + 1) ≤ length (l .loop .rows) = omega (arith, pre .1, l .loop .inv .1 .past .len, r .kept .0) in
     (patterns-less ps ls (l .loop .i + 1) (st .args .n) h (pre .0), l .loop .inv .1 .count, m, l .loop .inv .1 .rows)
 
 add-i : tie.Need-add-i Inv-loop μ-loop

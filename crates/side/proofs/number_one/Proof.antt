@@ -33,7 +33,7 @@ add-descend c =
     let w = l .before in
     let st = w .before .before .before .before .before in
     let pre = st .pre in
-    omega (arith, w .wide .ensures, pre .0 .short (st .args .i) (omega arith), pre .0 .few)
+    omega (arith, w .wide .ensures .0, pre .0 .short (st .args .i) (omega arith), pre .0 .few)
 
 shared-slice-read-descend : tie.Need-shared-slice-read-descend Inv-loop μ-loop
 shared-slice-read-descend c =
@@ -41,7 +41,7 @@ shared-slice-read-descend c =
     let w = l .before in
     let st = w .before .before .before .before .before in
     let pre = st .pre in
-    omega (arith, w .wide .ensures, pre .0 .short (st .args .i) (omega arith), pre .0 .room)
+    omega (arith, w .wide .ensures .0, pre .0 .short (st .args .i) (omega arith), pre .0 .room)
 
 descend-requires : tie.Need-descend-requires Inv-loop μ-loop
 descend-requires c κs =
@@ -49,7 +49,7 @@ descend-requires c κs =
     let w = l .before in
     let st = w .before .before .before .before .before in
     let pre = st .pre in
-    C.asks _ _ _ (pre .0) _ (pre .2) _ _ _ (l .loop .inv) (omega (arith, w .wide .ensures))
+    C.asks _ _ _ (pre .0) _ (pre .2) _ _ _ (l .loop .inv) (omega (arith, w .wide .ensures .0))
 
 add-m : tie.Need-add-m Inv-loop μ-loop
 add-m c = search needs
@@ -63,7 +63,7 @@ loop-again c =
     let w = l .before in
     let st = w .before .before .before .before .before in
     let pre = st .pre in
-    C.next _ _ _ (pre .0) _ (pre .2) _ _ _ (l .loop .inv) (omega (arith, w .wide .ensures)) _ _ (c .before .before .descend .ensures)
+    C.next _ _ _ (pre .0) _ (pre .2) _ _ _ (l .loop .inv) (omega (arith, w .wide .ensures .0)) _ _ (c .before .before .descend .ensures)
 
 same-length : tie.Need-same-length Inv-loop μ-loop
 same-length c = c .before .loop .inv .past .len
@@ -74,7 +74,7 @@ returns c =
     let w = l .before in
     let st = w .before .before .before .before .before in
     let pre = st .pre in
-    C.finished _ _ _ (pre .0) _ (pre .2) _ _ _ (l .loop .inv) (omega (arith, w .wide .ensures))
+    C.finished _ _ _ (pre .0) _ (pre .2) _ _ _ (l .loop .inv) (omega (arith, w .wide .ensures .0))
 
 pub number-one-spec : {M : Type 1} → statement M
 number-one-spec =

@@ -2,6 +2,7 @@
 -- Assumes nothing.
 use Prim.Native.Nat.{_+_, _-_, _*_, _≤_}
 use lib.ListN.{length}
+use Rattle.tables.specs.Words.{setSize}
 use Rattle.side.proofs.Filling as F
 use borrow.Author.Needs.{needs}
 use native.Mathlib.Omega.{arith}
@@ -33,21 +34,21 @@ add-e c =
     let l = c .before .before .before in
     let st = l .before .before .before .before .before in
     let pre = st .pre in
-    omega (arith, c .wide .ensures, pre .0 .few, pre .0 .short (l .loop .i) (omega arith))
+    omega (arith, c .wide .ensures .0, pre .0 .few, pre .0 .short (l .loop .i) (omega arith))
 
 state-of-requires : tie.Need-state-of-requires Inv-loop μ-loop
 state-of-requires c κs =
     let l = c .before .before .before in
     let st = l .before .before .before .before .before in
     let pre = st .pre in
-    F.own-asks _ _ _ _ _ _ (pre .0) (pre .1) (pre .2) (pre .3) (pre .4) _ _ (l .loop .inv) (omega arith) _ (c .wide .ensures)
+    F.own-asks _ _ _ _ _ _ (pre .0) (pre .1) (pre .2) (pre .3) (pre .4) _ _ (l .loop .inv) (omega arith) _ (c .wide .ensures .0)
 
 put-place-requires : tie.Need-put-place-requires Inv-loop μ-loop
 put-place-requires c κs =
     let l = c .before .before .before .before .before in
     let st = l .before .before .before .before .before in
     let pre = st .pre in
-    let g : 8 * c .before .state-of .result + 8 ≤ length (l .loop .sets) = omega (arith, c .before .state-of .ensures .1, pre .3, l .loop .inv .setsPast .len) in
+    let g : setSize * c .before .state-of .result + setSize ≤ length (l .loop .sets) = omega (arith, c .before .state-of .ensures .1, pre .3, l .loop .inv .setsPast .len) in
     (g, omega (arith, pre .0 .few))
 
 add-i : tie.Need-add-i Inv-loop μ-loop
@@ -63,7 +64,7 @@ loop-again c =
     let pre = st .pre in
     let s = c .before .before .before .before in
     let w = s .before in
-    F.own-another _ _ _ _ _ (st .args .rows .now) (pre .0) (pre .1) (pre .2) (pre .3) (pre .4) _ _ (l .loop .inv) (omega arith) _ (w .wide .ensures) _ _ (s .state-of .ensures .0) (s .state-of .ensures .1) (c .before .before .put-place .ensures)
+    F.own-another _ _ _ _ _ (st .args .rows .now) (pre .0) (pre .1) (pre .2) (pre .3) (pre .4) _ _ (l .loop .inv) (omega arith) _ (w .wide .ensures .0) _ _ (s .state-of .ensures .0) (s .state-of .ensures .1) (c .before .before .put-place .ensures)
 
 same-length : tie.Need-same-length Inv-loop μ-loop
 same-length c = c .before .loop .inv .setsPast .len
