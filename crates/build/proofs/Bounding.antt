@@ -8,15 +8,18 @@ use mathlib.Core.Bool.{Bool, true, false}
 use mathlib.Core.List.{List, [], _∷_, _++_, map, map-append}
 use lib.ListN.{length, getD, take}
 use lib.Seq.{take-suc, take-all}
+use Rattle.tables.specs.States.{leftStates, rightStates}
+use Rattle.rules.specs.Limits.{maxContext}
+use Rattle.side.specs.Patterns.{maxPattern}
 use Rattle.image.specs.State.{noEntry}
 use Rattle.rules.specs.Shape.{Entry}
-use Rattle.image.specs.Image.{entriesOf, valid, countOf}
+use Rattle.image.specs.Image.{entriesOf, valid, countOf, entryAt}
 use Rattle.image.proofs.Tests.{valid-count}
 use Rattle.image.proofs.Entries.{entries-length}
 use Rattle.reading.specs.Fitting.{Str}
 use Rattle.tables.proofs.Count.{total, states-total}
 use Rattle.build.specs.Sides.{sideOf, patternIn, sideTable}
-use Rattle.build.proofs.Symbols.{short}
+use Rattle.build.proofs.Symbols.{both-long, left-most, target-most, right-most}
 
 total-snoc : (l : List Str) (p : Str) → total (l ++ (p ∷ [])) ≡ total l + length p
 total-snoc [] p = omega arith
@@ -31,7 +34,7 @@ module _ (d : List ℕ) where
   pub record Bounding (m i : ℕ) : Type 0 where
     pub reached : i ≤ countOf d
     pub is : m ≡ 2 + (symbols false i + symbols true i)
-    pub few : m ≤ 2 + 20 * i
+    pub few : m ≤ 2 + (maxContext + maxPattern) * i
 
   pub begin : Bounding 2 0
   begin = record { reached = omega arith; is = refl; few = omega arith }
@@ -41,20 +44,21 @@ module _ (d : List ℕ) where
       let es = entriesOf d in
       ap (λ (k : ℕ). symbols right k) (add-one i)
       ∙ ap (λ (l : List Entry). total (map (sideOf right) l)) (take-suc es i noEntry (omega (arith, entries-length d)))
-      ∙ ap total (map-append (sideOf right) (take i es) (getD es i noEntry ∷ []))
+      ∙ ap total (map-append (sideOf right) (take i es) (entryAt d i ∷ []))
       ∙ total-snoc (map (sideOf right) (take i es)) (patternIn d right i)
 
   module _ (ok : valid d ≡ true) (m i : ℕ) (b : Bounding m i) where
-    -- one rule more, of a symbols left and c symbols right
-    pub next : i < countOf d → (a c : ℕ) → a ≡ length (patternIn d false i) → c ≡ length (patternIn d true i) → Bounding (m + (a + c)) (i + 1)
-    next h a c e f =
+    -- one rule more, whose fields have x, y and z symbols
+    pub next : i < countOf d → (x y z : ℕ) → x ≡ length (entryAt d i .rule .left) → y ≡ length (entryAt d i .rule .target) → z ≡ length (entryAt d i .rule .right)
+        → Bounding (m + (x + y + z)) (i + 1)
+    next h x y z e f g =
         record {
           reached = omega arith;
-          is = omega (arith, b .is, symbols-next false i h, symbols-next true i h);
-          few = omega (arith, b .few, short d ok i h false, short d ok i h true);
+          is = omega (arith, b .is, symbols-next false i h, symbols-next true i h, both-long d ok i h);
+          few = omega (arith, b .few, left-most d ok i h, target-most d ok i h, right-most d ok i h);
         }
 
-    pub finished : countOf d ≤ i → (sideTable d false .count + sideTable d true .count ≤ m) × (m ≤ 10242)
+    pub finished : countOf d ≤ i → (sideTable d false .count + sideTable d true .count ≤ m) × (m ≤ leftStates + rightStates)
     finished h = (omega (arith, all false, all true, b .is), omega (arith, b .few, b .reached, valid-count d ok))
       where
         all : (right : Bool) → sideTable d right .count ≤ 1 + symbols right i

@@ -11,7 +11,7 @@ use borrow.Rule.Slice.PartMut.{midOf, putMid, mid-len}
 use Rattle.rules.specs.Memory.{over}
 use Rattle.rules.proofs.Memory.{over-length, over-rest}
 use Rattle.image.specs.Image.{entriesOf}
-use Rattle.tables.specs.Words.{rowsOf, setsOf, builtWords, builtSets, wordsFor, setsFor}
+use Rattle.tables.specs.Words.{rowsOf, setsOf, builtWords, builtSets, wordsFor, setsFor, headWords, rowSize, setSize, rightRows, rightSets}
 use Rattle.build.specs.Sides.{sideTable}
 use Rattle.build.proofs.Whole.{rows-length, sets-length, words-are, sets-built}
 
@@ -33,33 +33,33 @@ module _ (d : List ℕ) where
     is₀ : xs ≡ over (x ∷ y ∷ []) xs
     is₀ = drop-cons xs 0 0 (omega arith) ∙ ap (λ (t : List ℕ). x ∷ t) (drop-cons xs 1 0 (omega arith))
 
-    pub asks₁ : 64 * sideTable d false .count ≤ length (midOf 2 (length xs - 2) xs)
-    asks₁ = omega (arith, mid-len 2 (length xs) xs (omega arith))
+    pub asks₁ : rowSize * sideTable d false .count ≤ length (midOf headWords (length xs - headWords) xs)
+    asks₁ = omega (arith, mid-len headWords (length xs) xs (omega arith))
 
-    module _ (z : List ℕ) (e : z ≡ over us (midOf 2 (length xs - 2) xs)) (l : ℕ) (el : l ≡ sideTable d false .count) where
+    module _ (z : List ℕ) (e : z ≡ over us (midOf headWords (length xs - headWords) xs)) (l : ℕ) (el : l ≡ sideTable d false .count) where
       -- the left table is filled
       abbrev pub w₁ : List ℕ
-      w₁ = putMid 2 (length xs - 2) xs z
+      w₁ = putMid headWords (length xs - headWords) xs z
 
       is₁ : w₁ ≡ over (x ∷ y ∷ us) xs
-      is₁ = over-rest (x ∷ y ∷ []) xs us xs z 2 is₀ refl e
+      is₁ = over-rest (x ∷ y ∷ []) xs us xs z headWords is₀ refl e
 
-      left-length : length (x ∷ y ∷ us) ≡ 2 + 64 * l
+      left-length : length (x ∷ y ∷ us) ≡ rightRows l
       left-length = omega (arith, rows-length (sideTable d false), el)
 
       pub length₁ : length w₁ ≡ length xs
       length₁ = ap length is₁ ∙ over-length (x ∷ y ∷ us) xs (omega (arith, left-length, el))
 
-      pub asks₂ : 64 * sideTable d true .count ≤ length (midOf (2 + 64 * l) (length w₁ - (2 + 64 * l)) w₁)
-      asks₂ = omega (arith, el, mid-len (2 + 64 * l) (length w₁) w₁ (omega (arith, length₁, el)), length₁)
+      pub asks₂ : rowSize * sideTable d true .count ≤ length (midOf (rightRows l) (length w₁ - (rightRows l)) w₁)
+      asks₂ = omega (arith, el, mid-len (rightRows l) (length w₁) w₁ (omega (arith, length₁, el)), length₁)
 
-      module _ (z′ : List ℕ) (e′ : z′ ≡ over vs (midOf (2 + 64 * l) (length w₁ - (2 + 64 * l)) w₁)) (r : ℕ) (er : r ≡ sideTable d true .count) where
+      module _ (z′ : List ℕ) (e′ : z′ ≡ over vs (midOf (rightRows l) (length w₁ - (rightRows l)) w₁)) (r : ℕ) (er : r ≡ sideTable d true .count) where
         -- the right table is filled
         abbrev pub w₂ : List ℕ
-        w₂ = putMid (2 + 64 * l) (length w₁ - (2 + 64 * l)) w₁ z′
+        w₂ = putMid (rightRows l) (length w₁ - (rightRows l)) w₁ z′
 
         is₂ : w₂ ≡ over (x ∷ y ∷ (us ++ vs)) xs
-        is₂ = over-rest (x ∷ y ∷ us) xs vs w₁ z′ (2 + 64 * l) is₁ left-length e′
+        is₂ = over-rest (x ∷ y ∷ us) xs vs w₁ z′ (rightRows l) is₁ left-length e′
 
         pub length₂ : length w₂ ≡ length xs
         length₂ = ap length is₂ ∙ over-length (x ∷ y ∷ (us ++ vs)) xs (omega (arith, length-append us vs, rows-length (sideTable d false), rows-length (sideTable d true)))
@@ -76,23 +76,23 @@ module _ (d : List ℕ) where
 
   -- the set words, after the left sets s and the right sets
   module _ (xs : List ℕ) (h : setsFor (entriesOf d) ≤ length xs) (s : List ℕ) (e : s ≡ over (setsOf (sideTable d false)) xs) (l : ℕ) (el : l ≡ sideTable d false .count) where
-    left-sets : length (setsOf (sideTable d false)) ≡ 8 * l
-    left-sets = sets-length (sideTable d false) ∙ ap (λ (k : ℕ). 8 * k) (sym el)
+    left-sets : length (setsOf (sideTable d false)) ≡ rightSets l
+    left-sets = sets-length (sideTable d false) ∙ ap (λ (k : ℕ). setSize * k) (sym el)
 
     pub set-length : length s ≡ length xs
     set-length = ap length e ∙ over-length (setsOf (sideTable d false)) xs (omega (arith, left-sets, el))
 
-    pub set-asks : 8 * sideTable d true .count ≤ length (midOf (8 * l) (length s - 8 * l) s)
-    set-asks = omega (arith, el, mid-len (8 * l) (length s) s (omega (arith, set-length, el)), set-length)
+    pub set-asks : setSize * sideTable d true .count ≤ length (midOf (rightSets l) (length s - rightSets l) s)
+    set-asks = omega (arith, el, mid-len (rightSets l) (length s) s (omega (arith, set-length, el)), set-length)
 
-    module _ (z : List ℕ) (f : z ≡ over (setsOf (sideTable d true)) (midOf (8 * l) (length s - 8 * l) s)) where
-      both-sets : putMid (8 * l) (length s - 8 * l) s z ≡ over (setsOf (sideTable d false) ++ setsOf (sideTable d true)) xs
-      both-sets = over-rest (setsOf (sideTable d false)) xs (setsOf (sideTable d true)) s z (8 * l) e left-sets f
+    module _ (z : List ℕ) (f : z ≡ over (setsOf (sideTable d true)) (midOf (rightSets l) (length s - rightSets l) s)) where
+      both-sets : putMid (rightSets l) (length s - rightSets l) s z ≡ over (setsOf (sideTable d false) ++ setsOf (sideTable d true)) xs
+      both-sets = over-rest (setsOf (sideTable d false)) xs (setsOf (sideTable d true)) s z (rightSets l) e left-sets f
 
-      pub sets : putMid (8 * l) (length s - 8 * l) s z ≡ over (builtSets (entriesOf d)) xs
+      pub sets : putMid (rightSets l) (length s - rightSets l) s z ≡ over (builtSets (entriesOf d)) xs
       sets = both-sets ∙ ap (λ (x : List ℕ). over x xs) (sets-built d)
 
-      pub sets-kept : length (putMid (8 * l) (length s - 8 * l) s z) ≡ length xs
+      pub sets-kept : length (putMid (rightSets l) (length s - rightSets l) s z) ≡ length xs
       sets-kept =
           ap length both-sets
           ∙ over-length (setsOf (sideTable d false) ++ setsOf (sideTable d true)) xs

@@ -8,7 +8,6 @@ use mathlib.Core.List.{List, [], _∷_, _++_, map}
 use lib.Dec.{leb}
 use lib.ListN.{length, getD}
 use borrow.Author.Tests.{le-leb, lt-leb}
-use Rattle.numbers.specs.Numbers.{two}
 use Rattle.rules.specs.Memory.{over}
 use Rattle.rules.specs.Shape.{Entry}
 use Rattle.rules.specs.Refusals.{accepted, declined}
@@ -16,7 +15,7 @@ use Rattle.image.specs.Image.{valid, entriesOf, countOf}
 use Rattle.reading.specs.Fitting.{Str, ends}
 use Rattle.tables.specs.States.{states}
 use Rattle.tables.specs.Tables.{Table, at, tableOf}
-use Rattle.tables.specs.Words.{tab, rowsOf, setsOf, builtWords, builtSets, neededWords, neededSets, wordsFor, setsFor, building, builtFrom, built}
+use Rattle.tables.specs.Words.{tab, rowsOf, setsOf, builtWords, builtSets, neededWords, neededSets, wordsFor, setsFor, building, builtFrom, built, rowSize, setSize}
 use Rattle.tables.proofs.Words.{length-tab}
 use Rattle.side.specs.Patterns.{patternsOf, Patterns, stateCount}
 use Rattle.side.specs.Filled.{atPlace, holds, sideRows, sideSets}
@@ -37,8 +36,8 @@ tab-ext (suc n) f g h = ap₂ _∷_ (h zero) (tab-ext n (λ k. f (suc k)) (λ k.
 
 sets-are : (f : Entry → Str) (rules : List Entry) → sideSets (map f rules) ≡ setsOf (tableOf f rules)
 sets-are f rules =
-    tab-ext (8 * length (states (map f rules))) _ _
-    (λ k. word-ext (holds (map f rules) (getD (states (map f rules)) (k / 8) [])) (tableOf f rules .holds (k / 8)) (k % 8) (λ b l. at-map (λ x. ends x (getD (states (map f rules)) (k / 8) [])) f rules (64 * (k % 8) + b)))
+    tab-ext (setSize * length (states (map f rules))) _ _
+    (λ k. word-ext (holds (map f rules) (getD (states (map f rules)) (k / setSize) [])) (tableOf f rules .holds (k / setSize)) (k % setSize) (λ b l. at-map (λ x. ends x (getD (states (map f rules)) (k / setSize) [])) f rules (64 * (k % setSize) + b)))
 
 -- n is the number of rules, and their patterns are laid
 module _ (d : List ℕ) (right : Bool) (ps ls : List ℕ) (n : ℕ) (e : n ≡ countOf d) (a : Laid d right ps ls) where
@@ -60,11 +59,11 @@ module _ (d : List ℕ) (right : Bool) (ps ls : List ℕ) (n : ℕ) (e : n ≡ c
   pub side-sets : sideSets (patternsOf ps ls n) ≡ setsOf (sideTable d right)
   side-sets = ap sideSets are-n ∙ sets-are (sideOf right) (entriesOf d)
 
-pub rows-length : (t : Table) → length (rowsOf t) ≡ 64 * t .count
-rows-length t = length-tab (64 * t .count) _
+pub rows-length : (t : Table) → length (rowsOf t) ≡ rowSize * t .count
+rows-length t = length-tab (rowSize * t .count) _
 
-pub sets-length : (t : Table) → length (setsOf t) ≡ 8 * t .count
-sets-length t = length-tab (8 * t .count) _
+pub sets-length : (t : Table) → length (setsOf t) ≡ setSize * t .count
+sets-length t = length-tab (setSize * t .count) _
 
 -- ---- both sides
 
@@ -73,19 +72,19 @@ module _ (d : List ℕ) (l r : ℕ) (el : l ≡ sideTable d false .count) (er : 
   unfolding builtWords
   words-are = ap₂ (λ (x y : ℕ). x ∷ y ∷ (rowsOf (sideTable d false) ++ rowsOf (sideTable d true))) el er
 
-  words-needed : 2 + 64 * (l + r) ≡ wordsFor (entriesOf d)
+  words-needed : neededWords l r ≡ wordsFor (entriesOf d)
   words-needed = ap₂ neededWords el er
 
-  sets-needed : 8 * (l + r) ≡ setsFor (entriesOf d)
+  sets-needed : neededSets l r ≡ setsFor (entriesOf d)
   sets-needed = ap₂ neededSets el er
 
   module _ (ws ss : List ℕ) where
-    pub few-words : length ws < 2 + 64 * (l + r) → building (declined 11 (2 + 64 * (l + r))) ws ss ≡ builtFrom (entriesOf d) ws ss
+    pub few-words : length ws < neededWords l r → building (declined 11 (neededWords l r)) ws ss ≡ builtFrom (entriesOf d) ws ss
     few-words h =
         let t : leb (wordsFor (entriesOf d)) (length ws) ≡ false = lt-leb (wordsFor (entriesOf d)) (length ws) (omega (arith, words-needed)) in
         rw t (ap (λ (n : ℕ). building (declined 11 n) ws ss) words-needed)
 
-    pub few-sets : 2 + 64 * (l + r) ≤ length ws → length ss < 8 * (l + r) → building (declined 12 (8 * (l + r))) ws ss ≡ builtFrom (entriesOf d) ws ss
+    pub few-sets : neededWords l r ≤ length ws → length ss < neededSets l r → building (declined 12 (neededSets l r)) ws ss ≡ builtFrom (entriesOf d) ws ss
     few-sets h g =
         let t : leb (wordsFor (entriesOf d)) (length ws) ≡ true = le-leb (wordsFor (entriesOf d)) (length ws) (omega (arith, words-needed)) in
         let u : leb (setsFor (entriesOf d)) (length ss) ≡ false = lt-leb (setsFor (entriesOf d)) (length ss) (omega (arith, sets-needed)) in

@@ -1,17 +1,18 @@
 -- The two sides of a ruleset's tables, and the patterns of one as they are laid out for the row filler.
 -- Assumes nothing.
 use mathlib.Core.Path.{_≡_}
-use Prim.Native.Nat.{ℕ, _≤_, _<_}
+use Prim.Native.Nat.{ℕ, _*_, _≤_, _<_}
 use mathlib.Core.Bool.{Bool, true, false}
 use mathlib.Core.List.{List, map}
 use lib.ListN.{length, getD}
-use Rattle.image.specs.State.{noEntry}
-use Rattle.numbers.specs.Numbers.{two}
+use Rattle.rules.specs.Limits.{maxRules}
 use Rattle.rules.specs.Shape.{Entry}
-use Rattle.image.specs.Image.{entriesOf, countOf}
+use Rattle.image.specs.Image.{entriesOf, entryAt, countOf}
 use Rattle.reading.specs.Fitting.{Str}
+use Rattle.tables.specs.States.{rightStates}
+use Rattle.tables.specs.Words.{rowSize}
 use Rattle.tables.specs.Tables.{Table, tableOf, leftPattern, rightPattern}
-use Rattle.side.specs.Patterns.{patternsOf, Patterns}
+use Rattle.side.specs.Patterns.{maxPattern, patternsOf, Patterns}
 
 -- the right pattern of a rule, or the left
 abbrev pub sideOf : Bool → Entry → Str
@@ -20,16 +21,16 @@ sideOf false = leftPattern
 
 -- the pattern of the rule at a place
 abbrev pub patternIn : List ℕ → Bool → ℕ → Str
-patternIn image right place = sideOf right (getD (entriesOf image) place noEntry)
+patternIn image right place = sideOf right (entryAt image place)
 
 abbrev pub sideTable : List ℕ → Bool → Table
 sideTable image right = tableOf (sideOf right) (entriesOf image)
 
 -- Scratch memory for the patterns of one side: whatever symbols it holds.
 pub record Scratch (ps ls : List ℕ) : Type 0 where
-  pub room : 5120 ≤ length ps
-  pub lens : 512 ≤ length ls
-  pub low : (k : ℕ) → getD ps k 0 < 64
+  pub room : maxPattern * maxRules ≤ length ps
+  pub lens : maxRules ≤ length ls
+  pub low : (k : ℕ) → getD ps k 0 < rowSize
 
 -- the patterns of a side lie in it
 pub record Laid (image : List ℕ) (right : Bool) (ps ls : List ℕ) : Type 0 where
@@ -40,5 +41,5 @@ pub record Laid (image : List ℕ) (right : Bool) (ps ls : List ℕ) : Type 0 wh
 -- the states of a side are counted
 pub record Counted (image : List ℕ) (right : Bool) (r : ℕ) (ps ls : List ℕ) : Type 0 where
   pub is : r ≡ sideTable image right .count
-  pub few : r ≤ 5121
+  pub few : r ≤ rightStates
   pub scratch : Scratch ps ls

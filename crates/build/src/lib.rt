@@ -2,76 +2,61 @@
 use rules::Answer;
 use rules::Refusal;
 ghost use mathlib.Core.Path.{_≡_};
-ghost use Prim.Native.Nat.{_+_, _-_, _*_, _≤_, _<_};
+ghost use Prim.Native.Nat.{_+_, _*_, _≤_, _<_};
 ghost use mathlib.Core.Bool.{true, false};
+ghost use mathlib.Core.List.{reverse};
 ghost use lib.ListN.{length, getD};
 ghost use Rattle.rules.specs.Memory.{over};
 ghost use Rattle.rules.specs.Refusals.{replyOf};
 ghost use Rattle.image.specs.Image.{valid, entriesOf, countOf};
-ghost use Rattle.tables.specs.Words.{rowsOf, setsOf, builtWords, builtSets, wordsFor, setsFor, building, builtFrom, built};
+ghost use Rattle.tables.specs.States.{leftStates, rightStates};
+ghost use Rattle.tables.specs.Words.{rowSize, setSize, rowsOf, setsOf, builtWords, builtSets, wordsFor, setsFor, building, builtFrom, built};
+ghost use Rattle.side.specs.Patterns.{maxPattern};
 ghost use Rattle.side.specs.Wrote.{Wrote};
 ghost use Rattle.build.specs.Sides.{patternIn, sideTable, Scratch, Laid, Counted};
 
-fn wide(x: u8) -> usize
-    ensures { λ r. ⌜ r ≡ x ⌝ }
-{
-    x as usize
-}
-
 // ---- the patterns of a side
 
-// How many symbols the pattern of a rule has.
-fn pattern_len(image: &[u8], place: usize, right: bool) -> u8
-    requires { ⌜ (valid (now image) ≡ true) × (place < countOf (now image)) ⌝ }
-    ensures { λ r. ⌜ r ≡ length (patternIn (now (image .entry)) right place) ⌝ }
+// The symbols of `s` are stored from `at` on, the last one first.
+fn put_reversed(pats: &mut [u8], at: usize, s: &[u8])
+    requires { ⌜ at + length (now s) ≤ length (now pats) ⌝ }
+    ensures { λ _. ⌜ Wrote (now (pats .entry)) at (length (now (s .entry))) (λ k. getD (reverse (now (s .entry))) k 0) (now (pats .exit)) ⌝ }
 {
-    let at = 4 + 26 * place;
-    if right {
-        return image[at + 3] + image[at + 4];
-    }
-    image[at + 2]
-}
-
-// Symbol k of the pattern of a rule: of its left context, or of target and right context from their end on.
-fn symbol(image: &[u8], place: usize, right: bool, k: usize) -> u8
-    requires { ⌜ (valid (now image) ≡ true) × (place < countOf (now image)) × (k < length (patternIn (now image) right place)) ⌝ }
-    ensures { λ r. ⌜ r ≡ getD (patternIn (now (image .entry)) right place) k 0 ⌝ }
-{
-    let at = 4 + 26 * place;
-    if right {
-        let n = wide(image[at + 4]);
-        if k < n {
-            return image[at + 16 + (n - 1 - k)];
-        }
-        let m = wide(image[at + 3]);
-        return image[at + 12 + (m + n - 1 - k)];
-    }
-    image[at + 6 + k]
-}
-
-// The pattern of a rule is laid from `at` on.
-fn put_pattern(pats: &mut [u8], at: usize, image: &[u8], place: usize, right: bool, len: u8)
-    requires { ⌜ (valid (now image) ≡ true) × (place < countOf (now image)) × (len ≡ length (patternIn (now image) right place)) × (at + len ≤ length (now pats)) ⌝ }
-    ensures { λ _. ⌜ Wrote (now (pats .entry)) at len (λ k. getD (patternIn (now (image .entry)) right place) k 0) (now (pats .exit)) ⌝ }
-{
-    let n = wide(len);
+    let n = s.len();
     let mut k: usize = 0;
     while k < n {
-        pats[at + k] = symbol(image, place, right, k);
+        pats[at + k] = s[n - 1 - k];
         k += 1;
     }
 }
 
-// Pattern i is laid from 10 i on, and its length is lens[i].
+// The pattern of a rule is stored from `at` on: its left context, or its target and right context from their end on. Gives its length.
+fn put_pattern(pats: &mut [u8], at: usize, image: &[u8], place: usize, right: bool) -> usize
+    requires { ⌜ (valid (now image) ≡ true) × (place < countOf (now image)) × (at + maxPattern ≤ length (now pats)) ⌝ }
+    ensures { λ r. ⌜ (r ≡ length (patternIn (now (image .entry)) right place)) × Wrote (now (pats .entry)) at r (λ k. getD (patternIn (now (image .entry)) right place) k 0) (now (pats .exit)) ⌝ }
+{
+    if right {
+        let after = image::right_at(image, place);
+        let target = image::target_at(image, place);
+        let n = after.len();
+        put_reversed(pats, at, after);
+        put_reversed(pats, at + n, target);
+        return n + target.len();
+    }
+    let left = image::left_at(image, place);
+    image::put(pats, at, left);
+    left.len()
+}
+
+// Pattern i is laid from PATTERN i on, and its length is lens[i].
 fn patterns(image: &[u8], n: usize, right: bool, pats: &mut [u8], lens: &mut [u8])
     requires { ⌜ (valid (now image) ≡ true) × (n ≡ countOf (now image)) × Scratch (now pats) (now lens) ⌝ }
     ensures { λ _. ⌜ Laid (now (image .entry)) right (now (pats .exit)) (now (lens .exit)) ⌝ }
 {
     let mut i: usize = 0;
     while i < n {
-        let len = pattern_len(image, i, right);
-        lens[i] = len;
-        put_pattern(pats, 10 * i, image, i, right, len);
+        let len = put_pattern(pats, side::PATTERN * i, image, i, right);
+        lens[i] = len as u8;
         i += 1;
     }
 }
@@ -97,7 +82,7 @@ fn fill_part(
     rows: &mut [u16],
     sets: &mut [u64],
 ) -> usize
-    requires { ⌜ (valid (now image) ≡ true) × (n ≡ countOf (now image)) × (64 * sideTable (now image) right .count ≤ length (now rows)) × (8 * sideTable (now image) right .count ≤ length (now sets)) × Scratch (now pats) (now lens) ⌝ }
+    requires { ⌜ (valid (now image) ≡ true) × (n ≡ countOf (now image)) × (rowSize * sideTable (now image) right .count ≤ length (now rows)) × (setSize * sideTable (now image) right .count ≤ length (now sets)) × Scratch (now pats) (now lens) ⌝ }
     ensures rows { λ _. ⌜ now (rows .exit) ≡ over (rowsOf (sideTable (now (image .entry)) right)) (now (rows .entry)) ⌝ }
     ensures sets { λ _. ⌜ now (sets .exit) ≡ over (setsOf (sideTable (now (image .entry)) right)) (now (sets .entry)) ⌝ }
     ensures count { λ r. ⌜ Counted (now (image .entry)) right r (now (pats .exit)) (now (lens .exit)) ⌝ }
@@ -108,7 +93,7 @@ fn fill_part(
 
 // ---- both sides
 
-// The left table from word 2 on, directly after it the right table, and the counts that the fillings gave; the left sets, then the right sets.
+// The left table after the head, directly after it the right table, and the counts that the fillings gave; the left sets, then the right sets.
 fn fill(
     image: &[u8],
     n: usize,
@@ -121,25 +106,26 @@ fn fill(
     ensures words { λ _. ⌜ now (words .exit) ≡ over (builtWords (entriesOf (now (image .entry)))) (now (words .entry)) ⌝ }
     ensures sets { λ _. ⌜ now (sets .exit) ≡ over (builtSets (entriesOf (now (image .entry)))) (now (sets .entry)) ⌝ }
 {
-    let l = fill_part(image, n, false, pats, lens, &mut words[2..], sets);
-    let a = 2 + 64 * l;
-    let b = 8 * l;
+    let l = fill_part(image, n, false, pats, lens, &mut words[tables::HEAD..], sets);
+    let a = tables::HEAD + tables::ROW * l;
+    let b = tables::SET * l;
     let r = fill_part(image, n, true, pats, lens, &mut words[a..], &mut sets[b..]);
-    words[0] = l as u16;
-    words[1] = r as u16;
+    words[tables::LEFT_COUNT] = l as u16;
+    words[tables::RIGHT_COUNT] = r as u16;
 }
 
 // No fewer than the states of both sides: each has one for the empty string, and each symbol of a pattern gives one at most.
 fn most_states(image: &[u8], n: usize) -> usize
     requires { ⌜ (valid (now image) ≡ true) × (n ≡ countOf (now image)) ⌝ }
-    ensures { λ r. ⌜ (sideTable (now (image .entry)) false .count + sideTable (now (image .entry)) true .count ≤ r) × (r ≤ 10242) ⌝ }
+    ensures { λ r. ⌜ (sideTable (now (image .entry)) false .count + sideTable (now (image .entry)) true .count ≤ r) × (r ≤ leftStates + rightStates) ⌝ }
 {
     let mut most: usize = 2;
     let mut i: usize = 0;
     while i < n {
-        let left = wide(pattern_len(image, i, false));
-        let right = wide(pattern_len(image, i, true));
-        most += left + right;
+        let left = image::left_at(image, i);
+        let target = image::target_at(image, i);
+        let right = image::right_at(image, i);
+        most += left.len() + target.len() + right.len();
         i += 1;
     }
     most
@@ -159,11 +145,11 @@ fn build_counted(
 {
     let l = count_side(image, n, false, pats, lens);
     let r = count_side(image, n, true, pats, lens);
-    let needed = 2 + 64 * (l + r);
+    let needed = tables::HEAD + tables::ROW * (l + r);
+    let places = tables::SET * (l + r);
     if words.len() < needed {
         return Answer::Refused(Refusal::WordsRoom(needed));
     }
-    let places = 8 * (l + r);
     if sets.len() < places {
         return Answer::Refused(Refusal::SetsRoom(places));
     }
@@ -183,9 +169,9 @@ fn build_with(
     requires { ⌜ (valid (now image) ≡ true) × Scratch (now pats) (now lens) ⌝ }
     ensures { λ r. ⌜ building (replyOf r) (now (words .exit)) (now (sets .exit)) ≡ builtFrom (entriesOf (now (image .entry))) (now (words .entry)) (now (sets .entry)) ⌝ }
 {
-    let n = image::two_at(image, 0) as usize;
+    let n = image::rule_count(image);
     let most = most_states(image, n);
-    if 2 + 64 * most <= words.len() && 8 * most <= sets.len() {
+    if tables::HEAD + tables::ROW * most <= words.len() && tables::SET * most <= sets.len() {
         fill(image, n, pats, lens, words, sets);
         return Answer::Accepted;
     }
@@ -198,8 +184,8 @@ pub fn build_valid(image: &[u8], words: &mut [u16], sets: &mut [u64]) -> Answer
     requires { ⌜ valid (now image) ≡ true ⌝ }
     ensures { λ r. ⌜ building (replyOf r) (now (words .exit)) (now (sets .exit)) ≡ builtFrom (entriesOf (now (image .entry))) (now (words .entry)) (now (sets .entry)) ⌝ }
 {
-    let mut pats = [0u8; 5120];
-    let mut lens = [0u8; 512];
+    let mut pats = [0u8; side::PATTERN * rules::MAX_RULES];
+    let mut lens = [0u8; rules::MAX_RULES];
     build_with(image, &mut pats, &mut lens, words, sets)
 }
 

@@ -23,6 +23,12 @@ mul-needed c = omega (arith, c .before .before .before .before .count-side2 .ens
 add-needed-2 : tie.Need-add-needed-2
 add-needed-2 c = omega (arith, c .before .before .before .before .count-side2 .ensures .few, c .before .before .before .before .before .before .before .before .before .before .before .count-side .ensures .few)
 
+add-places : tie.Need-add-places
+add-places c = omega (arith, c .before .before .before .before .count-side2 .ensures .few, c .before .before .before .before .before .before .before .before .before .before .before .count-side .ensures .few)
+
+mul-places : tie.Need-mul-places
+mul-places c = omega (arith, c .before .before .before .before .count-side2 .ensures .few, c .before .before .before .before .before .before .before .before .before .before .before .count-side .ensures .few)
+
 same-length : tie.Need-same-length
 same-length c = search needs
 
@@ -31,12 +37,6 @@ same-length-2 c = search needs
 
 returns : tie.Need-returns
 returns c = few-words _ _ _ (c .before .before .before .before .before .before .before .before .before .before .before .before .count-side .ensures .is) (c .before .before .before .before .before .count-side2 .ensures .is) _ _ (c .if1 .taken)
-
-add-places : tie.Need-add-places
-add-places c = omega (arith, c .before .before .before .before .before .count-side2 .ensures .few, c .before .before .before .before .before .before .before .before .before .before .before .before .count-side .ensures .few)
-
-mul-places : tie.Need-mul-places
-mul-places c = omega (arith, c .before .before .before .before .before .count-side2 .ensures .few, c .before .before .before .before .before .before .before .before .before .before .before .before .count-side .ensures .few)
 
 same-length-3 : tie.Need-same-length-3
 same-length-3 c = search needs
@@ -83,11 +83,11 @@ build-counted-spec =
     add-needed
     mul-needed
     add-needed-2
+    add-places
+    mul-places
     same-length
     same-length-2
     returns
-    add-places
-    mul-places
     same-length-3
     same-length-4
     returns-2

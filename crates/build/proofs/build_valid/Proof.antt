@@ -2,6 +2,9 @@
 -- Assumes nothing.
 use native.Mathlib.Omega.{arith}
 use borrow.Author.Needs.{needs}
+use Prim.Native.Nat.{_*_}
+use Rattle.rules.specs.Limits.{maxRules}
+use Rattle.side.specs.Patterns.{maxPattern}
 use Rattle.build.proofs.Laying.{cleared}
 use Rattle.build.proofs.build_valid.Statement.{statement}
 use Rattle.build.proofs.build_valid.Tie as tie
@@ -13,7 +16,7 @@ slice-aggregate-build-with-2 : tie.Need-slice-aggregate-build-with-2
 slice-aggregate-build-with-2 c = search needs
 
 build-with-requires : tie.Need-build-with-requires
-build-with-requires c κs = (c .before .before .before .before .before .before .before .pre, cleared 5120 512 (omega arith) (omega arith))
+build-with-requires c κs = (c .before .before .before .before .before .before .before .pre, cleared (maxPattern * maxRules) maxRules (omega arith) (omega arith))
 
 same-length : tie.Need-same-length
 same-length c = search needs

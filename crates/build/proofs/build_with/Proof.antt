@@ -6,15 +6,13 @@ use lib.ListN.{length}
 use borrow.Author.Needs.{needs}
 use borrow.Author.Tests.{leb-true}
 use Rattle.image.proofs.Tests.{valid-long}
+use Rattle.tables.specs.Words.{setSize}
 use Rattle.build.proofs.Whole.{enough}
 use Rattle.build.proofs.build_with.Statement.{statement}
 use Rattle.build.proofs.build_with.Tie as tie
 
-two-at-requires : tie.Need-two-at-requires
-two-at-requires c κs = omega (arith, valid-long _ (c .before .before .before .before .before .pre .0))
-
-cast-n : tie.Need-cast-n
-cast-n c = search needs
+rule-count-requires : tie.Need-rule-count-requires
+rule-count-requires c κs = valid-long _ (c .before .before .before .before .before .pre .0)
 
 most-states-requires : tie.Need-most-states-requires
 most-states-requires c κs = search needs
@@ -32,7 +30,7 @@ fill-requires : tie.Need-fill-requires
 fill-requires c κs =
     let st = c .before .before .before .before .before .before .before .before .before .before .before .before .before in
     let m = c .before .before .before .before .before .before .most-states .ensures .0 in
-    (st .pre .0, c .before .before .before .before .before .before .before .two-at .ensures, omega (arith, m, c .before .before .before .before .before .if1 .taken), omega (arith, m, leb-true (8 * c .before .before .before .before .before .before .most-states .result) (length (st .args .sets .now)) (c .before .before .before .before .if2 .taken)), st .pre .1)
+    (st .pre .0, c .before .before .before .before .before .before .before .rule-count .ensures .0, omega (arith, m, c .before .before .before .before .before .if1 .taken), omega (arith, m, leb-true (setSize * c .before .before .before .before .before .before .most-states .result) (length (st .args .sets .now)) (c .before .before .before .before .if2 .taken)), st .pre .1)
 
 same-length : tie.Need-same-length
 same-length c = search needs
@@ -51,7 +49,7 @@ returns c =
     let st = c .before .before .before .before .before .before .before .before .before .before .before .before .before .before .before .before .before .before .before .before .before .before in
     let m = c .before .before .before .before .before .before .before .before .before .before .before .before .before .before .before .most-states .ensures .0 in
     let f = c .before .before .before .before .before .before .before .before .fill .ensures in
-    enough _ (st .args .words .now) (st .args .sets .now) (omega (arith, m, c .before .before .before .before .before .before .before .before .before .before .before .before .before .before .if1 .taken)) (omega (arith, m, leb-true (8 * c .before .before .before .before .before .before .before .before .before .before .before .before .before .before .before .most-states .result) (length (st .args .sets .now)) (c .before .before .before .before .before .before .before .before .before .before .before .before .before .if2 .taken))) _ _ (f .0) (f .1)
+    enough _ (st .args .words .now) (st .args .sets .now) (omega (arith, m, c .before .before .before .before .before .before .before .before .before .before .before .before .before .before .if1 .taken)) (omega (arith, m, leb-true (setSize * c .before .before .before .before .before .before .before .before .before .before .before .before .before .before .before .most-states .result) (length (st .args .sets .now)) (c .before .before .before .before .before .before .before .before .before .before .before .before .before .if2 .taken))) _ _ (f .0) (f .1)
 
 build-counted-requires : tie.Need-build-counted-requires
 build-counted-requires c κs = search needs
@@ -75,8 +73,7 @@ pub build-with-spec : {M : Type 1} → statement M
 build-with-spec =
     tie.close
     (tie.spec
-    two-at-requires
-    cast-n
+    rule-count-requires
     most-states-requires
     mul-if1
     add-if1

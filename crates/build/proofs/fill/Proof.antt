@@ -5,6 +5,7 @@ use mathlib.Core.Bool.{false}
 use native.Mathlib.Omega.{arith}
 use borrow.Author.Needs.{needs}
 use lib.ListN.{length}
+use Rattle.tables.specs.Words.{setSize}
 use Rattle.build.specs.Sides.{sideTable}
 use Rattle.build.proofs.Joining as J
 use Rattle.build.proofs.fill.Statement.{statement}
@@ -22,7 +23,7 @@ part-fill-part-end c = search needs
 fill-part-requires : tie.Need-fill-part-requires
 fill-part-requires c κs =
     let st = c .before .before .before .before .before .before .before .before .before in
-    let h : 8 * sideTable (st .args .image .now) false .count ≤ length (st .args .sets .now) = omega (arith, st .pre .3) in
+    let h : setSize * sideTable (st .args .image .now) false .count ≤ length (st .args .sets .now) = omega (arith, st .pre .3) in
     (st .pre .0, st .pre .1, J.asks₁ _ (st .args .words .now) (st .pre .2), h, st .pre .4)
 
 mul-a : tie.Need-mul-a

@@ -7,6 +7,7 @@ use native.Mathlib.Omega.{arith}
 use borrow.Author.Needs.{needs}
 use lib.ListN.{length}
 use Rattle.rules.specs.Memory.{over}
+use Rattle.tables.specs.Words.{rowSize, setSize}
 use Rattle.side.specs.Patterns.{stateCount}
 use Rattle.build.proofs.Whole.{side-ok, side-count, side-counted, side-rows, side-sets}
 use Rattle.build.proofs.fill_part.Statement.{statement}
@@ -20,8 +21,8 @@ fill-side-requires c κs =
     let st = c .before .before .before .before .before .before .before .before .before .before .before .before .before .before .before .before in
     let p = c .before .before .before .before .before .before .before .before .patterns in
     let n = side-count _ _ _ _ _ (st .pre .1) (p .ensures) in
-    let g : 64 * stateCount (p .last .1 .1 .1 .0) (p .last .1 .1 .1 .1 .0) (st .args .n) ≤ length (st .args .rows .now) = omega (arith, n, st .pre .2) in
-    let h : 8 * stateCount (p .last .1 .1 .1 .0) (p .last .1 .1 .1 .1 .0) (st .args .n) ≤ length (st .args .sets .now) = omega (arith, n, st .pre .3) in
+    let g : rowSize * stateCount (p .last .1 .1 .1 .0) (p .last .1 .1 .1 .1 .0) (st .args .n) ≤ length (st .args .rows .now) = omega (arith, n, st .pre .2) in
+    let h : setSize * stateCount (p .last .1 .1 .1 .0) (p .last .1 .1 .1 .1 .0) (st .args .n) ≤ length (st .args .sets .now) = omega (arith, n, st .pre .3) in
     (side-ok _ _ _ _ _ (st .pre .1) (p .ensures), g, h)
 
 same-length : tie.Need-same-length

@@ -6,6 +6,7 @@ use borrow.Author.Needs.{needs}
 use Rattle.image.specs.Image.{countOf}
 use Rattle.image.proofs.Tests.{valid-count}
 use Rattle.build.proofs.Laying.{Laying, begin, fits, lens-room, next, finished, laid-at}
+use Rattle.build.proofs.Symbols.{long}
 use Rattle.build.proofs.patterns.Statement.{statement}
 use Rattle.build.proofs.patterns.Tie as tie
 
@@ -20,28 +21,26 @@ loop-holds c =
     let st = c .before .before .before in
     begin _ _ (st .pre .0) _ _ (st .pre .2)
 
-pattern-len-requires : tie.Need-pattern-len-requires Inv-loop μ-loop
-pattern-len-requires c κs =
-    let st = c .before .before .before .before .before in
-    (st .pre .0, omega (arith, st .pre .1, c .loop-test .taken))
-
-slice-write-lens : tie.Need-slice-write-lens Inv-loop μ-loop
-slice-write-lens c =
-    let st = c .before .before .before .before .before .before in
-    let h : c .before .before .loop .i < countOf (st .args .image .now) = omega (arith, st .pre .1, c .before .loop-test .taken) in
-    lens-room _ _ (st .pre .0) _ _ (st .pre .2) _ _ _ (c .before .before .loop .inv) h _ (c .pattern-len .ensures)
-
 mul-put-pattern : tie.Need-mul-put-pattern Inv-loop μ-loop
-mul-put-pattern c =
-    let st = c .before .before .before .before .before .before .before in
-    omega (arith, st .pre .1, valid-count _ (st .pre .0))
+mul-put-pattern c = omega (arith, c .before .before .before .before .before .before .pre .1, valid-count _ (c .before .before .before .before .before .before .pre .0))
 
 put-pattern-requires : tie.Need-put-pattern-requires Inv-loop μ-loop
 put-pattern-requires c κs =
-    let st = c .before .before .before .before .before .before .before in
-    let h : c .before .before .before .loop .i < countOf (st .args .image .now) = omega (arith, st .pre .1, c .before .before .loop-test .taken) in
-    let e = c .before .pattern-len .ensures in
-    (st .pre .0, h, e, fits _ _ (st .pre .0) _ _ (st .pre .2) _ _ _ (c .before .before .before .loop .inv) h _ e)
+    let st = c .before .before .before .before .before .before in
+    let h : c .before .before .loop .i < countOf (st .args .image .now) = omega (arith, st .pre .1, c .before .loop-test .taken) in
+    (st .pre .0, h, fits _ _ (st .pre .0) _ _ (st .pre .2) _ _ _ (c .before .before .loop .inv) h)
+
+cast-lens : tie.Need-cast-lens Inv-loop μ-loop
+cast-lens c =
+    let st = c .before .before .before .before .before .before .before .before .before in
+    let h : c .before .before .before .before .before .loop .i < countOf (st .args .image .now) = omega (arith, st .pre .1, c .before .before .before .before .loop-test .taken) in
+    record { fits = omega (arith, c .before .before .put-pattern .ensures .0, long _ (st .pre .0) _ h (st .args .right)) }
+
+slice-write-lens : tie.Need-slice-write-lens Inv-loop μ-loop
+slice-write-lens c =
+    let st = c .before .before .before .before .before .before .before .before .before in
+    let h : c .before .before .before .before .before .loop .i < countOf (st .args .image .now) = omega (arith, st .pre .1, c .before .before .before .before .loop-test .taken) in
+    lens-room _ _ (st .pre .0) _ _ (st .pre .2) _ _ _ (c .before .before .before .before .before .loop .inv) h
 
 add-i : tie.Need-add-i Inv-loop μ-loop
 add-i c = search needs
@@ -51,9 +50,10 @@ loop-less c = search needs
 
 loop-again : tie.Need-loop-again Inv-loop μ-loop
 loop-again c =
-    let st = c .before .before .before .before .before .before .before .before .before .before in
-    let h : c .before .before .before .before .before .before .loop .i < countOf (st .args .image .now) = omega (arith, st .pre .1, c .before .before .before .before .before .loop-test .taken) in
-    next _ _ (st .pre .0) _ _ (st .pre .2) _ _ _ (c .before .before .before .before .before .before .loop .inv) h _ (c .before .before .before .before .pattern-len .ensures) _ (c .before .before .put-pattern .ensures)
+    let st = c .before .before .before .before .before .before .before .before .before in
+    let h : c .before .before .before .before .before .loop .i < countOf (st .args .image .now) = omega (arith, st .pre .1, c .before .before .before .before .loop-test .taken) in
+    let e = c .before .before .put-pattern .ensures in
+    next _ _ (st .pre .0) _ _ (st .pre .2) _ _ _ (c .before .before .before .before .before .loop .inv) h _ (e .0) _ (e .1)
 
 same-length : tie.Need-same-length Inv-loop μ-loop
 same-length c = c .before .loop .inv .psLen
@@ -73,10 +73,10 @@ patterns-spec =
     Inv-loop
     μ-loop
     loop-holds
-    pattern-len-requires
-    slice-write-lens
     mul-put-pattern
     put-pattern-requires
+    cast-lens
+    slice-write-lens
     add-i
     loop-less
     loop-again

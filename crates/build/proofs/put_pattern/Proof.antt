@@ -1,72 +1,66 @@
--- The loop that lays one pattern.
+-- A pattern is laid from the fields of its rule.
 -- Assumes nothing.
-use Prim.Native.Nat.{_-_, _≤_}
+use mathlib.Core.Path.{ap}
+use lib.ListN.{length}
 use native.Mathlib.Omega.{arith}
+use Rattle.build.proofs.Symbols as S
 use borrow.Author.Needs.{needs}
-use lib.ListN.{getD}
-use Rattle.side.specs.Wrote.{Wrote}
-use Rattle.side.proofs.Writing.{begin, next, full}
-use Rattle.build.specs.Sides.{patternIn}
 use Rattle.build.proofs.put_pattern.Statement.{statement}
 use Rattle.build.proofs.put_pattern.Tie as tie
 
-abbrev Inv-loop : tie.InvT-loop
-Inv-loop pats₀ at image place right len n k₀ pats k = (k ≤ n) × Wrote pats₀ at k (λ j. getD (patternIn image right place) j 0) pats
+right-at-requires : tie.Need-right-at-requires
+right-at-requires c κs = search needs
 
-abbrev μ-loop : tie.MeasureT-loop
-μ-loop pats₀ at image place right len n k₀ pats k = n - k
+target-at-requires : tie.Need-target-at-requires
+target-at-requires c κs = search needs
 
-wide-requires : tie.Need-wide-requires Inv-loop μ-loop
-wide-requires c κs = search needs
+put-reversed-requires : tie.Need-put-reversed-requires
+put-reversed-requires c κs = omega (arith, ap length (c .before .before .right-at .ensures), S.right-most _ (c .before .before .before .before .before .before .pre .0) _ (c .before .before .before .before .before .before .pre .1), c .before .before .before .before .before .before .pre .2)
 
-loop-holds : tie.Need-loop-holds Inv-loop μ-loop
-loop-holds c = (omega arith, begin _ _ _)
+add-put-reversed : tie.Need-add-put-reversed
+add-put-reversed c = search needs
 
-symbol-requires : tie.Need-symbol-requires Inv-loop μ-loop
-symbol-requires c κs =
-    let st = c .before .before .before .before .before in
-    (st .pre .0, st .pre .1, omega (arith, st .pre .2, c .before .before .wide .ensures))
+put-reversed-requires-2 : tie.Need-put-reversed-requires-2
+put-reversed-requires-2 c κs = omega (
+      arith, ap length (c .before .before .before .before .before .before .right-at .ensures), S.right-most _ (c .before .before .before .before .before .before .before .before .before .before .pre .0) _ (c .before .before .before .before .before .before .before .before .before .before .pre .1), ap length (c .before .before .before .before .before .target-at .ensures),
+      S.target-most _ (c .before .before .before .before .before .before .before .before .before .before .pre .0) _ (c .before .before .before .before .before .before .before .before .before .before .pre .1), c .before .before .before .before .before .before .before .before .before .before .pre .2, c .before .before .before .put-reversed .ensures .len)
 
-add-pats : tie.Need-add-pats Inv-loop μ-loop
-add-pats c =
-    let st = c .before .before .before .before .before .before in
-    omega (arith, st .pre .3, c .before .before .before .wide .ensures, st .good .0)
+add-result : tie.Need-add-result
+add-result c = search needs
 
-slice-write-pats : tie.Need-slice-write-pats Inv-loop μ-loop
-slice-write-pats c =
-    let st = c .before .before .before .before .before .before in
-    omega (arith, st .pre .3, c .before .before .before .wide .ensures, c .before .before .loop .inv .1 .len)
+same-length : tie.Need-same-length
+same-length c = search needs
 
-add-k : tie.Need-add-k Inv-loop μ-loop
-add-k c = search needs
+returns : tie.Need-returns
+returns c = S.put-right _ _ _ _ _ _ _ (c .before .before .before .before .before .before .before .before .before .before .if1 .taken) (c .before .before .before .before .before .before .before .before .target-at .ensures) (c .before .before .before .before .before .before .before .before .before .right-at .ensures) (c .before .before .before .before .before .before .put-reversed .ensures) (c .before .before .put-reversed2 .ensures)
 
-loop-less : tie.Need-loop-less Inv-loop μ-loop
-loop-less c = search needs
+left-at-requires : tie.Need-left-at-requires
+left-at-requires c κs = search needs
 
-loop-again : tie.Need-loop-again Inv-loop μ-loop
-loop-again c =
-    let st = c .before .before .before .before .before .before in
-    (omega arith, next _ _ _ _ _ (c .symbol .result) (c .before .before .loop .inv .1) (omega (arith, st .pre .3, c .before .before .before .wide .ensures)) (c .symbol .ensures))
+put-requires : tie.Need-put-requires
+put-requires c κs = omega (arith, ap length (c .before .left-at .ensures), S.left-most _ (c .before .before .before .before .before .pre .0) _ (c .before .before .before .before .before .pre .1), c .before .before .before .before .before .pre .2)
 
-same-length : tie.Need-same-length Inv-loop μ-loop
-same-length c = c .before .loop .inv .1 .len
+same-length-2 : tie.Need-same-length-2
+same-length-2 c = search needs
 
-returns : tie.Need-returns Inv-loop μ-loop
-returns c = full _ (c .before .loop .inv .1) (omega (arith, c .before .before .wide .ensures))
+returns-2 : tie.Need-returns-2
+returns-2 c = 
+    S.put-left _ _ _ _ _ _ _ (c .before .before .before .before .before .if1 .left) (c .before .before .before .before .left-at .ensures)
+    (omega (arith, ap length (c .before .before .before .before .left-at .ensures), S.left-most _ (c .before .before .before .before .before .before .before .before .pre .0) _ (c .before .before .before .before .before .before .before .before .pre .1), c .before .before .before .before .before .before .before .before .pre .2)) (c .before .before .put .ensures)
 
 pub put-pattern-spec : {M : Type 1} → statement M
 put-pattern-spec =
     tie.close
     (tie.spec
-    Inv-loop
-    μ-loop
-    wide-requires
-    loop-holds
-    symbol-requires
-    add-pats
-    slice-write-pats
-    add-k
-    loop-less
-    loop-again
+    right-at-requires
+    target-at-requires
+    put-reversed-requires
+    add-put-reversed
+    put-reversed-requires-2
+    add-result
     same-length
-    returns)
+    returns
+    left-at-requires
+    put-requires
+    same-length-2
+    returns-2)
