@@ -14,9 +14,9 @@ use Rattle.rules.proofs.Memory.{over-length, put-tail, tail-is}
 use Rattle.rules.proofs.Cases.{byBool}
 use Rattle.image.specs.Image.{valid, entriesOf}
 use Rattle.reading.specs.Fitting.{Str}
-use Rattle.reading.specs.Reading.{Reading, finished, stopped}
-use Rattle.reading.specs.Speech.{phonesOf, numbersOf, Said, toldOf, saying, delivered, judgedName, refused}
-use Rattle.tables.specs.Walk.{Walked, walkWords, walkSaid}
+use Rattle.reading.specs.Speech.{Outcome, speaks, declines, judgedCall, phonesOf, numbersOf, Said, toldOf, saying, delivered, refused}
+use Rattle.tables.specs.Words.{compiledFrom}
+use Rattle.tables.specs.Walk.{Walked, walkThrough, walkFor, walkSaid}
 use Rattle.walk.specs.Walked.{walkedOf}
 use Rattle.walk.specs.declared.WalkAnswer.{WalkAnswer}
 use Rattle.host.specs.Codes.{phonesGiven, numbersGiven}
@@ -182,22 +182,21 @@ module _ (f : Str → List ℕ → List ℕ → Walked) (names : List ℕ) (k : 
 kept : (n p : ℕ) (phones numbers : List ℕ) → Fitting (saying (refused n p) phones numbers) phones numbers
 kept n p phones numbers = record { phones-fit = omega arith; numbers-fit = omega arith; phones-keep = refl; numbers-keep = refl }
 
-delivered-fit : (o : Reading) (phones numbers : List ℕ) → Fitting (delivered o phones numbers) phones numbers
-delivered-fit (stopped n p) phones numbers = kept n p phones numbers
-delivered-fit (finished rs) phones numbers =
-    byBool (leb (length (phonesOf rs)) (length phones))
-    (λ a. byBool (leb (length (numbersOf rs)) (length numbers))
+delivered-fit : (o : Outcome) (phones numbers : List ℕ) → Fitting (delivered o phones numbers) phones numbers
+delivered-fit (declines n p steps) phones numbers = kept n p phones numbers
+delivered-fit (speaks xs steps) phones numbers =
+    byBool (leb (length (phonesOf xs)) (length phones))
+    (λ a. byBool (leb (length (numbersOf xs)) (length numbers))
     (λ b.
-    let h = leb-true (length (phonesOf rs)) (length phones) a in
-    let k = leb-true (length (numbersOf rs)) (length numbers) b in
-    rw (a, b) (record { phones-fit = h; numbers-fit = k; phones-keep = over-length (phonesOf rs) phones h; numbers-keep = over-length (numbersOf rs) numbers k }))
-    (λ b. rw (a, b) (kept 5 (length (numbersOf rs)) phones numbers)))
-    (λ a. rw a (kept 4 (length (phonesOf rs)) phones numbers))
+    let h = leb-true (length (phonesOf xs)) (length phones) a in
+    let k = leb-true (length (numbersOf xs)) (length numbers) b in
+    rw (a, b) (record { phones-fit = h; numbers-fit = k; phones-keep = over-length (phonesOf xs) phones h; numbers-keep = over-length (numbersOf xs) numbers k }))
+    (λ b. rw (a, b) (kept 5 (length (numbersOf xs)) phones numbers)))
+    (λ a. rw a (kept 4 (length (phonesOf xs)) phones numbers))
 
 pub walk-fits : (image ws ss : List ℕ) → Fits (walkSaid image ws ss)
-unfolding walkSaid
-walk-fits image ws ss n phones numbers =
-    byBool (valid image) (λ v. rw v (delivered-fit (judgedName n (walkWords ws ss (entriesOf image) n)) phones numbers)) (λ v. rw v (kept 0 0 phones numbers))
+unfolding walkFor
+walk-fits image ws ss n phones numbers = delivered-fit (judgedCall image n (walkThrough (compiledFrom ws ss) (entriesOf image) n)) phones numbers
 
 -- ---- one name, as the code answers it
 

@@ -9,21 +9,16 @@ use lib.Dec.{leb, ltb}
 use lib.ListN.{length, getD, take, drop, length-drop, drop-of-length-le}
 use lib.Seq.{drop-cons, drop-drop}
 use borrow.Author.Tests.{leb-true, leb-false, le-leb, lt-leb, ltb-true, ltb-false, lt-ltb, le-ltb}
-use Rattle.rules.proofs.Cases.{byBool}
-use Rattle.tables.proofs.Truth.{clash}
+use Rattle.rules.proofs.Cases.{byBool, and-l, and-r}
 use Rattle.host.specs.Many.{namesIn, hasNext}
-
-pick-true : (a b : Bool) → (a && b) ≡ true → (a ≡ true) × (b ≡ true)
-pick-true true b h = (refl, h)
-pick-true false b h = absurd (clash h refl)
 
 module _ (names : List ℕ) (at count k : ℕ) where
   module _ (h : hasNext names at count k ≡ true) where
     pub next-count : count < k
-    next-count = ltb-true count k (pick-true (ltb count k) _ h .0)
+    next-count = ltb-true count k (and-l (ltb count k) _ h)
 
     pub next-whole : at + 1 + getD names at 0 ≤ length names
-    next-whole = leb-true _ (length names) (pick-true (ltb count k) _ h .1)
+    next-whole = leb-true _ (length names) (and-r (ltb count k) _ h)
 
     -- the next name, and the names after it
     pub names-next : namesIn (k - count) (drop at names) ≡ take (getD names at 0) (drop (at + 1) names) ∷ namesIn (k - (count + 1)) (drop (at + 1 + getD names at 0) names)

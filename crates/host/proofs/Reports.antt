@@ -10,84 +10,55 @@ use lib.Seq.{getD-drop}
 use borrow.Author.Tests.{eq-eqb, ne-eqb, lt-leb, le-leb}
 use Rattle.rules.specs.Shape.{shape}
 use Rattle.rules.specs.declared.Rule.{Rule}
-use Rattle.rules.specs.Refusals.{Reply, accepted, declined}
-use Rattle.image.specs.Image.{imageSize, valid, ledgerOf, Edited, outcome, countOf, lastOf}
-use Rattle.image.proofs.Bytes.{four-front, six-front}
+use Rattle.rules.specs.Refusals.{Reply, accepted, declined, replyCode, replyPlace}
+use Rattle.image.specs.Image.{imageSize, valid, ledgerOf, Edited, outcome, countOf, lastOf, ruleSize, ruleOf}
 use Rattle.edits.specs.Ledger.{Edit, judged}
 use Rattle.edits.specs.Edits.{edited, outcomeBy}
 use Rattle.reading.specs.Speech.{Told, Said, saying}
 use Rattle.tables.specs.Words.{Built, building}
 use Rattle.file.specs.Loading.{Report, Filed, filing}
 use Rattle.host.specs.Files.{writtenCode, bytesOrPlace}
-use Rattle.host.specs.Codes.{codeOf, placeIn, checked, countIn, lastIn, spokenCode, phonesOrPlace, numbersGiven, blankRule, ruleOf, ruleIn}
+use Rattle.host.specs.Codes.{checked, countIn, lastIn, spokenCode, phonesOrPlace, numbersGiven, blankRule, ruleIn}
 
 -- the numbers of an edit or a reading, and the memory after it
 module _ (a : Reply) (image : List ℕ) (e : Edited) (h : outcome a image ≡ e) where
-  pub code-is : (r : ℕ) → r ≡ codeOf a → r ≡ codeOf (e .reply)
-  code-is r c = c ∙ ap (λ (x : Edited). codeOf (x .reply)) h
+  pub code-is : (r : ℕ) → r ≡ replyCode a → r ≡ replyCode (e .reply)
+  code-is r c = c ∙ ap (λ (x : Edited). replyCode (x .reply)) h
 
-  pub place-is : (r : ℕ) → r ≡ placeIn a → r ≡ placeIn (e .reply)
-  place-is r c = c ∙ ap (λ (x : Edited). placeIn (x .reply)) h
+  pub place-is : (r : ℕ) → r ≡ replyPlace a → r ≡ replyPlace (e .reply)
+  place-is r c = c ∙ ap (λ (x : Edited). replyPlace (x .reply)) h
 
   pub image-is : image ≡ e .image
   image-is = ap (λ (x : Edited). x .image) h
 
-pub checked-is : (image : List ℕ) (b : Bool) → valid image ≡ b → codeOf (checked image) ≡ cond b 255 0
-checked-is image true h = ap (λ (t : Bool). codeOf (cond t accepted (declined 0 0))) h
-checked-is image false h = ap (λ (t : Bool). codeOf (cond t accepted (declined 0 0))) h
+pub checked-is : (image : List ℕ) (b : Bool) → valid image ≡ b → replyCode (checked image) ≡ cond b (replyCode accepted) 0
+checked-is image true h = ap (λ (t : Bool). replyCode (cond t accepted (declined 0 0))) h
+checked-is image false h = ap (λ (t : Bool). replyCode (cond t accepted (declined 0 0))) h
 
 -- what memory holds, long enough or not
-pub count-long : (image : List ℕ) → 13316 ≤ length image → countOf image ≡ countIn image
+pub count-long : (image : List ℕ) → imageSize ≤ length image → countOf image ≡ countIn image
 count-long image h = ap (λ (t : Bool). cond t (countOf image) 0) (sym (le-leb imageSize (length image) h))
 
-pub count-short : (image : List ℕ) → length image < 13316 → 0 ≡ countIn image
+pub count-short : (image : List ℕ) → length image < imageSize → 0 ≡ countIn image
 count-short image h = ap (λ (t : Bool). cond t (countOf image) 0) (sym (lt-leb imageSize (length image) h))
 
-pub last-long : (image : List ℕ) → 13316 ≤ length image → lastOf image ≡ lastIn image
+pub last-long : (image : List ℕ) → imageSize ≤ length image → lastOf image ≡ lastIn image
 last-long image h = ap (λ (t : Bool). cond t (lastOf image) 0) (sym (le-leb imageSize (length image) h))
 
-pub last-short : (image : List ℕ) → length image < 13316 → 0 ≡ lastIn image
+pub last-short : (image : List ℕ) → length image < imageSize → 0 ≡ lastIn image
 last-short image h = ap (λ (t : Bool). cond t (lastOf image) 0) (sym (lt-leb imageSize (length image) h))
 
--- a rule from 24 bytes, read one by one
-four : (k : ℕ) (s : List ℕ) → k + 4 ≤ length s
-    → getD s (k + 0) 0 ∷ getD s (k + 1) 0 ∷ getD s (k + 2) 0 ∷ getD s (k + 3) 0 ∷ [] ≡ take 4 (drop k s)
-four k s h =
-    rw (← getD-drop k s 0 0, ← getD-drop k s 1 0, ← getD-drop k s 2 0, ← getD-drop k s 3 0)
-    (four-front (drop k s) (simp length-drop (omega arith)))
-
-six : (k : ℕ) (s : List ℕ) → k + 6 ≤ length s
-    → getD s (k + 0) 0 ∷ getD s (k + 1) 0 ∷ getD s (k + 2) 0 ∷ getD s (k + 3) 0 ∷ getD s (k + 4) 0 ∷ getD s (k + 5) 0 ∷ []
-    ≡ take 6 (drop k s)
-six k s h =
-    rw (← getD-drop k s 0 0, ← getD-drop k s 1 0, ← getD-drop k s 2 0, ← getD-drop k s 3 0, ← getD-drop k s 4 0, ← getD-drop k s 5 0)
-    (six-front (drop k s) (simp length-drop (omega arith)))
-
-pub rule-of-is : (s : List ℕ) → length s ≡ 24
-    → _≡_ {A = Rule}
-    (record {
-      «left_len» = getD s 0 0;
-      «target_len» = getD s 1 0;
-      «right_len» = getD s 2 0;
-      «phone_len» = getD s 3 0;
-      left = getD s 4 0 ∷ getD s 5 0 ∷ getD s 6 0 ∷ getD s 7 0 ∷ getD s 8 0 ∷ getD s 9 0 ∷ [];
-      target = getD s 10 0 ∷ getD s 11 0 ∷ getD s 12 0 ∷ getD s 13 0 ∷ [];
-      right = getD s 14 0 ∷ getD s 15 0 ∷ getD s 16 0 ∷ getD s 17 0 ∷ getD s 18 0 ∷ getD s 19 0 ∷ [];
-      phones = getD s 20 0 ∷ getD s 21 0 ∷ getD s 22 0 ∷ getD s 23 0 ∷ [];
-    })
-    (ruleOf s)
-rule-of-is s h = cc (six 4 s (omega arith), four 10 s (omega arith), six 14 s (omega arith), four 20 s (omega arith))
-
-pub rule-yes : (s : List ℕ) (r : Rule) → r ≡ ruleOf s → length s ≡ 24 → r ≡ ruleIn s
+-- a rule from the bytes of a slot without its number
+pub rule-yes : (s : List ℕ) (r : Rule) → r ≡ ruleOf s → length s ≡ ruleSize → r ≡ ruleIn s
 unfolding ruleIn
-rule-yes s r e h = e ∙ ap (λ (t : Bool). cond t (ruleOf s) blankRule) (sym (eq-eqb (length s) 24 h))
+rule-yes s r e h = e ∙ ap (λ (t : Bool). cond t (ruleOf s) blankRule) (sym (eq-eqb (length s) ruleSize h))
 
-pub rule-no : (s : List ℕ) → (length s ≡ 24 → ⊥) → blankRule ≡ ruleIn s
+pub rule-no : (s : List ℕ) → (length s ≡ ruleSize → ⊥) → blankRule ≡ ruleIn s
 unfolding ruleIn
-rule-no s h = ap (λ (t : Bool). cond t (ruleOf s) blankRule) (sym (ne-eqb (length s) 24 h))
+rule-no s h = ap (λ (t : Bool). cond t (ruleOf s) blankRule) (sym (ne-eqb (length s) ruleSize h))
 
 -- so bytes of another length are refused with 6, and change nothing
-pub odd-rule : (image s : List ℕ) (p : ℕ) → (length s ≡ 24 → ⊥) → valid image ≡ true → edited image (Edit.Add (ruleIn s) p) ≡ outcome (declined 6 0) image
+pub odd-rule : (image s : List ℕ) (p : ℕ) → (length s ≡ ruleSize → ⊥) → valid image ≡ true → edited image (Edit.Add (ruleIn s) p) ≡ outcome (declined 6 0) image
 unfolding edited judged shape
 odd-rule image s p h v =
     ap (λ (r : Rule). edited image (Edit.Add r p)) (sym (rule-no s h))
@@ -112,11 +83,11 @@ module _ (t : Told) (phones numbers : List ℕ) (s : Said) (h : saying t phones 
 
 -- the numbers of a build, and the lent words after it
 module _ (a : Reply) (words sets : List ℕ) (b : Built) (h : building a words sets ≡ b) where
-  pub built-code : (r : ℕ) → r ≡ codeOf a → r ≡ codeOf (b .reply)
-  built-code r c = c ∙ ap (λ (x : Built). codeOf (x .reply)) h
+  pub built-code : (r : ℕ) → r ≡ replyCode a → r ≡ replyCode (b .reply)
+  built-code r c = c ∙ ap (λ (x : Built). replyCode (x .reply)) h
 
-  pub built-place : (r : ℕ) → r ≡ placeIn a → r ≡ placeIn (b .reply)
-  built-place r c = c ∙ ap (λ (x : Built). placeIn (x .reply)) h
+  pub built-place : (r : ℕ) → r ≡ replyPlace a → r ≡ replyPlace (b .reply)
+  built-place r c = c ∙ ap (λ (x : Built). replyPlace (x .reply)) h
 
   pub built-words : words ≡ b .words
   built-words = ap (λ (x : Built). x .words) h

@@ -6,6 +6,7 @@ use mathlib.Core.List.{List, [], _∷_, _++_}
 use mathlib.Core.Bool.{Bool, false, cond, _&&_}
 use lib.Dec.{leb, ltb}
 use lib.ListN.{length, getD, take, drop}
+use Rattle.rules.specs.Refusals.{accepted, replyCode}
 use Rattle.rules.specs.Memory.{over}
 use Rattle.image.specs.Image.{valid}
 use Rattle.reading.specs.Fitting.{Str}
@@ -60,7 +61,7 @@ pub record Many : Type 0 where
   pub numbers : List ℕ
 
 abbrev pub manyFrom : Lot → List ℕ → Many
-manyFrom l replies = record { code = 255; count = l .count; replies = over (l .replies) replies; phones = l .phones; numbers = l .numbers }
+manyFrom l replies = record { code = replyCode accepted; count = l .count; replies = over (l .replies) replies; phones = l .phones; numbers = l .numbers }
 
 -- 0 once, for memory that is no ruleset; else each name has its own reply
 unfoldable pub manySaid : List ℕ → List ℕ → List ℕ → List ℕ → List ℕ → List ℕ → List ℕ → Many

@@ -1,31 +1,11 @@
 // What an answer is as numbers: a code, and a place or a count.
 use file::Written;
 use reading::Speech;
-use rules::Answer;
 ghost use mathlib.Core.Path.{_≡_};
-ghost use Rattle.rules.specs.Refusals.{replyOf};
 ghost use Rattle.reading.specs.Speech.{toldOf};
-ghost use Rattle.host.specs.Codes.{codeOf, placeIn, spokenCode, phonesOrPlace, phonesGiven, numbersGiven};
+ghost use Rattle.host.specs.Codes.{spokenCode, phonesOrPlace, phonesGiven, numbersGiven};
 ghost use Rattle.file.specs.Loading.{reportOf};
 ghost use Rattle.host.specs.Files.{writtenCode, bytesOrPlace};
-
-pub fn code_of(answer: Answer) -> u8
-    ensures { λ r. ⌜ r ≡ codeOf (replyOf answer) ⌝ }
-{
-    match answer {
-        Answer::Accepted => 255,
-        Answer::Refused(x) => rules::refusal_number(x),
-    }
-}
-
-pub fn place_in(answer: Answer) -> usize
-    ensures { λ r. ⌜ r ≡ placeIn (replyOf answer) ⌝ }
-{
-    match answer {
-        Answer::Accepted => 0,
-        Answer::Refused(x) => rules::refusal_place(x),
-    }
-}
 
 pub fn spoken_code(speech: Speech) -> u8
     ensures { λ r. ⌜ r ≡ spokenCode (toldOf speech) ⌝ }
@@ -34,7 +14,7 @@ pub fn spoken_code(speech: Speech) -> u8
         Speech::Spoken {
             phones: _,
             numbers: _,
-        } => 255,
+        } => rules::ACCEPTED,
         Speech::Refused(x) => rules::refusal_number(x),
     }
 }
@@ -70,7 +50,7 @@ pub fn written_code(written: Written) -> u8
     ensures { λ r. ⌜ r ≡ writtenCode (reportOf written) ⌝ }
 {
     match written {
-        Written::Bytes(_) => 255,
+        Written::Bytes(_) => rules::ACCEPTED,
         Written::Refused(x) => rules::refusal_number(x),
     }
 }

@@ -4,21 +4,19 @@ mod codes;
 mod given;
 mod many;
 
-use rules::Answer;
 ghost use mathlib.Core.Path.{_≡_};
 ghost use Prim.Native.Nat.{_<_};
 ghost use lib.ListN.{length};
-ghost use Rattle.rules.specs.Refusals.{replyOf};
+ghost use Rattle.rules.specs.Refusals.{replyCode, replyPlace};
 ghost use Rattle.image.specs.Image.{cleared};
 ghost use Rattle.edits.specs.Ledger.{Edit};
 ghost use Rattle.edits.specs.Edits.{edited};
 ghost use Rattle.reading.specs.Speech.{plainSaid};
 ghost use Rattle.tables.specs.Words.{built};
 ghost use Rattle.tables.specs.Walk.{walkSaid};
-ghost use Rattle.host.specs.Codes.{codeOf, placeIn, checked, countIn, lastIn, spokenCode, phonesOrPlace, numbersGiven, ruleIn};
+ghost use Rattle.host.specs.Codes.{checked, countIn, lastIn, spokenCode, phonesOrPlace, numbersGiven, ruleIn};
 ghost use Rattle.file.specs.Loading.{loaded, filed};
-ghost use Rattle.host.specs.Files.{writtenCode, bytesOrPlace, LoadedAs};
-ghost use Rattle.transcript.specs.Prepared.{ready, onward};
+ghost use Rattle.host.specs.Files.{writtenCode, bytesOrPlace};
 ghost use Rattle.host.specs.Many.{manySaid};
 
 // ---- the ruleset
@@ -26,20 +24,20 @@ ghost use Rattle.host.specs.Many.{manySaid};
 // The empty ruleset, in memory that held anything.
 #[no_mangle]
 pub extern "C" fn pirrozketa_clear(image: &mut [u8]) -> u8
-    ensures code { λ r. ⌜ r ≡ codeOf (cleared (now (image .entry)) .reply) ⌝ }
+    ensures code { λ r. ⌜ r ≡ replyCode (cleared (now (image .entry)) .reply) ⌝ }
     ensures image { λ _. ⌜ now (image .exit) ≡ cleared (now (image .entry)) .image ⌝ }
 {
     let answer = image::clear(image);
-    codes::code_of(answer)
+    rules::answer_code(answer)
 }
 
 // Whether the memory is a ruleset.
 #[no_mangle]
 pub extern "C" fn pirrozketa_check(image: &[u8]) -> u8
-    ensures { λ r. ⌜ r ≡ codeOf (checked (now (image .entry))) ⌝ }
+    ensures { λ r. ⌜ r ≡ replyCode (checked (now (image .entry))) ⌝ }
 {
     if image::is_ruleset(image) {
-        return 255;
+        return rules::ACCEPTED;
     }
     0
 }
@@ -49,10 +47,10 @@ pub extern "C" fn pirrozketa_check(image: &[u8]) -> u8
 pub extern "C" fn pirrozketa_count(image: &[u8]) -> u16
     ensures { λ r. ⌜ r ≡ countIn (now (image .entry)) ⌝ }
 {
-    if image.len() < 13316 {
+    if image.len() < image::SIZE {
         return 0;
     }
-    image::two_at(image, 0)
+    image::rule_count(image) as u16
 }
 
 // The last number issued that the memory holds.
@@ -60,47 +58,47 @@ pub extern "C" fn pirrozketa_count(image: &[u8]) -> u16
 pub extern "C" fn pirrozketa_last(image: &[u8]) -> u16
     ensures { λ r. ⌜ r ≡ lastIn (now (image .entry)) ⌝ }
 {
-    if image.len() < 13316 {
+    if image.len() < image::SIZE {
         return 0;
     }
-    image::two_at(image, 2)
+    image::last_issued(image)
 }
 
 // Add(rule, p).
 #[no_mangle]
 pub extern "C" fn pirrozketa_add(image: &mut [u8], rule: &[u8], p: usize, place: &mut usize) -> u8
-    ensures code { λ r. ⌜ r ≡ codeOf (edited (now (image .entry)) (Edit.Add (ruleIn (now (rule .entry))) p) .reply) ⌝ }
-    ensures place { λ _. ⌜ now (place .exit) ≡ placeIn (edited (now (image .entry)) (Edit.Add (ruleIn (now (rule .entry))) p) .reply) ⌝ }
+    ensures code { λ r. ⌜ r ≡ replyCode (edited (now (image .entry)) (Edit.Add (ruleIn (now (rule .entry))) p) .reply) ⌝ }
+    ensures place { λ _. ⌜ now (place .exit) ≡ replyPlace (edited (now (image .entry)) (Edit.Add (ruleIn (now (rule .entry))) p) .reply) ⌝ }
     ensures image { λ _. ⌜ now (image .exit) ≡ edited (now (image .entry)) (Edit.Add (ruleIn (now (rule .entry))) p) .image ⌝ }
 {
     let added = given::rule_in(rule);
     let answer = edits::add_rule(image, added, p);
-    *place = codes::place_in(answer);
-    codes::code_of(answer)
+    *place = rules::answer_place(answer);
+    rules::answer_code(answer)
 }
 
 // Drop(number).
 #[no_mangle]
 pub extern "C" fn pirrozketa_drop(image: &mut [u8], number: u16, place: &mut usize) -> u8
-    ensures code { λ r. ⌜ r ≡ codeOf (edited (now (image .entry)) (Edit.Drop number) .reply) ⌝ }
-    ensures place { λ _. ⌜ now (place .exit) ≡ placeIn (edited (now (image .entry)) (Edit.Drop number) .reply) ⌝ }
+    ensures code { λ r. ⌜ r ≡ replyCode (edited (now (image .entry)) (Edit.Drop number) .reply) ⌝ }
+    ensures place { λ _. ⌜ now (place .exit) ≡ replyPlace (edited (now (image .entry)) (Edit.Drop number) .reply) ⌝ }
     ensures image { λ _. ⌜ now (image .exit) ≡ edited (now (image .entry)) (Edit.Drop number) .image ⌝ }
 {
     let answer = edits::drop_rule(image, number);
-    *place = codes::place_in(answer);
-    codes::code_of(answer)
+    *place = rules::answer_place(answer);
+    rules::answer_code(answer)
 }
 
 // Move(number, p).
 #[no_mangle]
 pub extern "C" fn pirrozketa_move(image: &mut [u8], number: u16, p: usize, place: &mut usize) -> u8
-    ensures code { λ r. ⌜ r ≡ codeOf (edited (now (image .entry)) (Edit.Move number p) .reply) ⌝ }
-    ensures place { λ _. ⌜ now (place .exit) ≡ placeIn (edited (now (image .entry)) (Edit.Move number p) .reply) ⌝ }
+    ensures code { λ r. ⌜ r ≡ replyCode (edited (now (image .entry)) (Edit.Move number p) .reply) ⌝ }
+    ensures place { λ _. ⌜ now (place .exit) ≡ replyPlace (edited (now (image .entry)) (Edit.Move number p) .reply) ⌝ }
     ensures image { λ _. ⌜ now (image .exit) ≡ edited (now (image .entry)) (Edit.Move number p) .image ⌝ }
 {
     let answer = edits::move_rule(image, number, p);
-    *place = codes::place_in(answer);
-    codes::code_of(answer)
+    *place = rules::answer_place(answer);
+    rules::answer_code(answer)
 }
 
 // ---- the rule file
@@ -108,13 +106,13 @@ pub extern "C" fn pirrozketa_move(image: &mut [u8], number: u16, p: usize, place
 // A rule file is read into the memory, whatever it holds.
 #[no_mangle]
 pub extern "C" fn pirrozketa_read_file(file: &[u8], image: &mut [u8], place: &mut usize) -> u8
-    ensures code { λ r. ⌜ r ≡ codeOf (loaded (now (file .entry)) (now (image .entry)) .reply) ⌝ }
-    ensures place { λ _. ⌜ now (place .exit) ≡ placeIn (loaded (now (file .entry)) (now (image .entry)) .reply) ⌝ }
+    ensures code { λ r. ⌜ r ≡ replyCode (loaded (now (file .entry)) (now (image .entry)) .reply) ⌝ }
+    ensures place { λ _. ⌜ now (place .exit) ≡ replyPlace (loaded (now (file .entry)) (now (image .entry)) .reply) ⌝ }
     ensures image { λ _. ⌜ now (image .exit) ≡ loaded (now (file .entry)) (now (image .entry)) .image ⌝ }
 {
     let answer = file::read_file(file, image);
-    *place = codes::place_in(answer);
-    codes::code_of(answer)
+    *place = rules::answer_place(answer);
+    rules::answer_code(answer)
 }
 
 // The rule file is written. `bytes` is the bytes written or the refusal's place.
@@ -139,41 +137,14 @@ pub extern "C" fn pirrozketa_build(
     sets: &mut [u64],
     place: &mut usize,
 ) -> u8
-    ensures code { λ r. ⌜ r ≡ codeOf (built (now (image .entry)) (now (words .entry)) (now (sets .entry)) .reply) ⌝ }
-    ensures place { λ _. ⌜ now (place .exit) ≡ placeIn (built (now (image .entry)) (now (words .entry)) (now (sets .entry)) .reply) ⌝ }
+    ensures code { λ r. ⌜ r ≡ replyCode (built (now (image .entry)) (now (words .entry)) (now (sets .entry)) .reply) ⌝ }
+    ensures place { λ _. ⌜ now (place .exit) ≡ replyPlace (built (now (image .entry)) (now (words .entry)) (now (sets .entry)) .reply) ⌝ }
     ensures words { λ _. ⌜ now (words .exit) ≡ built (now (image .entry)) (now (words .entry)) (now (sets .entry)) .words ⌝ }
     ensures sets { λ _. ⌜ now (sets .exit) ≡ built (now (image .entry)) (now (words .entry)) (now (sets .entry)) .sets ⌝ }
 {
     let answer = build::build(image, words, sets);
-    *place = codes::place_in(answer);
-    codes::code_of(answer)
-}
-
-// A rule file is read and its tables are built. What was read is a ruleset, and is not checked again.
-fn load(file: &[u8], image: &mut [u8], words: &mut [u16], sets: &mut [u64]) -> Answer
-    ensures { λ r. ⌜ ready (replyOf r) (now (image .exit)) (now (words .exit)) (now (sets .exit)) ≡ onward (loaded (now (file .entry)) (now (image .entry)) .reply) (loaded (now (file .entry)) (now (image .entry)) .image) (now (words .entry)) (now (sets .entry)) ⌝ }
-{
-    let answer = file::read_file(file, &mut *image);
-    if let Answer::Refused(why) = answer {
-        return Answer::Refused(why);
-    }
-    build::build_valid(&*image, words, sets)
-}
-
-// A rule file is read and both tables of its ruleset are built: what a host does first.
-#[no_mangle]
-pub extern "C" fn pirrozketa_load(
-    file: &[u8],
-    image: &mut [u8],
-    words: &mut [u16],
-    sets: &mut [u64],
-    place: &mut usize,
-) -> u8
-    ensures { λ r. ⌜ LoadedAs (onward (loaded (now (file .entry)) (now (image .entry)) .reply) (loaded (now (file .entry)) (now (image .entry)) .image) (now (words .entry)) (now (sets .entry))) r (now (place .exit)) (now (image .exit)) (now (words .exit)) (now (sets .exit)) ⌝ }
-{
-    let answer = load(file, image, words, sets);
-    *place = codes::place_in(answer);
-    codes::code_of(answer)
+    *place = rules::answer_place(answer);
+    rules::answer_code(answer)
 }
 
 // ---- one name
@@ -254,5 +225,5 @@ pub extern "C" fn pirrozketa_speak_many<'a>(
         return 0;
     }
     *count = many::speak_all(image, words, sets, names, phones, numbers, replies);
-    255
+    rules::ACCEPTED
 }

@@ -4,7 +4,7 @@ use walk::WalkAnswer;
 ghost use mathlib.Core.Path.{_≡_};
 ghost use mathlib.Core.Bool.{true};
 ghost use mathlib.Core.List.{_∷_, _++_};
-ghost use Prim.Native.Nat.{_+_, _*_, _/_, _<_, _≤_};
+ghost use Prim.Native.Nat.{_+_, _*_, _/_, _≤_};
 ghost use lib.ListN.{length, getD, take, drop};
 ghost use Rattle.rules.specs.Memory.{over};
 ghost use Rattle.image.specs.Image.{valid};
@@ -12,12 +12,6 @@ ghost use Rattle.reading.specs.Speech.{toldOf};
 ghost use Rattle.tables.specs.Walk.{walkSaid};
 ghost use Rattle.host.specs.Codes.{spokenCode, phonesOrPlace, numbersGiven};
 ghost use Rattle.host.specs.Many.{spokenAll, hasNext, Next};
-
-fn wide(x: u8) -> usize
-    ensures { λ r. ⌜ (r ≡ x) × (r < 256) ⌝ }
-{
-    x as usize
-}
 
 // How far the answering has come: the place in the names, the names answered, the phones and the numbers given.
 pub struct Progress {
@@ -39,7 +33,7 @@ fn has_next(names: &[u8], at: usize, count: usize, limit: usize) -> bool
         return false;
     }
     let left = names.len() - at - 1;
-    if left < wide(names[at]) {
+    if left < numbers::wide(names[at]) {
         return false;
     }
     true
@@ -51,7 +45,7 @@ fn put_reply(replies: &mut [usize], at: usize, answer: WalkAnswer)
     ensures { λ _. ⌜ now (replies .exit) ≡ take at (now (replies .entry)) ++ (spokenCode (toldOf (answer .speech)) ∷ phonesOrPlace (toldOf (answer .speech)) ∷ numbersGiven (toldOf (answer .speech)) ∷ answer .steps ∷ drop (at + 4) (now (replies .entry))) ⌝ }
 {
     let speech = answer.speech;
-    replies[at] = wide(codes::spoken_code(speech));
+    replies[at] = numbers::wide(codes::spoken_code(speech));
     replies[at + 1] = codes::phones_or_place(speech);
     replies[at + 2] = codes::numbers_given(speech);
     replies[at + 3] = answer.steps;
@@ -73,7 +67,7 @@ fn speak_next<'a>(
 {
     let at = p.at;
     let start = at + 1;
-    let end = start + wide(names[at]);
+    let end = start + numbers::wide(names[at]);
     let from = p.phones;
     let to = p.numbers;
     let answer = compiled::speak_words(

@@ -5,6 +5,7 @@ use mathlib.Core.Path.{_≡_, refl, sym, ap, _∙_, subst}
 use mathlib.Core.List.{List}
 use mathlib.Core.Bool.{Bool, true, cond}
 use borrow.Author.Tests.{le-leb, lt-leb}
+use lib.Dec.{leb}
 use lib.ListN.{length}
 use Rattle.rules.proofs.Cases.{byBool}
 use Rattle.rules.specs.Refusals.{refusalNumber, refusalPlace, Reply, accepted, declined, replyOf}

@@ -49,7 +49,7 @@ returns c =
     let walked = c .before .before .before .before in
     let read = walked .before .before .before .before .before .before .before .before .before .before in
     let built = read .before .before .before .before .before .before .before .before in
-    let replayed = built .before .before .before .before .before .before .before .before in
+    let replayed = built .before .before .before .before .before .before .before .before .before .before in
     end-to-end _ _ (replayed .replay .ensures) (built .build .ensures) (read .read-name .ensures) (walked .speak-compiled .ensures)
 
 pub run-spec : {M : Type 1} → statement M

@@ -15,11 +15,11 @@ rule-in-requires c κs = search needs
 add-rule-requires : tie.Need-add-rule-requires
 add-rule-requires c κs = search needs
 
-place-in-requires : tie.Need-place-in-requires
-place-in-requires c κs = search needs
+answer-place-requires : tie.Need-answer-place-requires
+answer-place-requires c κs = search needs
 
-code-of-requires : tie.Need-code-of-requires
-code-of-requires c κs = search needs
+answer-code-requires : tie.Need-answer-code-requires
+answer-code-requires c κs = search needs
 
 same-length : tie.Need-same-length
 same-length c = search needs
@@ -28,7 +28,7 @@ returns : tie.Need-returns
 returns c =
     let a = c .before .before .before .before .before .before .before .before .before .args in
     let h = c .before .before .before .before .add-rule .ensures ∙ ap (λ (x : Rule). edited (a .image .now) (Edit.Add x (a .p))) (c .before .before .before .before .before .before .rule-in .ensures) in
-    (code-is _ _ _ h _ (c .code-of .ensures), (place-is _ _ _ h _ (c .before .place-in .ensures), image-is _ _ _ h))
+    (code-is _ _ _ h _ (c .answer-code .ensures), (place-is _ _ _ h _ (c .before .answer-place .ensures), image-is _ _ _ h))
 
 pub pirrozketa-add-spec : {M : Type 1} → statement M
 pirrozketa-add-spec =
@@ -36,7 +36,7 @@ pirrozketa-add-spec =
     (tie.spec
     rule-in-requires
     add-rule-requires
-    place-in-requires
-    code-of-requires
+    answer-place-requires
+    answer-code-requires
     same-length
     returns)

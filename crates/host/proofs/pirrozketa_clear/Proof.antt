@@ -8,8 +8,8 @@ use Rattle.host.proofs.pirrozketa_clear.Tie as tie
 clear-requires : tie.Need-clear-requires
 clear-requires c κs = search needs
 
-code-of-requires : tie.Need-code-of-requires
-code-of-requires c κs = search needs
+answer-code-requires : tie.Need-answer-code-requires
+answer-code-requires c κs = search needs
 
 same-length : tie.Need-same-length
 same-length c = search needs
@@ -17,7 +17,7 @@ same-length c = search needs
 returns : tie.Need-returns
 returns c =
     let h = c .before .before .before .clear .ensures in
-    (code-is _ _ _ h _ (c .code-of .ensures), image-is _ _ _ h)
+    (code-is _ _ _ h _ (c .answer-code .ensures), image-is _ _ _ h)
 
 pub pirrozketa-clear-spec : {M : Type 1} → statement M
-pirrozketa-clear-spec = tie.close (tie.spec clear-requires code-of-requires same-length returns)
+pirrozketa-clear-spec = tie.close (tie.spec clear-requires answer-code-requires same-length returns)

@@ -10,11 +10,14 @@ use Rattle.host.proofs.pirrozketa_count.Tie as tie
 returns : tie.Need-returns
 returns c = count-short (c .before .before .args .image .now) (omega arith)
 
-two-at-requires : tie.Need-two-at-requires
-two-at-requires c κs = search needs
+rule-count-requires : tie.Need-rule-count-requires
+rule-count-requires c κs = search needs
+
+cast-result : tie.Need-cast-result
+cast-result c = search needs
 
 returns-2 : tie.Need-returns-2
-returns-2 c = c .two-at .ensures ∙ count-long (c .before .before .before .args .image .now) (omega arith)
+returns-2 c = c .rule-count .ensures .0 ∙ count-long (c .before .before .before .args .image .now) (omega arith)
 
 pub pirrozketa-count-spec : {M : Type 1} → statement M
-pirrozketa-count-spec = tie.close (tie.spec returns two-at-requires returns-2)
+pirrozketa-count-spec = tie.close (tie.spec returns rule-count-requires cast-result returns-2)

@@ -10,11 +10,11 @@ use Rattle.host.proofs.pirrozketa_last.Tie as tie
 returns : tie.Need-returns
 returns c = last-short (c .before .before .args .image .now) (omega arith)
 
-two-at-requires : tie.Need-two-at-requires
-two-at-requires c κs = search needs
+last-issued-requires : tie.Need-last-issued-requires
+last-issued-requires c κs = search needs
 
 returns-2 : tie.Need-returns-2
-returns-2 c = c .two-at .ensures ∙ last-long (c .before .before .before .args .image .now) (omega arith)
+returns-2 c = c .last-issued .ensures ∙ last-long (c .before .before .before .args .image .now) (omega arith)
 
 pub pirrozketa-last-spec : {M : Type 1} → statement M
-pirrozketa-last-spec = tie.close (tie.spec returns two-at-requires returns-2)
+pirrozketa-last-spec = tie.close (tie.spec returns last-issued-requires returns-2)
