@@ -8,7 +8,6 @@ ghost use mathlib.Core.Path.{_≡_};
 ghost use mathlib.Core.Bool.{true};
 ghost use Prim.Native.Nat.{_<_};
 ghost use lib.ListN.{length};
-ghost use Rattle.io.specs.Counts.{Counts};
 ghost use Rattle.image.specs.Image.{valid};
 
 // A refusal's line.
@@ -42,24 +41,11 @@ fn say_lines<'a>(image: &[u8], words: &'a [u16], sets: &'a [u64], text: &[u8])
     }
 }
 
-// The bytes of rules.hex, as many as the buffer holds; a missing file counts as empty.
-fn read_rules(buf: &mut [u8]) -> usize
-    ensures { λ r. ⌜ Counts r (now (buf .exit)) ⌝ }
-{
-    let fd = os::open_read(b"rules.hex");
-    if fd < 0 {
-        return 0;
-    }
-    let n = io::read_full(fd, &mut *buf);
-    libc::close(fd);
-    n
-}
-
 // The rule file is made ready for names; if it is refused, its refusal is printed.
 fn load(buf: &mut [u8], image: &mut [u8], words: &mut [u16], sets: &mut [u64]) -> bool
     ensures { λ r. ⌜ (r ≡ true → valid (now (image .exit)) ≡ true) ⌝ }
 {
-    let n = read_rules(&mut *buf);
+    let n = rules_hex::read(&mut *buf);
     let answer = transcript::prepare(&buf[..n], image, words, sets);
     if let Answer::Refused(x) = answer {
         print_refusal(x);

@@ -7,8 +7,8 @@ use borrow.Author.Needs.{needs}
 use Rattle.say.proofs.load.Statement.{statement}
 use Rattle.say.proofs.load.Tie as tie
 
-read-rules-requires : tie.Need-read-rules-requires
-read-rules-requires c κs = search needs
+read-requires : tie.Need-read-requires
+read-requires c κs = search needs
 
 slice-reshare-prefix-prepare : tie.Need-slice-reshare-prefix-prepare
 slice-reshare-prefix-prepare c = search needs
@@ -62,7 +62,7 @@ pub load-spec : {M : Type 1} → statement M
 load-spec =
     tie.close
     (tie.spec
-    read-rules-requires
+    read-requires
     slice-reshare-prefix-prepare
     slice-aggregate-prepare
     prepare-requires
