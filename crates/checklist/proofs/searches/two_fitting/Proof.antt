@@ -1,0 +1,58 @@
+-- `checklist::searches::two_fitting` ends: each turn leaves fewer places. Assumes nothing.
+use Prim.Native.Nat.{_-_}
+use borrow.Author.Needs.{needs}
+use Rattle.checklist.proofs.searches.two_fitting.Statement.{statement}
+use Rattle.checklist.proofs.searches.two_fitting.Tie as tie
+
+abbrev Inv-loop : tie.InvT-loop
+Inv-loop image n at₀ p₀ at p = Unit {0}
+
+abbrev μ-loop : tie.MeasureT-loop
+μ-loop image n at₀ p₀ at p = n - p
+
+count-requires : tie.Need-count-requires Inv-loop μ-loop
+count-requires c κs = search needs
+
+begin-requires : tie.Need-begin-requires Inv-loop μ-loop
+begin-requires c κs = search needs
+
+loop-holds : tie.Need-loop-holds Inv-loop μ-loop
+loop-holds c = tt
+
+is-over-requires : tie.Need-is-over-requires Inv-loop μ-loop
+is-over-requires c κs = search needs
+
+returns : tie.Need-returns Inv-loop μ-loop
+returns c = search needs
+
+pairs-of-requires : tie.Need-pairs-of-requires Inv-loop μ-loop
+pairs-of-requires c κs = search needs
+
+add-p : tie.Need-add-p Inv-loop μ-loop
+add-p c = search needs
+
+loop-less : tie.Need-loop-less Inv-loop μ-loop
+loop-less c = search needs
+
+loop-again : tie.Need-loop-again Inv-loop μ-loop
+loop-again c = tt
+
+returns-2 : tie.Need-returns-2 Inv-loop μ-loop
+returns-2 c = search needs
+
+pub two-fitting-spec : {M : Type 1} → statement M
+two-fitting-spec =
+    tie.close
+    (tie.spec
+    Inv-loop
+    μ-loop
+    count-requires
+    begin-requires
+    loop-holds
+    is-over-requires
+    returns
+    pairs-of-requires
+    add-p
+    loop-less
+    loop-again
+    returns-2)

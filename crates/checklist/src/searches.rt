@@ -1,0 +1,211 @@
+// The search of a ruleset for a name that an item of the checklist can be tried with. Names are tried by the plain reading, in a fixed order,
+// and no more than MAX_TRIED of them.
+use crate::names;
+use crate::names::Name;
+use crate::ruleset;
+use crate::speaking;
+ghost use mathlib.Core.Path.{_≡_};
+ghost use mathlib.Core.Bool.{true};
+ghost use Rattle.image.specs.Image.{valid};
+
+const MAX_TRIED: usize = 4096;
+
+const MAX_LETTER: u8 = 63;
+
+// How a search stands: whether its name was found, how many were tried, and for two rules that fit, where they do and their places.
+pub struct Search {
+    pub found: bool,
+    pub tried: usize,
+    pub name: Name,
+    pub before: usize,
+    pub first: usize,
+    pub second: usize,
+}
+
+fn begin() -> Search {
+    Search {
+        found: false,
+        tried: 0,
+        name: names::empty(),
+        before: 0,
+        first: 0,
+        second: 0,
+    }
+}
+
+// Whether a search is over.
+fn is_over(s: Search) -> bool {
+    s.found || MAX_TRIED <= s.tried
+}
+
+fn one_more(n: usize) -> usize {
+    if MAX_TRIED <= n {
+        return MAX_TRIED;
+    }
+    n + 1
+}
+
+// ---- a name whose last letter is silent
+
+// Whether a name is spoken, and the last rule applied has no phones.
+fn is_silent_at_end(image: &[u8], name: Name) -> bool {
+    let mut phones = [0u8; 256];
+    let mut numbers = [0u16; 64];
+    let came = speaking::read(image, name, &mut phones, &mut numbers);
+    speaking::ends_silent(image, came, &numbers)
+}
+
+fn try_silent(image: &[u8], s: Search, name: Name) -> Search {
+    Search {
+        found: is_silent_at_end(image, name),
+        tried: one_more(s.tried),
+        name,
+        before: 0,
+        first: 0,
+        second: 0,
+    }
+}
+
+// A silent rule at the end of a name: after the target of each rule in turn, then alone.
+fn silent_rule(image: &[u8], s: Search, place: usize) -> Search {
+    let rule = ruleset::rule_at(image, place);
+    if rule.phone_len != 0 || !names::can_end(rule) {
+        return s;
+    }
+    let n = ruleset::count(image);
+    let mut at = s;
+    let mut k: usize = 0;
+    while k < n {
+        if is_over(at) {
+            return at;
+        }
+        at = try_silent(image, at, names::ending(ruleset::rule_at(image, k), rule));
+        k += 1;
+    }
+    if is_over(at) {
+        return at;
+    }
+    try_silent(image, at, names::ending_alone(rule))
+}
+
+pub fn silent(image: &[u8]) -> Search {
+    let n = ruleset::count(image);
+    let mut at = begin();
+    let mut k: usize = 0;
+    while k < n {
+        if is_over(at) {
+            return at;
+        }
+        at = silent_rule(image, at, k);
+        k += 1;
+    }
+    at
+}
+
+// ---- a name where two rules fit
+
+// Whether a name is spoken and its reading stops after its first `before` letters.
+fn is_reached(image: &[u8], name: Name, before: usize) -> bool {
+    let mut phones = [0u8; 256];
+    let mut numbers = [0u16; 64];
+    let came = speaking::read(image, name, &mut phones, &mut numbers);
+    speaking::applied_after(image, came, &numbers, before) != 0
+}
+
+fn fit_together(image: &[u8], p: usize, q: usize, name: Name, before: usize) -> bool
+    requires { ⌜ valid (now image) ≡ true ⌝ }
+{
+    let letters = name.letters;
+    ruleset::both_fit(image, p, q, names::spelling(&letters, name.len), before)
+}
+
+// Two rules, the second after the first.
+fn try_pair(image: &[u8], s: Search, p: usize, q: usize) -> Search
+    requires { ⌜ valid (now image) ≡ true ⌝ }
+{
+    if q <= p {
+        return s;
+    }
+    let o = names::overlay(ruleset::rule_at(image, p), ruleset::rule_at(image, q));
+    let name = o.name;
+    let before = o.before;
+    if !fit_together(image, p, q, name, before) {
+        return s;
+    }
+    Search {
+        found: is_reached(image, name, before),
+        tried: one_more(s.tried),
+        name,
+        before,
+        first: p,
+        second: q,
+    }
+}
+
+// The rule at a place, and each after it.
+fn pairs_of(image: &[u8], s: Search, p: usize) -> Search
+    requires { ⌜ valid (now image) ≡ true ⌝ }
+{
+    let n = ruleset::count(image);
+    let mut at = s;
+    let mut q = p;
+    while q < n {
+        if is_over(at) {
+            return at;
+        }
+        at = try_pair(image, at, p, q);
+        q += 1;
+    }
+    at
+}
+
+pub fn two_fitting(image: &[u8]) -> Search
+    requires { ⌜ valid (now image) ≡ true ⌝ }
+{
+    let n = ruleset::count(image);
+    let mut at = begin();
+    let mut p: usize = 0;
+    while p < n {
+        if is_over(at) {
+            return at;
+        }
+        at = pairs_of(image, at, p);
+        p += 1;
+    }
+    at
+}
+
+// ---- a letter that no rule covers
+
+// Whether the name of one letter is refused for want of a rule.
+fn is_uncovered(image: &[u8], name: Name) -> bool {
+    let mut phones = [0u8; 256];
+    let mut numbers = [0u16; 64];
+    let came = speaking::read(image, name, &mut phones, &mut numbers);
+    speaking::is_refused(came, 3, 1)
+}
+
+fn try_letter(image: &[u8], s: Search, x: u8) -> Search {
+    let name = names::with_symbol(names::empty(), x);
+    Search {
+        found: is_uncovered(image, name),
+        tried: one_more(s.tried),
+        name,
+        before: 0,
+        first: 0,
+        second: 0,
+    }
+}
+
+pub fn uncovered(image: &[u8]) -> Search {
+    let mut at = begin();
+    let mut x: u8 = 1;
+    while x <= MAX_LETTER {
+        if is_over(at) {
+            return at;
+        }
+        at = try_letter(image, at, x);
+        x += 1;
+    }
+    at
+}
