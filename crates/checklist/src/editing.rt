@@ -1,9 +1,10 @@
 // The items on the file and the edits.
-use crate::printing::none;
 use crate::printing::print;
+use crate::printing::print_none;
 use crate::printing::print_number;
+use crate::printing::print_refused;
 use crate::printing::print_rule_number;
-use crate::printing::verdict;
+use crate::printing::print_verdict;
 use crate::ruleset;
 use file::Written;
 use rules::Answer;
@@ -28,10 +29,7 @@ fn is_out_of_numbers(answer: Answer) -> bool {
 }
 
 pub fn print_refusal(x: Refusal) {
-    print(b"refused ");
-    print_number(rules::refusal_number(x) as usize);
-    print(b" at ");
-    print_number(rules::refusal_place(x));
+    print_refused(rules::refusal_number(x), rules::refusal_place(x));
 }
 
 fn print_answer(answer: Answer) {
@@ -66,7 +64,7 @@ fn print_same(ok: bool, n: usize) {
 // Catches a ruleset that is not held as its file says.
 pub fn read_back(image: &[u8], file: &[u8], out: &mut [u8]) {
     let ok = writes(image, file, out);
-    verdict(ok);
+    print_verdict(ok);
     print(b"the rule file read back: tried rules.hex");
     print_same(ok, file.len());
 }
@@ -75,7 +73,7 @@ pub fn read_back(image: &[u8], file: &[u8], out: &mut [u8]) {
 fn drop_one(image: &mut [u8], number: u16) {
     let last = ruleset::last_issued(image);
     let answer = edits::drop_rule(&mut *image, number);
-    verdict(is_accepted(answer) && ruleset::last_issued(image) == last);
+    print_verdict(is_accepted(answer) && ruleset::last_issued(image) == last);
     print(b"a rule leaves: tried number ");
     print_rule_number(number);
     print(b", came ");
@@ -96,9 +94,9 @@ fn add_one(image: &mut [u8], rule: Rule, place: usize) {
     let last = ruleset::last_issued(image);
     let answer = edits::add_rule(&mut *image, rule, place);
     if last == MAX_NUMBER {
-        verdict(is_out_of_numbers(answer) && ruleset::last_issued(image) == last);
+        print_verdict(is_out_of_numbers(answer) && ruleset::last_issued(image) == last);
     } else {
-        verdict(is_accepted(answer) && is_numbered_next(image, place, last));
+        print_verdict(is_accepted(answer) && is_numbered_next(image, place, last));
     }
     print(b"no number is given twice: tried a rule at place ");
     print_number(place);
@@ -115,7 +113,8 @@ fn add_one(image: &mut [u8], rule: Rule, place: usize) {
 pub fn edit(image: &mut [u8]) {
     let number = ruleset::highest_number(image);
     if number == 0 {
-        none(b"a rule leaves", 0);
+        print(b"none   a rule leaves: ");
+        print_none(0);
         add_one(image, ruleset::rule_for_a(), 0);
         return;
     }
@@ -131,7 +130,7 @@ pub fn restore(image: &mut [u8], file: &[u8], out: &mut [u8]) {
     let accepted = is_accepted(answer);
     let same = writes(image, file, out);
     let ok = accepted && same;
-    verdict(ok);
+    print_verdict(ok);
     print(b"the ruleset as it was: tried rules.hex again");
     print_same(ok, file.len());
 }

@@ -8,6 +8,7 @@ mod ruleset;
 mod searches;
 mod speaking;
 
+use items::Item;
 use printing::print;
 use rules::Answer;
 ghost use mathlib.Core.Path.{_≡_};
@@ -20,7 +21,7 @@ fn is_prepared(file: &[u8], image: &mut [u8], words: &mut [u16], sets: &mut [u64
 {
     let answer = transcript::prepare(file, image, words, sets);
     if let Answer::Refused(x) = answer {
-        printing::verdict(false);
+        printing::print_verdict(false);
         print(b"rules.hex: ");
         editing::print_refusal(x);
         print(b"\n");
@@ -32,9 +33,9 @@ fn is_prepared(file: &[u8], image: &mut [u8], words: &mut [u16], sets: &mut [u64
 fn try_names<'a>(image: &[u8], words: &'a [u16], sets: &'a [u64])
     requires { ⌜ valid (now image) ≡ true ⌝ }
 {
-    items::silent_end(image, words, sets);
-    items::two_fitting(image, words, sets);
-    items::uncovered(image, words, sets);
+    items::try_item(Item::SilentEnd, image, words, sets);
+    items::try_item(Item::TwoFitting, image, words, sets);
+    items::try_item(Item::Uncovered, image, words, sets);
 }
 
 fn run<'a>(

@@ -109,6 +109,11 @@ fn width(rule: Rule) -> usize
     wide(rule.target_len) + wide(rule.right_len)
 }
 
+// Whether a rule has more symbols than another.
+pub fn is_longer(rule: Rule, other: Rule) -> bool {
+    wide(other.left_len) + width(other) < wide(rule.left_len) + width(rule)
+}
+
 // The shortest name in which two rules could both fit at one position, after its first `before` letters: their contexts and targets, laid
 // over each other.
 pub struct Overlaid {

@@ -21,7 +21,7 @@ pub fn print_rule_number(n: u16) {
 }
 
 // How a line of the checklist starts.
-pub fn verdict(ok: bool) {
+pub fn print_verdict(ok: bool) {
     if ok {
         print(b"ok     ");
     } else {
@@ -29,17 +29,23 @@ pub fn verdict(ok: bool) {
     }
 }
 
-// The line of an item for which the ruleset has nothing to try; where names were tried, how many.
-pub fn none(title: &[u8], tried: usize) {
-    print(b"none   ");
-    print(title);
+// How a line ends where nothing served; names tried in vain leave open whether the ruleset has one.
+pub fn print_none(tried: usize) {
     if tried == 0 {
-        print(b": none in this ruleset\n");
+        print(b"none in this ruleset\n");
         return;
     }
-    print(b": none found, ");
+    print(b"none found, names tried: ");
     print_number(tried);
-    print(b" names tried\n");
+    print(b"\n");
+}
+
+// A refusal.
+pub fn print_refused(number: u8, place: usize) {
+    print(b"refused ");
+    print_number(number as usize);
+    print(b" at ");
+    print_number(place);
 }
 
 // A hexadecimal digit.

@@ -119,14 +119,19 @@ fn fit_together(image: &[u8], p: usize, q: usize, name: Name, before: usize) -> 
     ruleset::both_fit(image, p, q, names::spelling(&letters, name.len), before)
 }
 
-// Two rules, the second after the first.
-fn try_pair(image: &[u8], s: Search, p: usize, q: usize) -> Search
+// Two rules, the second after the first and, where this is asked, longer.
+fn try_pair(image: &[u8], s: Search, p: usize, q: usize, longer: bool) -> Search
     requires { ⌜ valid (now image) ≡ true ⌝ }
 {
     if q <= p {
         return s;
     }
-    let o = names::overlay(ruleset::rule_at(image, p), ruleset::rule_at(image, q));
+    let first = ruleset::rule_at(image, p);
+    let second = ruleset::rule_at(image, q);
+    if longer && !names::is_longer(second, first) {
+        return s;
+    }
+    let o = names::overlay(first, second);
     let name = o.name;
     let before = o.before;
     if !fit_together(image, p, q, name, before) {
@@ -143,7 +148,7 @@ fn try_pair(image: &[u8], s: Search, p: usize, q: usize) -> Search
 }
 
 // The rule at a place, and each after it.
-fn pairs_of(image: &[u8], s: Search, p: usize) -> Search
+fn pairs_of(image: &[u8], s: Search, p: usize, longer: bool) -> Search
     requires { ⌜ valid (now image) ≡ true ⌝ }
 {
     let n = ruleset::count(image);
@@ -153,13 +158,14 @@ fn pairs_of(image: &[u8], s: Search, p: usize) -> Search
         if is_over(at) {
             return at;
         }
-        at = try_pair(image, at, p, q);
+        at = try_pair(image, at, p, q, longer);
         q += 1;
     }
     at
 }
 
-pub fn two_fitting(image: &[u8]) -> Search
+// Each rule in turn.
+fn pairs(image: &[u8], longer: bool) -> Search
     requires { ⌜ valid (now image) ≡ true ⌝ }
 {
     let n = ruleset::count(image);
@@ -169,10 +175,21 @@ pub fn two_fitting(image: &[u8]) -> Search
         if is_over(at) {
             return at;
         }
-        at = pairs_of(image, at, p);
+        at = pairs_of(image, at, p, longer);
         p += 1;
     }
     at
+}
+
+// Two rules of which the second is longer serve best: there the first is not also the longest.
+pub fn two_fitting(image: &[u8]) -> Search
+    requires { ⌜ valid (now image) ≡ true ⌝ }
+{
+    let s = pairs(image, true);
+    if s.found {
+        return s;
+    }
+    pairs(image, false)
 }
 
 // ---- a letter that no rule covers
@@ -197,15 +214,16 @@ fn try_letter(image: &[u8], s: Search, x: u8) -> Search {
     }
 }
 
+// Once each letter was tried, there is none.
 pub fn uncovered(image: &[u8]) -> Search {
     let mut at = begin();
     let mut x: u8 = 1;
     while x <= MAX_LETTER {
-        if is_over(at) {
+        at = try_letter(image, at, x);
+        if at.found {
             return at;
         }
-        at = try_letter(image, at, x);
         x += 1;
     }
-    at
+    begin()
 }

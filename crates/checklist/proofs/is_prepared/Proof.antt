@@ -13,8 +13,8 @@ prepare-requires c κs = search needs
 enum-known-answer : tie.Need-enum-known-answer
 enum-known-answer c = search needs
 
-verdict-requires : tie.Need-verdict-requires
-verdict-requires c κs = search needs
+print-verdict-requires : tie.Need-print-verdict-requires
+print-verdict-requires c κs = search needs
 
 slice-aggregate-print : tie.Need-slice-aggregate-print
 slice-aggregate-print c = search needs
@@ -64,7 +64,7 @@ is-prepared-spec =
     (tie.spec
     prepare-requires
     enum-known-answer
-    verdict-requires
+    print-verdict-requires
     slice-aggregate-print
     print-requires
     print-refusal-requires

@@ -5,10 +5,10 @@ use Rattle.checklist.proofs.searches.pairs_of.Statement.{statement}
 use Rattle.checklist.proofs.searches.pairs_of.Tie as tie
 
 abbrev Inv-loop : tie.InvT-loop
-Inv-loop image p n at₀ q₀ at q = Unit {0}
+Inv-loop image p longer n at₀ q₀ at q = Unit {0}
 
 abbrev μ-loop : tie.MeasureT-loop
-μ-loop image p n at₀ q₀ at q = n - q
+μ-loop image p longer n at₀ q₀ at q = n - q
 
 count-requires : tie.Need-count-requires Inv-loop μ-loop
 count-requires c κs = search needs

@@ -16,14 +16,11 @@ begin-requires c κs = search needs
 loop-holds : tie.Need-loop-holds Inv-loop μ-loop
 loop-holds c = tt
 
-is-over-requires : tie.Need-is-over-requires Inv-loop μ-loop
-is-over-requires c κs = search needs
+try-letter-requires : tie.Need-try-letter-requires Inv-loop μ-loop
+try-letter-requires c κs = search needs
 
 returns : tie.Need-returns Inv-loop μ-loop
 returns c = search needs
-
-try-letter-requires : tie.Need-try-letter-requires Inv-loop μ-loop
-try-letter-requires c κs = search needs
 
 add-x : tie.Need-add-x Inv-loop μ-loop
 add-x c = search needs
@@ -33,6 +30,9 @@ loop-less c = search needs
 
 loop-again : tie.Need-loop-again Inv-loop μ-loop
 loop-again c = tt
+
+begin-requires-2 : tie.Need-begin-requires-2 Inv-loop μ-loop
+begin-requires-2 c κs = search needs
 
 returns-2 : tie.Need-returns-2 Inv-loop μ-loop
 returns-2 c = search needs
@@ -45,10 +45,10 @@ uncovered-spec =
     μ-loop
     begin-requires
     loop-holds
-    is-over-requires
-    returns
     try-letter-requires
+    returns
     add-x
     loop-less
     loop-again
+    begin-requires-2
     returns-2)

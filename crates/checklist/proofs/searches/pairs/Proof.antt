@@ -1,14 +1,14 @@
--- `checklist::searches::two_fitting` ends: each turn leaves fewer places. Assumes nothing.
+-- `checklist::searches::pairs` ends: each turn leaves fewer places. Assumes nothing.
 use Prim.Native.Nat.{_-_}
 use borrow.Author.Needs.{needs}
-use Rattle.checklist.proofs.searches.two_fitting.Statement.{statement}
-use Rattle.checklist.proofs.searches.two_fitting.Tie as tie
+use Rattle.checklist.proofs.searches.pairs.Statement.{statement}
+use Rattle.checklist.proofs.searches.pairs.Tie as tie
 
 abbrev Inv-loop : tie.InvT-loop
-Inv-loop image n at₀ p₀ at p = Unit {0}
+Inv-loop image longer n at₀ p₀ at p = Unit {0}
 
 abbrev μ-loop : tie.MeasureT-loop
-μ-loop image n at₀ p₀ at p = n - p
+μ-loop image longer n at₀ p₀ at p = n - p
 
 count-requires : tie.Need-count-requires Inv-loop μ-loop
 count-requires c κs = search needs
@@ -40,8 +40,8 @@ loop-again c = tt
 returns-2 : tie.Need-returns-2 Inv-loop μ-loop
 returns-2 c = search needs
 
-pub two-fitting-spec : {M : Type 1} → statement M
-two-fitting-spec =
+pub pairs-spec : {M : Type 1} → statement M
+pairs-spec =
     tie.close
     (tie.spec
     Inv-loop
