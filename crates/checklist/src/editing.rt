@@ -39,6 +39,15 @@ fn print_answer(answer: Answer) {
     }
 }
 
+// What came of an edit.
+fn print_outcome(answer: Answer, image: &[u8]) {
+    print(b", came ");
+    print_answer(answer);
+    print(b", the last number is ");
+    print_rule_number(ruleset::last_issued(image));
+    print(b"\n");
+}
+
 // Whether the ruleset's file has just these bytes.
 fn writes(image: &[u8], file: &[u8], out: &mut [u8]) -> bool {
     let written = file::write_file(image, &mut *out);
@@ -70,17 +79,12 @@ pub fn read_back(image: &[u8], file: &[u8], out: &mut [u8]) {
 }
 
 // Catches a drop that gives `last` back.
-fn drop_one(image: &mut [u8], number: u16) {
-    let last = ruleset::last_issued(image);
+fn drop_one(image: &mut [u8], number: u16, last: u16) {
     let answer = edits::drop_rule(&mut *image, number);
     print_verdict(is_accepted(answer) && ruleset::last_issued(image) == last);
     print(b"a rule leaves: tried number ");
     print_rule_number(number);
-    print(b", came ");
-    print_answer(answer);
-    print(b", the last number is ");
-    print_rule_number(ruleset::last_issued(image));
-    print(b"\n");
+    print_outcome(answer, image);
 }
 
 // Whether the rule at a place has the number after `last`, which is then the last.
@@ -90,8 +94,7 @@ fn is_numbered_next(image: &[u8], place: usize, last: u16) -> bool {
 }
 
 // Catches a number that is given twice. Where no number is left, the rule is to be refused.
-fn add_one(image: &mut [u8], rule: Rule, place: usize) {
-    let last = ruleset::last_issued(image);
+fn add_one(image: &mut [u8], rule: Rule, place: usize, last: u16) {
     let answer = edits::add_rule(&mut *image, rule, place);
     if last == MAX_NUMBER {
         print_verdict(is_out_of_numbers(answer) && ruleset::last_issued(image) == last);
@@ -102,26 +105,24 @@ fn add_one(image: &mut [u8], rule: Rule, place: usize) {
     print_number(place);
     print(b" after number ");
     print_rule_number(last);
-    print(b", came ");
-    print_answer(answer);
-    print(b", the last number is ");
-    print_rule_number(ruleset::last_issued(image));
-    print(b"\n");
+    print_outcome(answer, image);
 }
 
-// The rule of the highest number leaves and is added again at its place; an empty ruleset gets a rule.
+// The rule of the highest number leaves and is added again at its place; an empty ruleset gets a rule. `last` is the last number before all
+// that.
 pub fn edit(image: &mut [u8]) {
+    let last = ruleset::last_issued(image);
     let number = ruleset::highest_number(image);
     if number == 0 {
         print(b"none   a rule leaves: ");
         print_none(0);
-        add_one(image, ruleset::rule_for_a(), 0);
+        add_one(image, ruleset::rule_for_a(), 0, last);
         return;
     }
     let place = ruleset::place_of(image, number);
     let rule = ruleset::rule_at(image, place);
-    drop_one(&mut *image, number);
-    add_one(image, rule, place);
+    drop_one(&mut *image, number, last);
+    add_one(image, rule, place, last);
 }
 
 // Catches a reading that keeps something of what the memory held; the ruleset is then as it was.
