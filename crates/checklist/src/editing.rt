@@ -6,12 +6,11 @@ use crate::printing::print_refused;
 use crate::printing::print_rule_number;
 use crate::printing::print_verdict;
 use crate::ruleset;
+use crate::ruleset::MAX_NUMBER;
 use file::Written;
 use rules::Answer;
 use rules::Refusal;
 use rules::Rule;
-
-const MAX_NUMBER: u16 = 65535;
 
 fn is_accepted(answer: Answer) -> bool {
     match answer {

@@ -59,7 +59,7 @@ fn run<'a>(
 fn main() {
     let mut buf = [0u8; 32769];
     let mut out = [0u8; 29199];
-    let mut image = [0u8; 13316];
+    let mut image = [0u8; ruleset::SIZE];
     let mut words = [0u16; 524418];
     let mut sets = [0u64; 65552];
     run(&mut buf, &mut out, &mut image, &mut words, &mut sets);

@@ -1,19 +1,18 @@
 // Names made of the rules' own letters.
+use crate::ruleset::MAX_NAME;
 use rules::Rule;
 ghost use Prim.Native.Nat.{_≤_};
-
-const MAX_NAME: usize = 64;
 
 // A name: the first `len` of its letters.
 pub struct Name {
     pub len: usize,
-    pub letters: [u8; 64],
+    pub letters: [u8; MAX_NAME],
 }
 
 pub fn empty() -> Name {
     Name {
         len: 0,
-        letters: [0; 64],
+        letters: [0; MAX_NAME],
     }
 }
 

@@ -4,11 +4,16 @@ ghost use mathlib.Core.Path.{_≡_};
 ghost use mathlib.Core.Bool.{true};
 ghost use Rattle.image.specs.Image.{valid};
 
-const SIZE: usize = 13316;
+// The bytes of a ruleset, and limits of document 01.
+pub const SIZE: usize = 13316;
 
 const MAX_RULES: usize = 512;
 
-const MAX_NAME: usize = 64;
+pub const MAX_NUMBER: u16 = 65535;
+
+pub const MAX_NAME: usize = 64;
+
+pub const MAX_LETTER: u8 = 63;
 
 // A rule for the letter a.
 pub fn rule_for_a() -> Rule {

@@ -3,14 +3,13 @@
 use crate::names;
 use crate::names::Name;
 use crate::ruleset;
+use crate::ruleset::MAX_LETTER;
 use crate::speaking;
 ghost use mathlib.Core.Path.{_≡_};
 ghost use mathlib.Core.Bool.{true};
 ghost use Rattle.image.specs.Image.{valid};
 
 const MAX_TRIED: usize = 4096;
-
-const MAX_LETTER: u8 = 63;
 
 // How a search stands: whether its name was found, how many were tried, and for two rules that fit, where they do and their places.
 pub struct Search {
@@ -45,6 +44,18 @@ fn one_more(n: usize) -> usize {
     n + 1
 }
 
+// A search after one more name.
+fn after(s: Search, name: Name, found: bool) -> Search {
+    Search {
+        found,
+        tried: one_more(s.tried),
+        name,
+        before: 0,
+        first: 0,
+        second: 0,
+    }
+}
+
 // ---- a name whose last letter is silent
 
 // Whether a name is spoken, and the last rule applied has no phones.
@@ -56,14 +67,7 @@ fn is_silent_at_end(image: &[u8], name: Name) -> bool {
 }
 
 fn try_silent(image: &[u8], s: Search, name: Name) -> Search {
-    Search {
-        found: is_silent_at_end(image, name),
-        tried: one_more(s.tried),
-        name,
-        before: 0,
-        first: 0,
-        second: 0,
-    }
+    after(s, name, is_silent_at_end(image, name))
 }
 
 // A silent rule at the end of a name: after the target of each rule in turn, then alone.
@@ -204,14 +208,7 @@ fn is_uncovered(image: &[u8], name: Name) -> bool {
 
 fn try_letter(image: &[u8], s: Search, x: u8) -> Search {
     let name = names::with_symbol(names::empty(), x);
-    Search {
-        found: is_uncovered(image, name),
-        tried: one_more(s.tried),
-        name,
-        before: 0,
-        first: 0,
-        second: 0,
-    }
+    after(s, name, is_uncovered(image, name))
 }
 
 // Once each letter was tried, there is none.

@@ -6,6 +6,9 @@ ghost use lib.ListN.{length};
 ghost use Rattle.io.specs.Counts.{Counts};
 ghost use Rattle.monitor.specs.Lines.{textOf, Within};
 
+// The digits of the longest line, without its 0A.
+pub const MAX_LINE: usize = 4096;
+
 // How far the input is. Of the piece that was read last, the bytes before `end` have arrived, and those before `at` are in lines already; the
 // line buffer holds the first `held` bytes of a line that has not ended. A line that fills the buffer is too long: its 0A has no room. Once the
 // input is over, nothing is read any more.

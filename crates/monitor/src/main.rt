@@ -2,6 +2,7 @@
 mod lines;
 
 use libc::STDOUT_FILENO;
+use lines::MAX_LINE;
 use lines::Next;
 ghost use Prim.Native.Nat.{ℕ, _≤_};
 ghost use lib.ListN.{length};
@@ -80,8 +81,8 @@ fn converse(
 
 fn main() {
     let mut piece = io::buffer();
-    let mut line = [0u8; 4097];
-    let mut frame = [0u8; 2048];
+    let mut line = [0u8; MAX_LINE + 1];
+    let mut frame = [0u8; MAX_LINE / 2];
     let mut file = [0u8; 32769];
     let mut image = [0u8; 13316];
     let mut words = [65535u16; 524418];
