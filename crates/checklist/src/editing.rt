@@ -6,7 +6,7 @@ use crate::printing::print_refused;
 use crate::printing::print_rule_number;
 use crate::printing::print_verdict;
 use crate::ruleset;
-use crate::ruleset::MAX_NUMBER;
+use rules::MAX_NUMBER;
 use file::Written;
 use rules::Answer;
 use rules::Refusal;

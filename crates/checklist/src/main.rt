@@ -19,7 +19,7 @@ ghost use Rattle.image.specs.Image.{valid};
 fn is_prepared(file: &[u8], image: &mut [u8], words: &mut [u16], sets: &mut [u64]) -> bool
     ensures { λ r. ⌜ (r ≡ true → valid (now (image .exit)) ≡ true) ⌝ }
 {
-    let answer = transcript::prepare(file, image, words, sets);
+    let answer = loader::prepare(file, image, words, sets);
     if let Answer::Refused(x) = answer {
         printing::print_verdict(false);
         print(b"rules.hex: ");
@@ -57,9 +57,9 @@ fn run<'a>(
 }
 
 fn main() {
-    let mut buf = [0u8; 32769];
+    let mut buf = [0u8; loader::MAX_INPUT + 1];
     let mut out = [0u8; 29199];
-    let mut image = [0u8; ruleset::SIZE];
+    let mut image = [0u8; image::SIZE];
     let mut words = [0u16; 524418];
     let mut sets = [0u64; 65552];
     run(&mut buf, &mut out, &mut image, &mut words, &mut sets);

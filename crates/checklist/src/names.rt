@@ -1,5 +1,5 @@
 // Names made of the rules' own letters.
-use crate::ruleset::MAX_NAME;
+use rules::MAX_NAME;
 use rules::Rule;
 ghost use Prim.Native.Nat.{_≤_};
 

@@ -4,17 +4,6 @@ ghost use mathlib.Core.Path.{_≡_};
 ghost use mathlib.Core.Bool.{true};
 ghost use Rattle.image.specs.Image.{valid};
 
-// The bytes of a ruleset, and limits of document 01.
-pub const SIZE: usize = 13316;
-
-const MAX_RULES: usize = 512;
-
-pub const MAX_NUMBER: u16 = 65535;
-
-pub const MAX_NAME: usize = 64;
-
-pub const MAX_LETTER: u8 = 63;
-
 // A rule for the letter a.
 pub fn rule_for_a() -> Rule {
     Rule {
@@ -31,26 +20,26 @@ pub fn rule_for_a() -> Rule {
 
 // How many rules there are.
 pub fn count(image: &[u8]) -> usize {
-    if image.len() < SIZE {
+    if image.len() < image::SIZE {
         return 0;
     }
-    image::two_at(image, 0) as usize
+    image::rule_count(image)
 }
 
 // The last number issued.
 pub fn last_issued(image: &[u8]) -> u16 {
-    if image.len() < SIZE {
+    if image.len() < image::SIZE {
         return 0;
     }
-    image::two_at(image, 2)
+    image::last_issued(image)
 }
 
 // The rule at a place.
 pub fn rule_at(image: &[u8], place: usize) -> Rule {
-    if image.len() < SIZE {
+    if image.len() < image::SIZE {
         return rule_for_a();
     }
-    if MAX_RULES <= place {
+    if rules::MAX_RULES <= place {
         return rule_for_a();
     }
     let x = image::rule_at(image, place);
@@ -59,10 +48,10 @@ pub fn rule_at(image: &[u8], place: usize) -> Rule {
 
 // Its number; 0 where there is no such place.
 pub fn number_at(image: &[u8], place: usize) -> u16 {
-    if image.len() < SIZE {
+    if image.len() < image::SIZE {
         return 0;
     }
-    if MAX_RULES <= place {
+    if rules::MAX_RULES <= place {
         return 0;
     }
     image::number_at(image, place)
@@ -101,10 +90,10 @@ fn higher(a: u16, b: u16) -> u16 {
 fn fits(image: &[u8], place: usize, frame: &[u8], i: usize) -> bool
     requires { ⌜ valid (now image) ≡ true ⌝ }
 {
-    if image.len() < SIZE {
+    if image.len() < image::SIZE {
         return false;
     }
-    if image::two_at(image, 0) as usize <= place {
+    if image::rule_count(image) <= place {
         return false;
     }
     if frame.len() < i {
@@ -117,7 +106,7 @@ fn fits(image: &[u8], place: usize, frame: &[u8], i: usize) -> bool
 pub fn both_fit(image: &[u8], p: usize, q: usize, name: &[u8], before: usize) -> bool
     requires { ⌜ valid (now image) ≡ true ⌝ }
 {
-    if MAX_NAME < name.len() {
+    if rules::MAX_NAME < name.len() {
         return false;
     }
     if name.len() < before {

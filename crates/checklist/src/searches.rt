@@ -3,7 +3,7 @@
 use crate::names;
 use crate::names::Name;
 use crate::ruleset;
-use crate::ruleset::MAX_LETTER;
+use rules::MAX_NAME_BYTE;
 use crate::speaking;
 ghost use mathlib.Core.Path.{_≡_};
 ghost use mathlib.Core.Bool.{true};
@@ -215,7 +215,7 @@ fn try_letter(image: &[u8], s: Search, x: u8) -> Search {
 pub fn uncovered(image: &[u8]) -> Search {
     let mut at = begin();
     let mut x: u8 = 1;
-    while x <= MAX_LETTER {
+    while x <= MAX_NAME_BYTE {
         at = try_letter(image, at, x);
         if at.found {
             return at;

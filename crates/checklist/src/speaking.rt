@@ -61,7 +61,7 @@ fn walk<'a>(
     numbers: &mut [u16],
 ) -> Came {
     let letters = name.letters;
-    let answer = walk::walk(
+    let answer = compiled::speak_compiled(
         image,
         words,
         sets,

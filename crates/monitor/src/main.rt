@@ -84,7 +84,7 @@ fn main() {
     let mut line = [0u8; MAX_LINE + 1];
     let mut frame = [0u8; MAX_LINE / 2];
     let mut file = [0u8; 32769];
-    let mut image = [0u8; 13316];
+    let mut image = [0u8; image::SIZE];
     let mut words = [65535u16; 524418];
     let mut sets = [18446744073709551615u64; 65552];
     let mut phones = [238u8; 256];

@@ -46,7 +46,7 @@ fn load(buf: &mut [u8], image: &mut [u8], words: &mut [u16], sets: &mut [u64]) -
     ensures { λ r. ⌜ (r ≡ true → valid (now (image .exit)) ≡ true) ⌝ }
 {
     let n = rules_hex::read(&mut *buf);
-    let answer = transcript::prepare(&buf[..n], image, words, sets);
+    let answer = loader::prepare(&buf[..n], image, words, sets);
     if let Answer::Refused(x) = answer {
         print_refusal(x);
         return false;
@@ -59,8 +59,8 @@ fn say_all<'a>(buf: &mut [u8], image: &[u8], words: &'a [u16], sets: &'a [u64])
     requires { ⌜ valid (now image) ≡ true ⌝ }
 {
     let n = io::read_full(STDIN_FILENO, &mut *buf);
-    if 32768 < n {
-        print_refusal(Refusal::BadLine(32768));
+    if loader::MAX_INPUT < n {
+        print_refusal(Refusal::BadLine(loader::MAX_INPUT));
         return;
     }
     say_lines(image, words, sets, &buf[..n]);
@@ -74,8 +74,8 @@ fn run<'a>(buf: &mut [u8], image: &mut [u8], words: &'a mut [u16], sets: &'a mut
 }
 
 fn main() {
-    let mut buf = [0u8; 32769];
-    let mut image = [0u8; 13316];
+    let mut buf = [0u8; loader::MAX_INPUT + 1];
+    let mut image = [0u8; image::SIZE];
     let mut words = [0u16; 32768];
     let mut sets = [0u64; 4096];
     run(&mut buf, &mut image, &mut words, &mut sets);
