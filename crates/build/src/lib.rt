@@ -106,7 +106,15 @@ fn fill(
     ensures words { λ _. ⌜ now (words .exit) ≡ over (builtWords (entriesOf (now (image .entry)))) (now (words .entry)) ⌝ }
     ensures sets { λ _. ⌜ now (sets .exit) ≡ over (builtSets (entriesOf (now (image .entry)))) (now (sets .entry)) ⌝ }
 {
-    let l = fill_part(image, n, false, pats, lens, &mut words[tables::HEAD..], sets);
+    let l = fill_part(
+        image,
+        n,
+        false,
+        pats,
+        lens,
+        &mut words[tables::HEAD..],
+        sets,
+    );
     let a = tables::HEAD + tables::ROW * l;
     let b = tables::SET * l;
     let r = fill_part(image, n, true, pats, lens, &mut words[a..], &mut sets[b..]);

@@ -6,9 +6,9 @@ use crate::printing::print_refused;
 use crate::printing::print_rule_number;
 use crate::printing::print_verdict;
 use crate::ruleset;
-use rules::MAX_NUMBER;
 use file::Written;
 use rules::Answer;
+use rules::MAX_NUMBER;
 use rules::Refusal;
 use rules::Rule;
 

@@ -3,8 +3,8 @@
 use crate::names;
 use crate::names::Name;
 use crate::ruleset;
-use rules::MAX_NAME_BYTE;
 use crate::speaking;
+use rules::MAX_NAME_BYTE;
 ghost use mathlib.Core.Path.{_≡_};
 ghost use mathlib.Core.Bool.{true};
 ghost use Rattle.image.specs.Image.{valid};

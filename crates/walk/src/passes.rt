@@ -43,7 +43,7 @@ fn left_pass(words: &[u16], rows: usize, count: usize, frame: &[u8], states: &mu
     while i < end {
         at = look_up(words, rows, at, frame[i]);
         let state = at.state;
-        if count <= numbers::wide16(state) {
+        if count <= numbers::wide16(state) { // 16 in the left pass
             return Pass {
                 usable: false,
                 steps: 0,
@@ -77,7 +77,7 @@ fn right_pass(
         i -= 1;
         at = look_up(words, rows, at, frame[i]);
         let state = at.state;
-        if count <= numbers::wide16(state) {
+        if count <= numbers::wide16(state) { // 16 in the right pass
             return Pass {
                 usable: false,
                 steps: 0,

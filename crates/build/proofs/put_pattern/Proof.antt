@@ -22,8 +22,14 @@ add-put-reversed c = search needs
 
 put-reversed-requires-2 : tie.Need-put-reversed-requires-2
 put-reversed-requires-2 c κs = omega (
-      arith, ap length (c .before .before .before .before .before .before .right-at .ensures), S.right-most _ (c .before .before .before .before .before .before .before .before .before .before .pre .0) _ (c .before .before .before .before .before .before .before .before .before .before .pre .1), ap length (c .before .before .before .before .before .target-at .ensures),
-      S.target-most _ (c .before .before .before .before .before .before .before .before .before .before .pre .0) _ (c .before .before .before .before .before .before .before .before .before .before .pre .1), c .before .before .before .before .before .before .before .before .before .before .pre .2, c .before .before .before .put-reversed .ensures .len)
+  arith,
+  ap length (c .before .before .before .before .before .before .right-at .ensures),
+  S.right-most _ (c .before .before .before .before .before .before .before .before .before .before .pre .0) _ (c .before .before .before .before .before .before .before .before .before .before .pre .1),
+  ap length (c .before .before .before .before .before .target-at .ensures),
+  S.target-most _ (c .before .before .before .before .before .before .before .before .before .before .pre .0) _ (c .before .before .before .before .before .before .before .before .before .before .pre .1),
+  c .before .before .before .before .before .before .before .before .before .before .pre .2,
+  c .before .before .before .put-reversed .ensures .len,
+)
 
 add-result : tie.Need-add-result
 add-result c = search needs
@@ -44,7 +50,7 @@ same-length-2 : tie.Need-same-length-2
 same-length-2 c = search needs
 
 returns-2 : tie.Need-returns-2
-returns-2 c = 
+returns-2 c =
     S.put-left _ _ _ _ _ _ _ (c .before .before .before .before .before .if1 .left) (c .before .before .before .before .left-at .ensures)
     (omega (arith, ap length (c .before .before .before .before .left-at .ensures), S.left-most _ (c .before .before .before .before .before .before .before .before .pre .0) _ (c .before .before .before .before .before .before .before .before .pre .1), c .before .before .before .before .before .before .before .before .pre .2)) (c .before .before .put .ensures)
 
