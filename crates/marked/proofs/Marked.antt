@@ -5,9 +5,9 @@ use mathlib.Core.List.{map}
 use Rattle.reading.specs.Reading.{plain}
 use Rattle.image.specs.Bits.{bit}
 use Rattle.tables.specs.Words.{pack, builtWords, builtSets}
-use Rattle.tables.specs.Walk.{lowest, places, walk, walkWords}
+use Rattle.tables.specs.Walk.{lowest, places, walk, walkThrough}
 use Rattle.marked.specs.Marked.{answer, questions, answers}
 
 pub marked : map answer questions ≡ answers
-unfolding plain bit pack builtWords builtSets lowest places walk walkWords
+unfolding plain bit pack builtWords builtSets lowest places walk walkThrough
 marked = refl

@@ -6,12 +6,12 @@ use mathlib.Core.List.{List, [], _∷_, map}
 use lib.ListN.{getD}
 use Rattle.rules.specs.Shape.{Entry}
 use Rattle.reading.specs.Fitting.{Str}
-use Rattle.reading.specs.Reading.{Reading, finished, stopped, plain}
-use Rattle.reading.specs.Speech.{phonesOf, numbersOf, judgedName}
+use Rattle.reading.specs.Reading.{plain}
+use Rattle.reading.specs.Speech.{Outcome, speaks, declines, stepsOf, answered, judgedName, phonesOf, numbersOf}
 use Rattle.tables.specs.States.{states}
 use Rattle.tables.specs.Tables.{rightPattern}
-use Rattle.tables.specs.Words.{leftCount, rightCount, leftOf, rightOf, builtWords, builtSets}
-use Rattle.tables.specs.Walk.{walkSteps, walkWords}
+use Rattle.tables.specs.Words.{setSize, rightSets, Compiled, compiledFrom, rightOf, builtWords, builtSets}
+use Rattle.tables.specs.Walk.{walkThrough}
 
 abbrev numberedRule : ℕ → Str → Str → Str → Str → Entry
 numberedRule number left target right phones =
@@ -28,17 +28,14 @@ sixRules =
     ∷ numberedRule 6 [] (0x0e ∷ []) [] (0x6e ∷ [])
     ∷ []
 
--- the words and set words that a build of the six rules writes
-abbrev pub words : List ℕ
-words = builtWords sixRules
-
-abbrev pub sets : List ℕ
-sets = builtSets sixRules
+-- the compiled ruleset of the words and set words that a build of the six rules writes
+abbrev pub compiled : Compiled
+compiled = compiledFrom (builtWords sixRules) (builtSets sixRules)
 
 -- ---- what is asked
 
 pub data Question : Type 0 where
-  -- of a name: its plain reading, its walk through the built words, and the walk's steps
+  -- of a name: its plain reading, its walk through the compiled ruleset, and the walk's steps
   spoken : Str → Question
   -- L, R and the right strings in state order
   strings : Question
@@ -48,29 +45,31 @@ pub data Question : Type 0 where
   firstWords : List ℕ → Question
 
 -- phones and rule numbers, or a refusal's number and place
-pub data Outcome : Type 0 where
-  phones : Str → List ℕ → Outcome
-  refused : ℕ → ℕ → Outcome
+pub data Result : Type 0 where
+  phones : Str → List ℕ → Result
+  refused : ℕ → ℕ → Result
 
 pub data Answer : Type 0 where
-  heard : Outcome → Outcome → ℕ → Answer
+  said : Result → Result → ℕ → Answer
   counted : ℕ → ℕ → List Str → Answer
   state : ℕ → Answer
   held : List ℕ → Answer
 
-abbrev outcome : Reading → Outcome
-outcome (finished rs) = phones (phonesOf rs) (numbersOf rs)
-outcome (stopped n p) = refused n p
+abbrev resultOf : Outcome → Result
+resultOf (speaks xs steps) = phones (phonesOf xs) (numbersOf xs)
+resultOf (declines n p steps) = refused n p
+
+abbrev byRules : Str → Outcome
+byRules name = judgedName name (answered (plain sixRules name) 0)
+
+abbrev byTables : Str → Outcome
+byTables name = judgedName name (walkThrough compiled sixRules name)
 
 abbrev pub answer : Question → Answer
-answer (spoken name) =
-    heard
-    (outcome (judgedName name (plain sixRules name)))
-    (outcome (judgedName name (walkWords words sets sixRules name)))
-    (walkSteps (leftOf words sets) (rightOf words sets) name)
-answer strings = counted (leftCount words) (rightCount words) (states (map rightPattern sixRules))
-answer (step q c) = state (rightOf words sets .next q c)
-answer (firstWords qs) = held (map (λ q. getD sets (8 * (leftCount words + q)) 0) qs)
+answer (spoken name) = said (resultOf (byRules name)) (resultOf (byTables name)) (stepsOf (byTables name))
+answer strings = counted (compiled .«left-states») (compiled .«right-states») (states (map rightPattern sixRules))
+answer (step q c) = state (rightOf compiled .next q c)
+answer (firstWords qs) = held (map (λ q. getD (compiled .sets) (rightSets (compiled .«left-states») + setSize * q) 0) qs)
 
 -- M1 to M12
 abbrev pub questions : List Question
@@ -92,8 +91,8 @@ questions =
 -- ---- what document 01 marks
 
 -- plain reading and walk alike, with so many steps
-abbrev both : Outcome → ℕ → Answer
-both o n = heard o o n
+abbrev both : Result → ℕ → Answer
+both r n = said r r n
 
 abbrev pub answers : List Answer
 answers =
