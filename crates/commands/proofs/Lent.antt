@@ -7,15 +7,14 @@ use native.Mathlib.Omega.{arith}
 use lib.ListN.{length, take, drop, length-take}
 use borrow.Author.Tests.{le-leb, lt-leb}
 use Rattle.numbers.specs.Numbers.{two}
-use Rattle.rules.proofs.Cases.{byBool}
 use Rattle.rules.specs.Refusals.{Reply, declined}
-use Rattle.image.specs.Image.{Edited, outcome, valid, entriesOf}
+use Rattle.image.specs.Image.{Edited, outcome}
 use Rattle.commands.specs.Fields.{four}
-use Rattle.reading.specs.Reading.{plain}
-use Rattle.reading.specs.Speech.{Told, spoken, refused, Said, saying, judgedName, plainSaid}
+use Rattle.reading.specs.Speech.{Told, spoken, refused, Said, saying, plainOutcome, plainSaid}
 use Rattle.tables.specs.Words.{building, built}
 use Rattle.tables.specs.Walk.{Walked, walkSaid}
 use Rattle.file.specs.Loading.{Report, filing, filed, loaded}
+use Rattle.loader.specs.Prepared.{maxInput}
 use Rattle.transcript.specs.Names.{ToldWithin}
 use Rattle.transcript.proofs.Spoken.{delivered-within, walk-within}
 use Rattle.commands.specs.Lent.{lentOf, builtBack, builtIn, saidBack, plainIn, walkedBack, walkIn}
@@ -53,9 +52,7 @@ shorter n xs = omega (arith, length-take n xs)
 plain-within : (image name phones numbers : List ℕ) → ToldWithin (plainSaid image name phones numbers .told) (length phones) (length numbers)
 unfolding plainSaid
 plain-within image name phones numbers =
-    byBool (valid image)
-    (λ e. rw e (delivered-within (judgedName name (plain (entriesOf image) name)) phones numbers))
-    (λ e. rw e tt)
+    delivered-within (plainOutcome image name) phones numbers
 
 pub plain-told : (t : Told) (n m : ℕ) (image name phones numbers x y : List ℕ) → saying t x y ≡ plainIn n m image name phones numbers
     → ToldWithin t (length phones) (length numbers)
@@ -75,13 +72,13 @@ walk-told t steps n m image ws ss name phones numbers x y e =
 
 -- ---- the rule file
 
-pub loaded-long : (file image : List ℕ) → 32768 < length file → outcome (declined 13 32768) image ≡ loadedFrom file image
+pub loaded-long : (file image : List ℕ) → maxInput < length file → outcome (declined 13 maxInput) image ≡ loadedFrom file image
 unfolding loadedFrom
-loaded-long file image h = rw (lt-leb (length file) 32768 h)
+loaded-long file image h = rw (lt-leb (length file) maxInput h)
 
-pub loaded-file : (file image : List ℕ) (e : Edited) → length file ≤ 32768 → e ≡ loaded file image → e ≡ loadedFrom file image
+pub loaded-file : (file image : List ℕ) (e : Edited) → length file ≤ maxInput → e ≡ loaded file image → e ≡ loadedFrom file image
 unfolding loadedFrom
-loaded-file file image e h p = rw (le-leb (length file) 32768 h) p
+loaded-file file image e h p = rw (le-leb (length file) maxInput h) p
 
 -- ---- answers
 

@@ -5,4 +5,4 @@ pub mod Eights
 pub mod Lent
 pub mod Writing
 pub mod Dispatch
-pub mod Hearing
+pub mod CommandLine

@@ -18,7 +18,7 @@ use Rattle.reading.specs.declared.Speech.the-variants as speeches
 use Rattle.tables.specs.Words.{Built, building}
 use Rattle.tables.specs.Walk.{Walked}
 use Rattle.frames.specs.Lines.{lineOf, framed}
-use Rattle.transcript.specs.Answers.{printed, toldBody, refusedBody, refusalLine, two as field, four as place}
+use Rattle.transcript.specs.Answers.{printed, toldBody, refusedBody, refusalLine, bytes2, bytes4}
 use Rattle.transcript.proofs.Printed.{printed-is, length-printed}
 use Rattle.commands.specs.Answers.{doneLine, lastLine, statesLine, walkRefusal, malformedLine, replyLine, editLine, Effect, leaving, Effects, sizedTo, bothSized, ruled, Answered, BothAnswered}
 use Rattle.commands.specs.Lent.{buildLine, buildEffects, plainLine, plainEffects, walkLine, walkEffects}
@@ -31,23 +31,23 @@ module _ (xs z : List ℕ) where
   pub last-is : (last a b : ℕ) → a ≡ last / 256 % 256 → b ≡ last % 256 → z ≡ overAt 0 (lineOf (framed (6 ∷ a ∷ b ∷ []))) xs
       → z ≡ over (lastLine last) xs
   unfolding lastLine
-  last-is last a b ea eb h = printed-is (6 ∷ field last) (6 ∷ a ∷ b ∷ []) xs z (rw (ea, eb)) h
+  last-is last a b ea eb h = printed-is (6 ∷ bytes2 last) (6 ∷ a ∷ b ∷ []) xs z (rw (ea, eb)) h
 
   pub states-is : (l r a b c d : ℕ) → a ≡ l / 256 % 256 → b ≡ l % 256 → c ≡ r / 256 % 256 → d ≡ r % 256
       → z ≡ overAt 0 (lineOf (framed (6 ∷ a ∷ b ∷ c ∷ d ∷ []))) xs → z ≡ over (statesLine l r) xs
   unfolding statesLine
-  states-is l r a b c d ea eb ec ed h = printed-is (6 ∷ field l ++ field r) (6 ∷ a ∷ b ∷ c ∷ d ∷ []) xs z (rw (ea, eb, ec, ed)) h
+  states-is l r a b c d ea eb ec ed h = printed-is (6 ∷ bytes2 l ++ bytes2 r) (6 ∷ a ∷ b ∷ c ∷ d ∷ []) xs z (rw (ea, eb, ec, ed)) h
 
   pub walk-refused-is : (steps number p s t n q a b c d : ℕ) → s ≡ steps / 256 % 256 → t ≡ steps % 256 → n ≡ number → q ≡ p
       → a ≡ q / 16777216 % 256 → b ≡ q / 65536 % 256 → c ≡ q / 256 % 256 → d ≡ q % 256
       → z ≡ overAt 0 (lineOf (framed (8 ∷ s ∷ t ∷ n ∷ a ∷ b ∷ c ∷ d ∷ []))) xs → z ≡ over (walkRefusal steps number p) xs
   unfolding walkRefusal
   walk-refused-is steps number p s t n q a b c d es et en eq ea eb ec ed h =
-      printed-is (8 ∷ field steps ++ (number ∷ place p)) (8 ∷ s ∷ t ∷ n ∷ a ∷ b ∷ c ∷ d ∷ []) xs z (rw (es, et, en, ea, eb, ec, ed, eq)) h
+      printed-is (8 ∷ bytes2 steps ++ (number ∷ bytes4 p)) (8 ∷ s ∷ t ∷ n ∷ a ∷ b ∷ c ∷ d ∷ []) xs z (rw (es, et, en, ea, eb, ec, ed, eq)) h
 
 length-last : (n : ℕ) → length (lastLine n) ≡ 9
 unfolding lastLine
-length-last n = length-printed (6 ∷ field n)
+length-last n = length-printed (6 ∷ bytes2 n)
 
 -- what is answered, and how long it is
 abbrev pub Gives : List ℕ → ℕ → List ℕ → List ℕ → Type 0
@@ -66,11 +66,11 @@ module _ (a : Answer) (last len : ℕ) (out out′ : List ℕ) where
 
 length-states : (l r : ℕ) → length (statesLine l r) ≡ 13
 unfolding statesLine
-length-states l r = length-printed (6 ∷ field l ++ field r)
+length-states l r = length-printed (6 ∷ bytes2 l ++ bytes2 r)
 
 length-walk-refusal : (steps n p : ℕ) → length (walkRefusal steps n p) ≡ 19
 unfolding walkRefusal
-length-walk-refusal steps n p = length-printed (8 ∷ field steps ++ (n ∷ place p))
+length-walk-refusal steps n p = length-printed (8 ∷ bytes2 steps ++ (n ∷ bytes4 p))
 
 length-done : length doneLine ≡ 5
 unfolding doneLine

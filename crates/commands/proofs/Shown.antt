@@ -1,19 +1,22 @@
 -- Laws of the commands that store and show: a stored element, a shown part, and a body that starts with 0A.
 -- Assumes nothing.
-use Prim.Native.Nat.{ℕ, _+_, _-_, _≤_, _<_}
-use mathlib.Core.Path.{_≡_, sym, ap, _∙_}
+use Prim.Native.Nat.{ℕ, _+_, _-_, _*_, _≤_, _<_}
+use mathlib.Core.Path.{_≡_, sym, ap, _∙_, subst}
+use mathlib.Core.Bool.{Bool, true, false}
 use mathlib.Core.List.{List, [], _∷_, _++_}
 use native.Mathlib.Omega.{arith}
-use borrow.Author.Tests.{le-leb, lt-leb, le-ltb, lt-ltb, eq-eqb, ne-eqb}
+use borrow.Author.Tests.{le-ltb, lt-ltb, eq-eqb, leb-true, eqb-true}
 use lib.ListN.{length, getD, take, drop, set}
 use lib.Seq.{take-at}
 use lib.Dec.{eqb, ltb}
+use Rattle.rules.proofs.Cases.{and-l, and-r}
 use Rattle.rules.specs.Memory.{over, overAt}
+use Rattle.frames.specs.Lines.{lineOf, framed}
 use Rattle.transcript.specs.Answers.{printed, refusedBody}
-use Rattle.transcript.proofs.Printed.{length-printed}
+use Rattle.transcript.proofs.Printed.{printed-is, length-printed}
 use Rattle.commands.specs.Fields.{four}
 use Rattle.commands.specs.Answers.{malformedLine, doneLine, leaving, sizedTo, Answered}
-use Rattle.commands.specs.Memory.{storedAt, shownIf, shown}
+use Rattle.commands.specs.Memory.{storedAt, shownIf, inside, shown}
 use Rattle.commands.proofs.Replies.{Gives, answered-not, answered-done}
 
 module _ (n k i j v : ℕ) (xs out out′ : List ℕ) (len : ℕ) (h : n ≡ k) (e : j ≡ i) where
@@ -25,33 +28,44 @@ module _ (n k i j v : ℕ) (xs out out′ : List ℕ) (len : ℕ) (h : n ≡ k) 
   stored-in w l d m b =
       rw (eq-eqb n k h) (answered-done (ltb i (length xs)) (set xs i v) xs out out′ len (lt-ltb i (length xs) (omega arith)) (set xs j w) (rw (e, d)) m b)
 
--- what is answered where the line is one that is asked for
-pub gives-same : (line line′ : List ℕ) (len : ℕ) (out out′ : List ℕ) → line ≡ line′ → len ≡ length line → out′ ≡ over line out → Gives line′ len out out′
-gives-same line line′ len out out′ e l h = rw (← e) (l, h)
+-- what is shown, or that nothing is
+module _ (b : Bool) (bytes : List ℕ) (len : ℕ) (out out′ : List ℕ) where
+  pub not-shown : b ≡ false → len ≡ 15 → out′ ≡ over malformedLine out → Gives (shownIf b bytes) len out out′
+  not-shown p l h = rw p (l ∙ sym (length-printed (refusedBody 13 0)), h)
 
-pub gives-malformed : (line : List ℕ) (len : ℕ) (out out′ : List ℕ) → malformedLine ≡ line → len ≡ 15 → out′ ≡ over malformedLine out → Gives line len out out′
-gives-malformed line len out out′ e l h = gives-same malformedLine line len out out′ e (l ∙ sym (length-printed (refusedBody 13 0))) h
+  pub is-shown : b ≡ true → Gives (printed (10 ∷ bytes)) len out out′ → Gives (shownIf b bytes) len out out′
+  is-shown p g = rw p g
 
-pub unshown : (n k : ℕ) (bytes : List ℕ) → (n ≡ k → ⊥) → malformedLine ≡ shownIf (eqb n k) bytes
-unshown n k bytes h = rw (ne-eqb n k h)
+-- a part that is asked for
+module _ (f : List ℕ) (n : ℕ) (p : inside f n ≡ true) where
+  pub inside-size : length f ≡ 6
+  inside-size = eqb-true (length f) 6 (and-l (eqb (length f) 6) _ p)
 
-pub shown-so : (n k : ℕ) (bytes : List ℕ) → n ≡ k → printed (10 ∷ bytes) ≡ shownIf (eqb n k) bytes
-shown-so n k bytes h = rw (eq-eqb n k h)
+  pub inside-end : four 1 f + getD f 5 0 ≤ n
+  inside-end = leb-true (four 1 f + getD f 5 0) n (and-r (eqb (length f) 6) _ p)
 
-module _ (bytes : List ℕ → List ℕ) (f xs : List ℕ) where
-  pub shown-short : (length f ≡ 6 → ⊥) → malformedLine ≡ shown bytes f xs
-  shown-short h = rw (ne-eqb (length f) 6 h)
+module _ (bytes : List ℕ → List ℕ) (f xs : List ℕ) (len : ℕ) (out out′ : List ℕ) where
+  abbrev asked : List ℕ
+  asked = take (getD f 5 0) (drop (four 1 f) xs)
 
-  module _ (i n : ℕ) (h : length f ≡ 6) (ei : i ≡ four 1 f) (en : n ≡ getD f 5 0) where
-    pub shown-out : length xs < i + n → malformedLine ≡ shown bytes f xs
-    shown-out l = rw (eq-eqb (length f) 6 h, lt-leb (four 1 f + getD f 5 0) (length xs) (omega arith))
+  pub part-not : inside f (length xs) ≡ false → len ≡ 15 → out′ ≡ over malformedLine out → Gives (shown bytes f xs) len out out′
+  part-not p l h = not-shown (inside f (length xs)) (bytes asked) len out out′ p l h
 
-    pub shown-in : i + n ≤ length xs → printed (10 ∷ bytes (take (i + n - i) (drop i xs))) ≡ shown bytes f xs
-    shown-in l =
-        let d : i + n - i ≡ getD f 5 0 = omega arith in
-        rw (eq-eqb (length f) 6 h, le-leb (four 1 f + getD f 5 0) (length xs) (omega arith), d, ei)
+  pub part-shown : inside f (length xs) ≡ true → (i k : ℕ) → i ≡ four 1 f → k ≡ getD f 5 0
+      → Gives (printed (10 ∷ bytes (take (i + k - i) (drop i xs)))) len out out′ → Gives (shown bytes f xs) len out out′
+  part-shown p i k ei ek g =
+      let d : i + k - i ≡ getD f 5 0 = omega arith in
+      let e : take (i + k - i) (drop i xs) ≡ asked = rw (d, ei) in
+      is-shown (inside f (length xs)) (bytes asked) len out out′ p (subst (λ (z : List ℕ). Gives (printed (10 ∷ bytes z)) len out out′) e g)
 
--- the front of a body that starts with 0A
-pub front-ten : (ys xs z : List ℕ) (n : ℕ) → take 1 xs ≡ 10 ∷ [] → n ≡ 1 + length ys → z ≡ overAt 1 ys xs → take n z ≡ 10 ∷ ys
-front-ten ys xs z n e l h =
-    ap (take n) (h ∙ ap (λ (t : List ℕ). t ++ over ys (drop 1 xs)) e) ∙ take-at (10 ∷ ys) (drop (length ys) (drop 1 xs)) n (omega arith)
+-- a body of 0A and ys, laid in the front of z
+module _ (ys xs z : List ℕ) (n : ℕ) (e : take 1 xs ≡ 10 ∷ []) (l : n ≡ 1 + length ys) (h : z ≡ overAt 1 ys xs) where
+  pub front-ten : take n z ≡ 10 ∷ ys
+  front-ten = ap (take n) (h ∙ ap (λ (t : List ℕ). t ++ over ys (drop 1 xs)) e) ∙ take-at (10 ∷ ys) (drop (length ys) (drop 1 xs)) n (omega arith)
+
+  pub front-length : length (take n z) ≡ n
+  front-length = ap length front-ten ∙ omega arith
+
+  pub front-shown : (len : ℕ) (out out′ : List ℕ) → len ≡ 0 + (2 * length (take n z) + 3) → out′ ≡ overAt 0 (lineOf (framed (take n z))) out
+      → Gives (printed (10 ∷ ys)) len out out′
+  front-shown len out out′ m b = (omega (arith, m, front-length, length-printed (10 ∷ ys)), printed-is (10 ∷ ys) (take n z) out out′ front-ten b)

@@ -14,7 +14,7 @@ use Rattle.rules.specs.Refusals.{refusalNumber, refusalPlace}
 use Rattle.rules.specs.declared.Refusal.{Refusal}
 use Rattle.image.specs.Image.{valid}
 use Rattle.file.specs.File.{encode}
-use Rattle.file.specs.Loading.{Report, wrote, refused, reportOf, Filed, filing, filed, listingOf}
+use Rattle.file.specs.Loading.{Report, wrote, refused, reportOf, Filed, filing, filed, rulesetIn}
 use Rattle.file.specs.declared.Written.{Written}
 use Rattle.file.specs.declared.Written.the-variants.{Bytes, Refused}
 use Rattle.transcript.specs.Answers.{refusedBody, refusalLine}
@@ -63,7 +63,7 @@ tested-wrote false r text ys k e = absurd (never 0 0 k e)
 
 module _ (n : ℕ) (image : List ℕ) where
   abbrev text : List ℕ
-  text = encode (listingOf image)
+  text = encode (rulesetIn image)
 
   abbrev says : Report
   says = filed image (replicate n 0) .report

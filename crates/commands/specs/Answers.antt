@@ -13,7 +13,7 @@ use Rattle.rules.specs.Refusals.{Reply, accepted, declined}
 use Rattle.image.specs.Image.{Edited, lastOf}
 use Rattle.edits.specs.Ledger.Edit.{Add, Drop, Move}
 use Rattle.edits.specs.Edits.{edited}
-use Rattle.transcript.specs.Answers.{two as field, four as place, printed, refusedBody}
+use Rattle.transcript.specs.Answers.{bytes2, bytes4, printed, refusedBody}
 use Rattle.commands.specs.Fields.{addSized, ruleOf}
 
 -- 06 alone
@@ -22,15 +22,15 @@ doneLine = printed (6 ∷ [])
 
 -- 06 and a number
 unfoldable pub lastLine : ℕ → List ℕ
-lastLine last = printed (6 ∷ field last)
+lastLine last = printed (6 ∷ bytes2 last)
 
 -- 06, L, R
 unfoldable pub statesLine : ℕ → ℕ → List ℕ
-statesLine l r = printed (6 ∷ field l ++ field r)
+statesLine l r = printed (6 ∷ bytes2 l ++ bytes2 r)
 
 -- a walk's refusal: 08, steps, number, place
 unfoldable pub walkRefusal : ℕ → ℕ → ℕ → List ℕ
-walkRefusal steps number p = printed (8 ∷ field steps ++ (number ∷ place p))
+walkRefusal steps number p = printed (8 ∷ bytes2 steps ++ (number ∷ bytes4 p))
 
 -- a line that is no command
 abbrev pub malformedLine : List ℕ

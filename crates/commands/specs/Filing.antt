@@ -7,8 +7,9 @@ use lib.ListN.{length, take, replicate}
 use lib.Dec.{leb, eqb}
 use Rattle.rules.specs.Refusals.{declined}
 use Rattle.image.specs.Image.{Edited, outcome}
-use Rattle.file.specs.Loading.{loaded, Report, wrote, refused, Filed, filing, filed, listingOf}
+use Rattle.file.specs.Loading.{loaded, Report, wrote, refused, Filed, filing, filed, rulesetIn}
 use Rattle.file.specs.File.{encode}
+use Rattle.loader.specs.Prepared.{maxInput}
 use Rattle.transcript.specs.Answers.{printed, refusedBody}
 use Rattle.commands.specs.Fields.{four}
 use Rattle.commands.specs.Answers.{Effect, ruled, sizedTo, malformedLine}
@@ -16,7 +17,7 @@ use Rattle.commands.specs.Lent.{lentOf, back}
 
 -- rules.hex read into the ruleset; over 32,768 bytes are refused
 unfoldable pub loadedFrom : List ℕ → List ℕ → Edited
-loadedFrom file image = cond (leb (length file) 32768) (loaded file image) (outcome (declined 13 32768) image)
+loadedFrom file image = cond (leb (length file) maxInput) (loaded file image) (outcome (declined 13 maxInput) image)
 
 -- 13: read rules.hex; a refused file leaves the ruleset
 unfoldable pub loadedBy : List ℕ → List ℕ → List ℕ → Effect
@@ -36,7 +37,7 @@ reportLine (refused n p) text = printed (refusedBody n p)
 
 -- the file where so many bytes are lent
 unfoldable pub fileLine : ℕ → List ℕ → List ℕ
-fileLine room image = reportLine (filed image (replicate room 0) .report) (encode (listingOf image))
+fileLine room image = reportLine (filed image (replicate room 0) .report) (encode (rulesetIn image))
 
 -- 14, lent bytes (4, at most 29,199: more counts as that): write
 unfoldable pub writeLine : List ℕ → List ℕ → List ℕ

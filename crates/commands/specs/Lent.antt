@@ -3,10 +3,10 @@
 use Prim.Native.Nat.{ℕ, min}
 use mathlib.Core.List.{List, _++_}
 use lib.Dec.{leb, eqb}
-use lib.ListN.{length, getD, take, drop}
+use lib.ListN.{length, take, drop}
 use Rattle.numbers.specs.Numbers.{two}
 use Rattle.reading.specs.Speech.{Told, spoken, refused, Said, saying, plainSaid}
-use Rattle.tables.specs.Words.{Built, building, built}
+use Rattle.tables.specs.Words.{leftCount, rightCount, Built, building, built}
 use Rattle.tables.specs.Walk.{Walked, walkSaid}
 use Rattle.rules.specs.Refusals.{Reply, accepted, declined}
 use Rattle.transcript.specs.Answers.{printed, refusedBody, spokenBody, toldBody}
@@ -46,7 +46,7 @@ walkIn n m image ws ss name phones numbers = walkedBack n m phones numbers (walk
 
 -- what a build answers: the two state counts, which are the first words
 abbrev pub buildLine : Reply → List ℕ → List ℕ
-buildLine accepted words = statesLine (getD words 0 0) (getD words 1 0)
+buildLine accepted words = statesLine (leftCount words) (rightCount words)
 buildLine (declined n p) words = printed (refusedBody n p)
 
 abbrev pub buildEffects : Built → Effects

@@ -1,25 +1,24 @@
 -- What the commands that reach into the monitor's memory leave there.
 -- Assumes nothing.
 use Prim.Native.Nat.{ℕ, _+_, _/_, _%_, _≤_}
-use mathlib.Core.Bool.{Bool, cond}
+use mathlib.Core.Bool.{Bool, cond, _&&_}
 use mathlib.Core.List.{List, [], _∷_, _++_}
 use lib.ListN.{length, getD, take, drop, set}
 use lib.Dec.{leb, ltb, eqb}
 use Rattle.numbers.specs.Numbers.{two}
-use Rattle.image.specs.Image.{slotStart, cleared}
+use Rattle.rules.specs.Limits.{maxRules}
+use Rattle.image.specs.Image.{imageSize, withHead, withNumber, cleared}
 use Rattle.transcript.specs.Answers.{twos, printed}
 use Rattle.commands.specs.Fields.{four, eight}
 use Rattle.commands.specs.Answers.{Effect, leaving, sizedTo, doneLine, malformedLine}
 
--- the number at a place of an image, overwritten; a place above 511 is none
-abbrev pub renumbered : ℕ → ℕ → ℕ → List ℕ → List ℕ
-renumbered place high low image =
-    cond (ltb place 512) (set (set image (slotStart place) high) (slotStart place + 1) low) image
+-- the number in the slot of a place, overwritten; a place above 511 is none
+abbrev pub renumbered : ℕ → ℕ → List ℕ → List ℕ
+renumbered place number image = cond (ltb place maxRules) (withNumber place number image) image
 
 -- 1E, place (2), number (2), count (2), last (2): overwritten with no check
 abbrev pub forced : List ℕ → List ℕ → List ℕ
-forced f image =
-    set (set (set (set (renumbered (two 1 f) (getD f 3 0) (getD f 4 0) image) 0 (getD f 5 0)) 1 (getD f 6 0)) 2 (getD f 7 0)) 3 (getD f 8 0)
+forced f image = withHead (two 5 f) (two 7 f) (renumbered (two 1 f) (two 3 f) image)
 
 unfoldable pub forcedBy : List ℕ → List ℕ → Effect
 forcedBy f image = sizedTo (eqb (length f) 9) (leaving doneLine (forced f image)) image
@@ -61,10 +60,13 @@ eights (w ∷ l) = bytes8 w ++ eights l
 abbrev pub shownIf : Bool → List ℕ → List ℕ
 shownIf b bytes = cond b (printed (10 ∷ bytes)) malformedLine
 
--- index (4), count (1): so many of the elements from there on, where all of them are inside
+-- index (4), count (1): so many elements from there on are all among n
+abbrev pub inside : List ℕ → ℕ → Bool
+inside f n = eqb (length f) 6 && leb (four 1 f + getD f 5 0) n
+
+-- those elements, shown
 abbrev pub shown : (List ℕ → List ℕ) → List ℕ → List ℕ → List ℕ
-shown bytes f xs =
-    cond (eqb (length f) 6) (shownIf (leb (four 1 f + getD f 5 0) (length xs)) (bytes (take (getD f 5 0) (drop (four 1 f) xs)))) malformedLine
+shown bytes f xs = shownIf (inside f (length xs)) (bytes (take (getD f 5 0) (drop (four 1 f) xs)))
 
 -- 1A: show words, 2 bytes each
 unfoldable pub shownWords : List ℕ → List ℕ → List ℕ
@@ -84,7 +86,7 @@ shownNumbers f numbers = shownIf (eqb (length f) 1) (twos numbers)
 
 -- what the monitor holds is large enough: a ruleset's image, phones and numbers that an answer has room for, and the longest answer's bytes
 pub record Held (image phones numbers out : ℕ) : Type 0 where
-  pub ruled : 13316 ≤ image
+  pub ruled : imageSize ≤ image
   pub spoken : phones ≤ 256
   pub numbered : numbers ≤ 64
   pub room : 29199 ≤ out

@@ -1,4 +1,4 @@
--- A line heard and a command answered: what the monitor holds, and all that a command comes to by its first byte (docs/MONITOR.md).
+-- The command in a line, and its answer: what the monitor holds, and all that a command comes to by its first byte (docs/MONITOR.md).
 -- Assumes nothing.
 use Prim.Native.Nat.{ℕ, _-_}
 use mathlib.Core.Path.{_≡_}
@@ -15,9 +15,9 @@ use Rattle.commands.specs.Lent.{builtBy, walkedBy, plainBy}
 use Rattle.commands.specs.Filing.{loadedBy, writeLine}
 
 -- the bytes of a sound line without their checksum, where all of them have room; of any other line none
-abbrev pub heardIn : ℕ → Parsed → List ℕ
-heardIn room Bad = []
-heardIn room (Good f rest) = cond (leb (length f) room) (take (length f - 1) f) []
+abbrev pub commandIn : ℕ → Parsed → List ℕ
+commandIn room Bad = []
+commandIn room (Good f rest) = cond (leb (length f) room) (take (length f - 1) f) []
 
 -- whether a command reads rules.hex
 unfoldable pub readsFile : List ℕ → Bool

@@ -1,11 +1,10 @@
 // The lines that a command answers.
-use crate::fields;
 use rules::Answer;
 use rules::Refusal;
 ghost use mathlib.Core.Path.{_≡_};
 ghost use Prim.Native.Nat.{ℕ, _≤_};
 ghost use lib.ListN.{length};
-ghost use Rattle.image.specs.Image.{lastOf};
+ghost use Rattle.image.specs.Image.{imageSize, lastOf};
 ghost use Rattle.rules.specs.Memory.{over};
 ghost use Rattle.rules.specs.Refusals.{refusalNumber, refusalPlace, replyOf};
 ghost use Rattle.commands.specs.Answers.{doneLine, lastLine, statesLine, walkRefusal, malformedLine, replyLine};
@@ -77,12 +76,12 @@ pub fn malformed(out: &mut [u8]) -> usize
 
 // The answer of a call that changes the ruleset.
 pub fn reply_line(answer: Answer, image: &[u8], out: &mut [u8]) -> usize
-    requires { ⌜ (13316 ≤ length (now image)) × (15 ≤ length (now out)) ⌝ }
+    requires { ⌜ (imageSize ≤ length (now image)) × (15 ≤ length (now out)) ⌝ }
     ensures len { λ r. ⌜ r ≡ length (replyLine (replyOf answer) (lastOf (now (image .entry)))) ⌝ }
     ensures bytes { λ _. ⌜ now (out .exit) ≡ over (replyLine (replyOf answer) (lastOf (now (image .entry)))) (now (out .entry)) ⌝ }
 {
     match answer {
-        Answer::Accepted => last_line(fields::two_at(image, 2), out),
+        Answer::Accepted => last_line(numbers::wide16(image::last_issued(image)), out),
         Answer::Refused(x) => transcript::refusal_line(x, out),
     }
 }

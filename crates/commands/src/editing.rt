@@ -1,13 +1,14 @@
 // The commands that change the ruleset.
 use crate::answers;
 use crate::fields;
+use file::layout;
 use rules::Answer;
 ghost use mathlib.Core.Path.{_≡_};
 ghost use Prim.Native.Nat.{ℕ, _≤_};
 ghost use lib.ListN.{length};
 ghost use Rattle.numbers.specs.Numbers.{two};
 ghost use Rattle.rules.specs.Refusals.{replyOf};
-ghost use Rattle.image.specs.Image.{outcome};
+ghost use Rattle.image.specs.Image.{imageSize, outcome};
 ghost use Rattle.edits.specs.Ledger.{Edit};
 ghost use Rattle.edits.specs.Edits.{edited};
 ghost use Rattle.commands.specs.Answers.{Answered, added, dropped, moved};
@@ -19,7 +20,7 @@ pub fn add(f: &[u8], image: &mut [u8]) -> Answer
     requires { ⌜ AddSized (now f) ⌝ }
     ensures { λ r. ⌜ outcome (replyOf r) (now (image .exit)) ≡ edited (now (image .entry)) (Edit.Add (ruleOf (now (f .entry))) (two 1 (now (f .entry)))) ⌝ }
 {
-    let rule = fields::rule_of(f);
+    let rule = layout::rule_in(f);
     edits::add_rule(image, rule, fields::two_at(f, 1))
 }
 
@@ -28,7 +29,7 @@ pub fn drop(f: &[u8], image: &mut [u8]) -> Answer
     requires { ⌜ length (now f) ≡ 3 ⌝ }
     ensures { λ r. ⌜ outcome (replyOf r) (now (image .exit)) ≡ edited (now (image .entry)) (Edit.Drop (two 1 (now (f .entry)))) ⌝ }
 {
-    edits::drop_rule(image, image::two_at(f, 1))
+    edits::drop_rule(image, numbers::two_at(f, 1))
 }
 
 // 12, number (2), p (2).
@@ -36,36 +37,31 @@ pub fn relocate(f: &[u8], image: &mut [u8]) -> Answer
     requires { ⌜ length (now f) ≡ 5 ⌝ }
     ensures { λ r. ⌜ outcome (replyOf r) (now (image .exit)) ≡ edited (now (image .entry)) (Edit.Move (two 1 (now (f .entry))) (two 3 (now (f .entry)))) ⌝ }
 {
-    edits::move_rule(image, image::two_at(f, 1), fields::two_at(f, 3))
+    edits::move_rule(image, numbers::two_at(f, 1), fields::two_at(f, 3))
 }
 
-// The number at a place is overwritten; a place above 511 is none.
-fn renumber(image: &mut [u8], place: usize, high: u8, low: u8)
-    requires { ⌜ 13316 ≤ length (now image) ⌝ }
-    ensures { λ _. ⌜ now (image .exit) ≡ renumbered place high low (now (image .entry)) ⌝ }
+// The number in the slot of a place is overwritten; a place above 511 is none.
+fn renumber(image: &mut [u8], place: usize, number: u16)
+    requires { ⌜ imageSize ≤ length (now image) ⌝ }
+    ensures { λ _. ⌜ now (image .exit) ≡ renumbered place number (now (image .entry)) ⌝ }
 {
-    if place < 512 {
-        let at = 4 + 26 * place;
-        image[at] = high;
-        image[at + 1] = low;
+    if place < rules::MAX_RULES {
+        image::put_number(image, place, number);
     }
 }
 
 // 1E, place (2), number (2), count (2), last (2), with no check.
 pub fn force(f: &[u8], image: &mut [u8])
-    requires { ⌜ (length (now f) ≡ 9) × (13316 ≤ length (now image)) ⌝ }
+    requires { ⌜ (length (now f) ≡ 9) × (imageSize ≤ length (now image)) ⌝ }
     ensures { λ _. ⌜ now (image .exit) ≡ forced (now (f .entry)) (now (image .entry)) ⌝ }
 {
-    renumber(&mut *image, fields::two_at(f, 1), f[3], f[4]);
-    image[0] = f[5];
-    image[1] = f[6];
-    image[2] = f[7];
-    image[3] = f[8];
+    renumber(&mut *image, fields::two_at(f, 1), numbers::two_at(f, 3));
+    image::put_head(image, fields::two_at(f, 5), numbers::two_at(f, 7));
 }
 
 // 10: add.
 pub fn add_command(f: &[u8], image: &mut [u8], out: &mut [u8]) -> usize
-    requires { ⌜ (13316 ≤ length (now image)) × (15 ≤ length (now out)) ⌝ }
+    requires { ⌜ (imageSize ≤ length (now image)) × (15 ≤ length (now out)) ⌝ }
     ensures { λ r. ⌜ Answered (added (now (f .entry)) (now (image .entry))) (now (image .exit)) r (now (out .entry)) (now (out .exit)) ⌝ }
 {
     if !fields::add_sized(f) {
@@ -77,7 +73,7 @@ pub fn add_command(f: &[u8], image: &mut [u8], out: &mut [u8]) -> usize
 
 // 11: drop.
 pub fn drop_command(f: &[u8], image: &mut [u8], out: &mut [u8]) -> usize
-    requires { ⌜ (13316 ≤ length (now image)) × (15 ≤ length (now out)) ⌝ }
+    requires { ⌜ (imageSize ≤ length (now image)) × (15 ≤ length (now out)) ⌝ }
     ensures { λ r. ⌜ Answered (dropped (now (f .entry)) (now (image .entry))) (now (image .exit)) r (now (out .entry)) (now (out .exit)) ⌝ }
 {
     if f.len() != 3 {
@@ -89,7 +85,7 @@ pub fn drop_command(f: &[u8], image: &mut [u8], out: &mut [u8]) -> usize
 
 // 12: move.
 pub fn move_command(f: &[u8], image: &mut [u8], out: &mut [u8]) -> usize
-    requires { ⌜ (13316 ≤ length (now image)) × (15 ≤ length (now out)) ⌝ }
+    requires { ⌜ (imageSize ≤ length (now image)) × (15 ≤ length (now out)) ⌝ }
     ensures { λ r. ⌜ Answered (moved (now (f .entry)) (now (image .entry))) (now (image .exit)) r (now (out .entry)) (now (out .exit)) ⌝ }
 {
     if f.len() != 5 {
@@ -101,7 +97,7 @@ pub fn move_command(f: &[u8], image: &mut [u8], out: &mut [u8]) -> usize
 
 // 1E: an impossible ruleset.
 pub fn force_command(f: &[u8], image: &mut [u8], out: &mut [u8]) -> usize
-    requires { ⌜ (13316 ≤ length (now image)) × (15 ≤ length (now out)) ⌝ }
+    requires { ⌜ (imageSize ≤ length (now image)) × (15 ≤ length (now out)) ⌝ }
     ensures { λ r. ⌜ Answered (forcedBy (now (f .entry)) (now (image .entry))) (now (image .exit)) r (now (out .entry)) (now (out .exit)) ⌝ }
 {
     if f.len() != 9 {
@@ -113,7 +109,7 @@ pub fn force_command(f: &[u8], image: &mut [u8], out: &mut [u8]) -> usize
 
 // 1F: the empty ruleset again.
 pub fn clear_command(f: &[u8], image: &mut [u8], out: &mut [u8]) -> usize
-    requires { ⌜ (13316 ≤ length (now image)) × (15 ≤ length (now out)) ⌝ }
+    requires { ⌜ (imageSize ≤ length (now image)) × (15 ≤ length (now out)) ⌝ }
     ensures { λ r. ⌜ Answered (clearedBy (now (f .entry)) (now (image .entry))) (now (image .exit)) r (now (out .entry)) (now (out .exit)) ⌝ }
 {
     if f.len() != 1 {

@@ -10,7 +10,7 @@ ghost use Prim.Native.Nat.{ℕ, _≤_};
 ghost use lib.ListN.{length};
 ghost use Rattle.rules.specs.Memory.{over};
 ghost use Rattle.rules.specs.Refusals.{replyOf};
-ghost use Rattle.image.specs.Image.{outcome};
+ghost use Rattle.image.specs.Image.{imageSize, outcome};
 ghost use Rattle.file.specs.Loading.{reportOf, filing};
 ghost use Rattle.commands.specs.Answers.{Answered};
 ghost use Rattle.commands.specs.Filing.{loadedFrom, loadedBy, filedIn, writeLine};
@@ -19,15 +19,15 @@ ghost use Rattle.commands.specs.Filing.{loadedFrom, loadedBy, filedIn, w
 pub fn load(file: &[u8], image: &mut [u8]) -> Answer
     ensures { λ r. ⌜ outcome (replyOf r) (now (image .exit)) ≡ loadedFrom (now (file .entry)) (now (image .entry)) ⌝ }
 {
-    if 32768 < file.len() {
-        return Answer::Refused(Refusal::BadLine(32768));
+    if loader::MAX_INPUT < file.len() {
+        return Answer::Refused(Refusal::BadLine(loader::MAX_INPUT));
     }
     file::read_file(file, image)
 }
 
 // 13: read.
 pub fn read_command(f: &[u8], file: &[u8], image: &mut [u8], out: &mut [u8]) -> usize
-    requires { ⌜ (13316 ≤ length (now image)) × (15 ≤ length (now out)) ⌝ }
+    requires { ⌜ (imageSize ≤ length (now image)) × (15 ≤ length (now out)) ⌝ }
     ensures { λ r. ⌜ Answered (loadedBy (now (f .entry)) (now (file .entry)) (now (image .entry))) (now (image .exit)) r (now (out .entry)) (now (out .exit)) ⌝ }
 {
     if f.len() != 1 {

@@ -12,12 +12,12 @@ ghost use lib.ListN.{length, take};
 ghost use Rattle.rules.specs.Memory.{over};
 ghost use Rattle.frames.specs.Lines.{soundLine, decoded};
 ghost use Rattle.commands.specs.Memory.{Held};
-ghost use Rattle.commands.specs.Monitor.{heardIn, readsFile, holding, answerTo, Replied};
+ghost use Rattle.commands.specs.Monitor.{commandIn, readsFile, holding, answerTo, Replied};
 
 // The bytes of a line without their checksum, at the front of `frame`: how many there are, 0 for a line that is unsound or whose bytes have no
 // room. 2,048 bytes have room for each line of at most 4,096 digits.
-pub fn hear(text: &[u8], frame: &mut [u8]) -> usize
-    ensures heard { λ r. ⌜ take r (now (frame .exit)) ≡ heardIn (length (now (frame .entry))) (soundLine (now (text .entry))) ⌝ }
+pub fn command_in(text: &[u8], frame: &mut [u8]) -> usize
+    ensures command { λ r. ⌜ take r (now (frame .exit)) ≡ commandIn (length (now (frame .entry))) (soundLine (now (text .entry))) ⌝ }
     ensures within { λ r. ⌜ r ≤ length (now (frame .exit)) ⌝ }
     ensures bytes { λ _. ⌜ now (frame .exit) ≡ over (take (length (now (frame .entry))) (decoded (now (text .entry)))) (now (frame .entry)) ⌝ }
 {

@@ -3,18 +3,12 @@ use crate::answers;
 use crate::fields;
 ghost use mathlib.Core.Path.{_≡_};
 ghost use mathlib.Core.List.{_∷_};
-ghost use Prim.Native.Nat.{ℕ, _+_, _*_, _<_, _≤_};
+ghost use Prim.Native.Nat.{_+_, _*_, _≤_};
 ghost use lib.ListN.{length};
 ghost use Rattle.rules.specs.Memory.{over, overAt};
 ghost use Rattle.transcript.specs.Answers.{twos, printed};
 ghost use Rattle.commands.specs.Answers.{Answered};
-ghost use Rattle.commands.specs.Memory.{eights, bytes8, storedWord, storedSet, shownWords, shownSets, shownPhones, shownNumbers};
-
-fn wide(x: u8) -> usize
-    ensures { λ r. ⌜ (r ≡ x) × (r < 256) ⌝ }
-{
-    x as usize
-}
+ghost use Rattle.commands.specs.Memory.{eights, bytes8, storedWord, storedSet, inside, shownWords, shownSets, shownPhones, shownNumbers};
 
 // 18, index (4), value (2): one word is stored.
 pub fn store_word(f: &[u8], words: &mut [u16], out: &mut [u8]) -> usize
@@ -28,7 +22,7 @@ pub fn store_word(f: &[u8], words: &mut [u16], out: &mut [u8]) -> usize
     if words.len() <= i {
         return answers::malformed(out);
     }
-    words[i] = image::two_at(f, 5);
+    words[i] = numbers::two_at(f, 5);
     answers::done_line(out)
 }
 
@@ -59,21 +53,27 @@ fn words_line(words: &[u16], out: &mut [u8]) -> usize
     frames::write_line(out, 0, &body[..n])
 }
 
+// Index (4), count (1): whether so many elements from there on are all among `n`.
+fn is_inside(f: &[u8], n: usize) -> bool
+    ensures { λ r. ⌜ r ≡ inside (now (f .entry)) n ⌝ }
+{
+    if f.len() != 6 {
+        return false;
+    }
+    fields::four_at(f, 1) + numbers::wide(f[5]) <= n
+}
+
 // 1A, index (4), count (1): so many words are shown.
 pub fn show_words(f: &[u8], words: &[u16], out: &mut [u8]) -> usize
     requires { ⌜ 4085 ≤ length (now out) ⌝ }
     ensures len { λ r. ⌜ r ≡ length (shownWords (now (f .entry)) (now (words .entry))) ⌝ }
     ensures bytes { λ _. ⌜ now (out .exit) ≡ over (shownWords (now (f .entry)) (now (words .entry))) (now (out .entry)) ⌝ }
 {
-    if f.len() != 6 {
+    if !is_inside(f, words.len()) {
         return answers::malformed(out);
     }
     let i = fields::four_at(f, 1);
-    let n = wide(f[5]);
-    let end = i + n;
-    if words.len() < end {
-        return answers::malformed(out);
-    }
+    let end = i + numbers::wide(f[5]);
     words_line(&words[i..end], out)
 }
 
@@ -126,15 +126,11 @@ pub fn show_sets(f: &[u8], sets: &[u64], out: &mut [u8]) -> usize
     ensures len { λ r. ⌜ r ≡ length (shownSets (now (f .entry)) (now (sets .entry))) ⌝ }
     ensures bytes { λ _. ⌜ now (out .exit) ≡ over (shownSets (now (f .entry)) (now (sets .entry))) (now (out .entry)) ⌝ }
 {
-    if f.len() != 6 {
+    if !is_inside(f, sets.len()) {
         return answers::malformed(out);
     }
     let i = fields::four_at(f, 1);
-    let n = wide(f[5]);
-    let end = i + n;
-    if sets.len() < end {
-        return answers::malformed(out);
-    }
+    let end = i + numbers::wide(f[5]);
     sets_line(&sets[i..end], out)
 }
 

@@ -50,7 +50,7 @@ fn word_at(words: &[u16], at: usize) -> usize
     if words.len() <= at {
         return 0;
     }
-    words[at] as usize
+    numbers::wide16(words[at])
 }
 
 // 15: build.
@@ -69,7 +69,11 @@ pub fn build_command(
     }
     let answer = build_lent(f, image, &mut *words, sets);
     match answer {
-        Answer::Accepted => answers::states_line(word_at(words, 0), word_at(words, 1), out),
+        Answer::Accepted => {
+            let l = word_at(words, tables::LEFT_COUNT);
+            let r = word_at(words, tables::RIGHT_COUNT);
+            answers::states_line(l, r, out)
+        },
         Answer::Refused(x) => transcript::refusal_line(x, out),
     }
 }
@@ -114,7 +118,7 @@ fn walk_in<'a>(
     requires { ⌜ (n ≤ length (now phones)) × (m ≤ length (now numbers)) ⌝ }
     ensures { λ r. ⌜ walkedOf r (now (phones .exit)) (now (numbers .exit)) ≡ walkIn n m (now (image .entry)) (now (words .entry)) (now (sets .entry)) (now (name .entry)) (now (phones .entry)) (now (numbers .entry)) ⌝ }
 {
-    walk::walk(
+    compiled::speak_compiled(
         image,
         words,
         sets,

@@ -1,11 +1,12 @@
 -- `commands::editing::add` meets its contract: the edit is handed the rule and the place that the fields say.
 -- Assumes nothing.
+use Rattle.commands.specs.Fields.{ruleOf}
 use borrow.Author.Needs.{needs}
 use Rattle.commands.proofs.editing.add.Statement.{statement}
 use Rattle.commands.proofs.editing.add.Tie as tie
 
-rule-of-requires : tie.Need-rule-of-requires
-rule-of-requires c κs = search needs
+rule-in-requires : tie.Need-rule-in-requires
+rule-in-requires c κs = search needs
 
 two-at-requires : tie.Need-two-at-requires
 two-at-requires c κs = search needs
@@ -17,8 +18,9 @@ same-length : tie.Need-same-length
 same-length c = search needs
 
 returns : tie.Need-returns
-returns c = cc (c .before .before .add-rule .ensures, c .before .before .before .two-at .ensures .0, c .before .before .before .before .before .rule-of .ensures)
+unfolding ruleOf
+returns c = cc (c .before .before .add-rule .ensures, c .before .before .before .two-at .ensures .0, c .before .before .before .before .before .rule-in .ensures)
 
 pub add-spec : {M : Type 1} → statement M
 add-spec =
-    tie.close (tie.spec rule-of-requires two-at-requires add-rule-requires same-length returns)
+    tie.close (tie.spec rule-in-requires two-at-requires add-rule-requires same-length returns)

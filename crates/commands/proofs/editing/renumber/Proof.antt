@@ -1,45 +1,23 @@
--- `commands::editing::renumber` meets its contract: two stores inside the slot of the place, or none.
+-- `commands::editing::renumber` meets its contract: the number of a place that there is, or nothing.
 -- Assumes nothing.
+use mathlib.Core.Path.{_∙_}
 use borrow.Author.Tests.{lt-ltb, le-ltb}
-use lib.ListN.{length-set}
-use native.Mathlib.Omega.{arith}
+use Rattle.rules.specs.Limits.{maxRules}
 use borrow.Author.Needs.{needs}
 use Rattle.commands.proofs.editing.renumber.Statement.{statement}
 use Rattle.commands.proofs.editing.renumber.Tie as tie
 
-mul-at : tie.Need-mul-at
-mul-at c = search needs
-
-add-at : tie.Need-add-at
-add-at c = search needs
-
-slice-write-image : tie.Need-slice-write-image
-slice-write-image c = search needs
-
-add-image : tie.Need-add-image
-add-image c = search needs
-
-slice-write-image-2 : tie.Need-slice-write-image-2
-slice-write-image-2 c = simp length-set (omega arith)
+put-number-requires : tie.Need-put-number-requires
+put-number-requires c κs = search needs
 
 same-length : tie.Need-same-length
 same-length c = search needs
 
 returns : tie.Need-returns
-returns c = rw (lt-ltb (c .before .args .place) 512 (c .if1 .taken))
+returns c = rw (lt-ltb (c .before .before .before .before .before .before .args .place) maxRules (c .before .before .before .before .if1 .taken)) (c .before .before .put-number .ensures)
 
 returns-2 : tie.Need-returns-2
-returns-2 c = rw (le-ltb (c .before .args .place) 512 (c .if1 .left))
+returns-2 c = rw (le-ltb (c .before .before .args .place) maxRules (c .if1 .left))
 
 pub renumber-spec : {M : Type 1} → statement M
-renumber-spec =
-    tie.close
-    (tie.spec
-    mul-at
-    add-at
-    slice-write-image
-    add-image
-    slice-write-image-2
-    same-length
-    returns
-    returns-2)
+renumber-spec = tie.close (tie.spec put-number-requires same-length returns returns-2)

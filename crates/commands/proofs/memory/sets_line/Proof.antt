@@ -1,14 +1,12 @@
 -- `commands::memory::sets_line` meets its contract: 0A and the set words as a line.
 -- Assumes nothing.
-use lib.ListN.{length, replicate}
-use native.Mathlib.Omega.{arith}
 use Prim.Native.Nat.{_+_}
-use mathlib.Core.Path.{_≡_, refl, ap}
-use mathlib.Core.List.{_∷_}
-use Rattle.transcript.proofs.Printed.{printed-is, length-printed}
+use mathlib.Core.Path.{_≡_, refl, sym}
+use native.Mathlib.Omega.{arith}
+use lib.ListN.{length, replicate}
 use Rattle.commands.proofs.Eights.{length-eights}
 use Rattle.commands.specs.Memory.{eights}
-use Rattle.commands.proofs.Shown.{front-ten}
+use Rattle.commands.proofs.Shown.{front-length, front-shown}
 use borrow.Author.Needs.{needs}
 use Rattle.commands.proofs.memory.sets_line.Statement.{statement}
 use Rattle.commands.proofs.memory.sets_line.Tie as tie
@@ -23,23 +21,28 @@ array-share-prefix-body : tie.Need-array-share-prefix-body
 array-share-prefix-body c = search needs
 
 slice-aggregate-write-line : tie.Need-slice-aggregate-write-line
-slice-aggregate-write-line c = let t = eights (c .before .before .before .before .before .before .before .args .sets .now) in let l = length-eights (c .before .before .before .before .before .before .before .args .sets .now) in let p = c .before .before .before .put-sets in let e : p .result ≡ 1 + length t = omega (arith, l, p .ensures .0) in omega (arith, e, ap length (front-ten t (replicate 2041 10) _ _ refl e (p .ensures .1)))
+slice-aggregate-write-line c =
+    let ws = c .before .before .before .before .before .before .before .args .sets .now in
+    let p = c .before .before .before .put-sets in
+    let e : p .result ≡ 1 + length (eights ws) = omega (arith, length-eights ws, p .ensures .0) in
+    sym (front-length (eights ws) (replicate 2041 10) _ _ refl e (p .ensures .1))
 
 write-line-requires : tie.Need-write-line-requires
-write-line-requires c κs = let t = eights (c .before .before .before .before .before .before .before .args .sets .now) in let l = length-eights (c .before .before .before .before .before .before .before .args .sets .now) in let p = c .before .before .before .put-sets in let e : p .result ≡ 1 + length t = omega (arith, l, p .ensures .0) in omega (arith, l, c .before .before .before .before .before .before .before .pre .0, c .before .before .before .before .before .before .before .pre .1, ap length (front-ten t (replicate 2041 10) _ _ refl e (p .ensures .1)))
+write-line-requires c κs =
+    let ws = c .before .before .before .before .before .before .before .args .sets .now in
+    let p = c .before .before .before .put-sets in
+    let e : p .result ≡ 1 + length (eights ws) = omega (arith, length-eights ws, p .ensures .0) in
+    omega (arith, p .ensures .0, c .before .before .before .before .before .before .before .pre .0, c .before .before .before .before .before .before .before .pre .1, front-length (eights ws) (replicate 2041 10) _ _ refl e (p .ensures .1))
 
 same-length : tie.Need-same-length
 same-length c = search needs
 
 returns : tie.Need-returns
 returns c =
-    let a = c .before .before .before .before .before .before .before .before .before .before .args in
-    let t = eights (a .sets .now) in
-    let l = length-eights (a .sets .now) in
+    let ws = c .before .before .before .before .before .before .before .before .before .before .args .sets .now in
     let p = c .before .before .before .before .before .before .put-sets in
-    let e : p .result ≡ 1 + length t = omega (arith, l, p .ensures .0) in
-    let f = front-ten t (replicate 2041 10) _ _ refl e (p .ensures .1) in
-    (omega (arith, c .before .before .write-line .ensures .0, ap length f, length-printed (10 ∷ t)), printed-is (10 ∷ t) _ (a .out .now) _ f (c .before .before .write-line .ensures .1))
+    let e : p .result ≡ 1 + length (eights ws) = omega (arith, length-eights ws, p .ensures .0) in
+    front-shown (eights ws) (replicate 2041 10) _ _ refl e (p .ensures .1) _ _ _ (c .before .before .write-line .ensures .0) (c .before .before .write-line .ensures .1)
 
 pub sets-line-spec : {M : Type 1} → statement M
 sets-line-spec =

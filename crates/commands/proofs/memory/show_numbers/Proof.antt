@@ -1,10 +1,12 @@
 -- `commands::memory::show_numbers` meets its contract: 0A and the numbers as a line.
 -- Assumes nothing.
+use borrow.Author.Tests.{eq-eqb, ne-eqb}
+use lib.Dec.{eqb}
 use lib.ListN.{length}
 use Rattle.transcript.specs.Answers.{twos}
-use borrow.Author.Needs.{needs}
-use Rattle.commands.proofs.Shown.{gives-same, gives-malformed, unshown, shown-so}
 use Rattle.commands.specs.Memory.{shownNumbers}
+use Rattle.commands.proofs.Shown.{not-shown, is-shown}
+use borrow.Author.Needs.{needs}
 use Rattle.commands.proofs.memory.show_numbers.Statement.{statement}
 use Rattle.commands.proofs.memory.show_numbers.Tie as tie
 
@@ -18,7 +20,7 @@ returns : tie.Need-returns
 unfolding shownNumbers
 returns c =
     let a = c .before .before .before .before .before .before .before .before .args in
-    gives-malformed (shownNumbers (a .f .now) (a .numbers .now)) _ (a .out .now) _ (unshown (length (a .f .now)) 1 (twos (a .numbers .now)) (c .before .before .before .before .if1 .taken)) (c .before .before .malformed .ensures .0) (c .before .before .malformed .ensures .1)
+    not-shown (eqb (length (a .f .now)) 1) (twos (a .numbers .now)) _ (a .out .now) _ (ne-eqb (length (a .f .now)) 1 (c .before .before .before .before .if1 .taken)) (c .before .before .malformed .ensures .0) (c .before .before .malformed .ensures .1)
 
 words-line-requires : tie.Need-words-line-requires
 words-line-requires c κs = search needs
@@ -30,8 +32,7 @@ returns-2 : tie.Need-returns-2
 unfolding shownNumbers
 returns-2 c =
     let a = c .before .before .before .before .before .before .before .before .args in
-    gives-same _ (shownNumbers (a .f .now) (a .numbers .now)) _ (a .out .now) _ (shown-so (length (a .f .now)) 1 (twos (a .numbers .now)) (c .before .before .before .before .if1 .left))
-    (c .before .before .words-line .ensures .0) (c .before .before .words-line .ensures .1)
+    is-shown (eqb (length (a .f .now)) 1) (twos (a .numbers .now)) _ (a .out .now) _ (eq-eqb (length (a .f .now)) 1 (c .before .before .before .before .if1 .left)) (c .before .before .words-line .ensures)
 
 pub show-numbers-spec : {M : Type 1} → statement M
 show-numbers-spec =

@@ -1,14 +1,13 @@
 -- `commands::memory::show_phones` meets its contract: 0A and the phones as a line.
 -- Assumes nothing.
-use lib.ListN.{length, replicate}
+use mathlib.Core.Path.{refl, sym}
 use native.Mathlib.Omega.{arith}
-use mathlib.Core.Path.{refl, ap}
-use mathlib.Core.List.{_∷_}
-use Rattle.transcript.proofs.Printed.{printed-is, length-printed}
-use Rattle.transcript.specs.Answers.{printed}
-use borrow.Author.Needs.{needs}
-use Rattle.commands.proofs.Shown.{gives-same, gives-malformed, unshown, shown-so, front-ten}
+use borrow.Author.Tests.{eq-eqb, ne-eqb}
+use lib.Dec.{eqb}
+use lib.ListN.{length, replicate}
 use Rattle.commands.specs.Memory.{shownPhones}
+use Rattle.commands.proofs.Shown.{not-shown, is-shown, front-length, front-shown}
+use borrow.Author.Needs.{needs}
 use Rattle.commands.proofs.memory.show_phones.Statement.{statement}
 use Rattle.commands.proofs.memory.show_phones.Tie as tie
 
@@ -22,7 +21,7 @@ returns : tie.Need-returns
 unfolding shownPhones
 returns c =
     let a = c .before .before .before .before .before .before .before .before .args in
-    gives-malformed (shownPhones (a .f .now) (a .phones .now)) _ (a .out .now) _ (unshown (length (a .f .now)) 1 (a .phones .now) (c .before .before .before .before .if1 .taken)) (c .before .before .malformed .ensures .0) (c .before .before .malformed .ensures .1)
+    not-shown (eqb (length (a .f .now)) 1) (a .phones .now) _ (a .out .now) _ (ne-eqb (length (a .f .now)) 1 (c .before .before .before .before .if1 .taken)) (c .before .before .malformed .ensures .0) (c .before .before .malformed .ensures .1)
 
 slice-aggregate-put-field : tie.Need-slice-aggregate-put-field
 slice-aggregate-put-field c = search needs
@@ -34,10 +33,14 @@ array-share-prefix-body : tie.Need-array-share-prefix-body
 array-share-prefix-body c = search needs
 
 slice-aggregate-write-line : tie.Need-slice-aggregate-write-line
-slice-aggregate-write-line c = let p = c .before .before .before .put-field in omega (arith, p .ensures .0, ap length (front-ten (c .before .before .before .before .before .before .before .before .before .args .phones .now) (replicate 257 10) _ _ refl (p .ensures .0) (p .ensures .1)))
+slice-aggregate-write-line c =
+    let p = c .before .before .before .put-field in
+    sym (front-length (c .before .before .before .before .before .before .before .before .before .args .phones .now) (replicate 257 10) _ _ refl (p .ensures .0) (p .ensures .1))
 
 write-line-requires : tie.Need-write-line-requires
-write-line-requires c κs = let p = c .before .before .before .put-field in omega (arith, c .before .before .before .before .before .before .before .before .before .pre .0, c .before .before .before .before .before .before .before .before .before .pre .1, ap length (front-ten (c .before .before .before .before .before .before .before .before .before .args .phones .now) (replicate 257 10) _ _ refl (p .ensures .0) (p .ensures .1)))
+write-line-requires c κs =
+    let p = c .before .before .before .put-field in
+    omega (arith, p .ensures .0, c .before .before .before .before .before .before .before .before .before .pre .0, c .before .before .before .before .before .before .before .before .before .pre .1, front-length (c .before .before .before .before .before .before .before .before .before .args .phones .now) (replicate 257 10) _ _ refl (p .ensures .0) (p .ensures .1))
 
 same-length-2 : tie.Need-same-length-2
 same-length-2 c = search needs
@@ -47,11 +50,8 @@ unfolding shownPhones
 returns-2 c =
     let a = c .before .before .before .before .before .before .before .before .before .before .before .before .args in
     let p = c .before .before .before .before .before .before .put-field in
-    let f = front-ten (a .phones .now) (replicate 257 10) _ _ refl (p .ensures .0) (p .ensures .1) in
-    gives-same (printed (10 ∷ a .phones .now)) (shownPhones (a .f .now) (a .phones .now)) _ (a .out .now) _
-    (shown-so (length (a .f .now)) 1 (a .phones .now) (c .before .before .before .before .before .before .before .before .if1 .left))
-    (omega (arith, c .before .before .write-line .ensures .0, ap length f, length-printed (10 ∷ a .phones .now)))
-    (printed-is (10 ∷ a .phones .now) _ (a .out .now) _ f (c .before .before .write-line .ensures .1))
+    is-shown (eqb (length (a .f .now)) 1) (a .phones .now) _ (a .out .now) _ (eq-eqb (length (a .f .now)) 1 (c .before .before .before .before .before .before .before .before .if1 .left))
+    (front-shown (a .phones .now) (replicate 257 10) _ _ refl (p .ensures .0) (p .ensures .1) _ _ _ (c .before .before .write-line .ensures .0) (c .before .before .write-line .ensures .1))
 
 pub show-phones-spec : {M : Type 1} → statement M
 show-phones-spec =

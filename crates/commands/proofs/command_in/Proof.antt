@@ -1,11 +1,11 @@
--- `commands::hear` meets its contract: of a sound line that has room all bytes but the last, of any other none.
+-- `commands::command_in` meets its contract: of a sound line that has room all bytes but the last, of any other none.
 -- Assumes nothing.
 use native.Mathlib.Omega.{arith}
 use borrow.Author.Needs.{needs}
 use borrow.Author.Tests.{not-true, not-false}
-use Rattle.commands.proofs.Hearing.{unheard, heard-long, not-none, heard}
-use Rattle.commands.proofs.hear.Statement.{statement}
-use Rattle.commands.proofs.hear.Tie as tie
+use Rattle.commands.proofs.CommandLine.{none-unsound, none-long, not-none, command-is}
+use Rattle.commands.proofs.command_in.Statement.{statement}
+use Rattle.commands.proofs.command_in.Tie as tie
 
 read-line-requires : tie.Need-read-line-requires
 read-line-requires c κs = search needs
@@ -17,7 +17,7 @@ returns : tie.Need-returns
 returns c =
     let a = c .before .before .before .before .before .before .before .before .args in
     let l = c .before .before .before .before .read-line in
-    (unheard (a .text .now) (l .result) (a .frame .now) _ (l .ensures .0) (l .ensures .1) (l .kept .1 .1 .0) (not-true _ (c .if1 .taken)), (omega arith, l .ensures .1))
+    (none-unsound (a .text .now) (l .result) (a .frame .now) _ (l .ensures .0) (l .ensures .1) (l .kept .1 .1 .0) (not-true _ (c .if1 .taken)), (omega arith, l .ensures .1))
 
 same-length-2 : tie.Need-same-length-2
 same-length-2 c = search needs
@@ -26,7 +26,7 @@ returns-2 : tie.Need-returns-2
 returns-2 c =
     let a = c .before .before .before .before .before .before .before .before .before .args in
     let l = c .before .before .before .before .before .read-line in
-    (heard-long (a .text .now) (l .result) (a .frame .now) _ (l .ensures .0) (l .ensures .1) (l .kept .1 .1 .0) (not-false _ (c .before .if1 .left)) (c .if2 .taken), (omega arith, l .ensures .1))
+    (none-long (a .text .now) (l .result) (a .frame .now) _ (l .ensures .0) (l .ensures .1) (l .kept .1 .1 .0) (not-false _ (c .before .if1 .left)) (c .if2 .taken), (omega arith, l .ensures .1))
 
 same-length-3 : tie.Need-same-length-3
 same-length-3 c = search needs
@@ -47,10 +47,10 @@ returns-4 : tie.Need-returns-4
 returns-4 c =
     let a = c .before .before .before .before .before .before .before .before .before .before .args in
     let l = c .before .before .before .before .before .before .read-line in
-    (heard (a .text .now) (l .result) (a .frame .now) _ (l .ensures .0) (l .ensures .1) (l .kept .1 .1 .0) (not-false _ (c .before .before .if1 .left)) (c .before .if2 .left), (omega arith, l .ensures .1))
+    (command-is (a .text .now) (l .result) (a .frame .now) _ (l .ensures .0) (l .ensures .1) (l .kept .1 .1 .0) (not-false _ (c .before .before .if1 .left)) (c .before .if2 .left), (omega arith, l .ensures .1))
 
-pub hear-spec : {M : Type 1} → statement M
-hear-spec =
+pub command-in-spec : {M : Type 1} → statement M
+command-in-spec =
     tie.close
     (tie.spec
     read-line-requires
