@@ -1,4 +1,4 @@
-pub mod Bytes
+pub mod AddFrame
 pub mod Replies
 pub mod Shown
 pub mod Eights

@@ -20,7 +20,7 @@ use Rattle.file.specs.declared.Written.the-variants.{Bytes, Refused}
 use Rattle.transcript.specs.Answers.{refusedBody, refusalLine}
 use Rattle.transcript.proofs.Printed.{length-printed}
 use Rattle.commands.specs.Fields.{four}
-use Rattle.commands.specs.Answers.{malformedLine}
+use Rattle.commands.specs.Answers.{longestFile, malformedLine}
 use Rattle.commands.specs.Lent.{lentOf, back}
 use Rattle.commands.specs.Filing.{filedBack, filedIn, reportLine, fileLine, writeLine}
 use Rattle.commands.proofs.Replies.{Gives}
@@ -105,7 +105,7 @@ module _ (f image out out′ : List ℕ) (len : ℕ) where
   unfolding writeLine
   written-not h l b = rw (ne-eqb (length f) 5 h) (l ∙ sym (length-printed (refusedBody 13 0)), b)
 
-  pub written : (n i : ℕ) → length f ≡ 5 → n ≡ lentOf i 29199 → i ≡ four 1 f → Gives (fileLine n image) len out out′
+  pub written : (n i : ℕ) → length f ≡ 5 → n ≡ lentOf i longestFile → i ≡ four 1 f → Gives (fileLine n image) len out out′
       → Gives (writeLine f image) len out out′
   unfolding writeLine
   written n i h en ei g = rw (eq-eqb (length f) 5 h, ← ei, ← en) g

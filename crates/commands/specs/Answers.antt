@@ -1,7 +1,7 @@
 -- The lines that a command answers, and the edits that commands stand for. A frame of another length than its fields answers 05 with 13, place 0,
 -- and changes nothing.
 -- Assumes nothing.
-use Prim.Native.Nat.{ℕ}
+use Prim.Native.Nat.{ℕ, _+_, _*_}
 use mathlib.Core.Path.{_≡_}
 use mathlib.Core.List.{List, [], _∷_, _++_}
 use mathlib.Core.Bool.{Bool, cond}
@@ -9,12 +9,18 @@ use lib.ListN.{length}
 use lib.Dec.{eqb}
 use Rattle.numbers.specs.Numbers.{two}
 use Rattle.rules.specs.Memory.{over}
+use Rattle.rules.specs.Limits.{maxRules}
 use Rattle.rules.specs.Refusals.{Reply, accepted, declined}
 use Rattle.image.specs.Image.{Edited, lastOf}
 use Rattle.edits.specs.Ledger.Edit.{Add, Drop, Move}
 use Rattle.edits.specs.Edits.{edited}
+use Rattle.file.specs.Layout.{lineSize, headLineSize, longestFrame}
 use Rattle.transcript.specs.Answers.{bytes2, bytes4, printed, refusedBody}
 use Rattle.commands.specs.Fields.{addSized, ruleOf}
+
+-- bytes of the longest rule file: a head line, and 512 rule lines with each field full. No answer has more
+abbrev pub longestFile : ℕ
+longestFile = headLineSize + lineSize longestFrame * maxRules
 
 -- 06 alone
 unfoldable pub doneLine : List ℕ

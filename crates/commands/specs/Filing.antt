@@ -12,7 +12,7 @@ use Rattle.file.specs.File.{encode}
 use Rattle.loader.specs.Prepared.{maxInput}
 use Rattle.transcript.specs.Answers.{printed, refusedBody}
 use Rattle.commands.specs.Fields.{four}
-use Rattle.commands.specs.Answers.{Effect, ruled, sizedTo, malformedLine}
+use Rattle.commands.specs.Answers.{longestFile, Effect, ruled, sizedTo, malformedLine}
 use Rattle.commands.specs.Lent.{lentOf, back}
 
 -- rules.hex read into the ruleset; over 32,768 bytes are refused
@@ -39,6 +39,6 @@ reportLine (refused n p) text = printed (refusedBody n p)
 unfoldable pub fileLine : ℕ → List ℕ → List ℕ
 fileLine room image = reportLine (filed image (replicate room 0) .report) (encode (rulesetIn image))
 
--- 14, lent bytes (4, at most 29,199: more counts as that): write
+-- 14, lent bytes (4; more than the longest file has count as that many): write
 unfoldable pub writeLine : List ℕ → List ℕ → List ℕ
-writeLine f image = cond (eqb (length f) 5) (fileLine (lentOf (four 1 f) 29199) image) malformedLine
+writeLine f image = cond (eqb (length f) 5) (fileLine (lentOf (four 1 f) longestFile) image) malformedLine

@@ -10,7 +10,7 @@ use Rattle.rules.specs.Limits.{maxRules}
 use Rattle.image.specs.Image.{imageSize, withHead, withNumber, cleared}
 use Rattle.transcript.specs.Answers.{twos, printed}
 use Rattle.commands.specs.Fields.{four, eight}
-use Rattle.commands.specs.Answers.{Effect, leaving, sizedTo, doneLine, malformedLine}
+use Rattle.commands.specs.Answers.{longestFile, Effect, leaving, sizedTo, doneLine, malformedLine}
 
 -- the number in the slot of a place, overwritten; a place above 511 is none
 abbrev pub renumbered : ℕ → ℕ → List ℕ → List ℕ
@@ -89,4 +89,4 @@ pub record Held (image phones numbers out : ℕ) : Type 0 where
   pub ruled : imageSize ≤ image
   pub spoken : phones ≤ 256
   pub numbered : numbers ≤ 64
-  pub room : 29199 ≤ out
+  pub room : longestFile ≤ out

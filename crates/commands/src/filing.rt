@@ -12,7 +12,7 @@ ghost use Rattle.rules.specs.Memory.{over};
 ghost use Rattle.rules.specs.Refusals.{replyOf};
 ghost use Rattle.image.specs.Image.{imageSize, outcome};
 ghost use Rattle.file.specs.Loading.{reportOf, filing};
-ghost use Rattle.commands.specs.Answers.{Answered};
+ghost use Rattle.commands.specs.Answers.{longestFile, Answered};
 ghost use Rattle.commands.specs.Filing.{loadedFrom, loadedBy, filedIn, writeLine};
 
 // The bytes of rules.hex become the ruleset; over 32,768 of them are refused.
@@ -45,16 +45,16 @@ fn write_in(image: &[u8], out: &mut [u8], n: usize) -> Written
     file::write_file(image, &mut out[..n])
 }
 
-// 14, lent bytes (4, of which more than 29,199 count as that): write.
+// 14, lent bytes (4; more than the longest file has count as that many): write.
 pub fn write_command(f: &[u8], image: &[u8], out: &mut [u8]) -> usize
-    requires { ⌜ 29199 ≤ length (now out) ⌝ }
+    requires { ⌜ longestFile ≤ length (now out) ⌝ }
     ensures len { λ r. ⌜ r ≡ length (writeLine (now (f .entry)) (now (image .entry))) ⌝ }
     ensures bytes { λ _. ⌜ now (out .exit) ≡ over (writeLine (now (f .entry)) (now (image .entry))) (now (out .entry)) ⌝ }
 {
     if f.len() != 5 {
         return answers::malformed(out);
     }
-    let n = speaking::lent(fields::four_at(f, 1), 29199);
+    let n = speaking::lent(fields::four_at(f, 1), crate::LONGEST_FILE);
     let written = write_in(image, &mut *out, n);
     match written {
         Written::Bytes(k) => k,

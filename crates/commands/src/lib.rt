@@ -6,6 +6,7 @@ mod filing;
 mod memory;
 mod speaking;
 
+use file::layout;
 ghost use mathlib.Core.Path.{_≡_};
 ghost use Prim.Native.Nat.{ℕ, _≤_};
 ghost use lib.ListN.{length, take};
@@ -13,6 +14,9 @@ ghost use Rattle.rules.specs.Memory.{over};
 ghost use Rattle.frames.specs.Lines.{soundLine, decoded};
 ghost use Rattle.commands.specs.Memory.{Held};
 ghost use Rattle.commands.specs.Monitor.{commandIn, readsFile, holding, answerTo, Replied};
+
+// The bytes of the longest rule file: a head line, and 512 rule lines with each field full. No answer has more.
+pub const LONGEST_FILE: usize = 2 * layout::HEAD + 1 + (2 * layout::LONGEST + 1) * rules::MAX_RULES;
 
 // The bytes of a line without their checksum, at the front of `frame`: how many there are, 0 for a line that is unsound or whose bytes have no
 // room. 2,048 bytes have room for each line of at most 4,096 digits.

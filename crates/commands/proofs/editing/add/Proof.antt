@@ -1,6 +1,6 @@
 -- `commands::editing::add` meets its contract: the edit is handed the rule and the place that the fields say.
 -- Assumes nothing.
-use Rattle.commands.specs.Fields.{ruleOf}
+use Rattle.commands.proofs.AddFrame.{add-is}
 use borrow.Author.Needs.{needs}
 use Rattle.commands.proofs.editing.add.Statement.{statement}
 use Rattle.commands.proofs.editing.add.Tie as tie
@@ -18,8 +18,9 @@ same-length : tie.Need-same-length
 same-length c = search needs
 
 returns : tie.Need-returns
-unfolding ruleOf
-returns c = cc (c .before .before .add-rule .ensures, c .before .before .before .two-at .ensures .0, c .before .before .before .before .before .rule-in .ensures)
+returns c =
+    let a = c .before .before .before .before .before .before .before .before .args in
+    add-is _ (a .f .now) (a .image .now) _ _ (c .before .before .before .before .before .rule-in .ensures) (c .before .before .before .two-at .ensures .0) (c .before .before .add-rule .ensures)
 
 pub add-spec : {M : Type 1} → statement M
 add-spec =

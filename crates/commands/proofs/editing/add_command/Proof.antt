@@ -7,7 +7,7 @@ use Rattle.edits.specs.Ledger.{Edit}
 use Rattle.edits.specs.Edits.{edited}
 use Rattle.commands.specs.Answers.{ruled, added}
 use Rattle.commands.specs.Fields.{addSized, ruleOf}
-use Rattle.commands.proofs.Bytes.{sized}
+use Rattle.commands.proofs.AddFrame.{sized}
 use Rattle.commands.proofs.Replies.{answered-not, answered-edit}
 use borrow.Author.Needs.{needs}
 use Rattle.commands.proofs.editing.add_command.Statement.{statement}
