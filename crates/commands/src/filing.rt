@@ -6,7 +6,7 @@ use file::Written;
 use rules::Answer;
 use rules::Refusal;
 ghost use mathlib.Core.Path.{_≡_};
-ghost use Prim.Native.Nat.{ℕ, _≤_};
+ghost use Prim.Native.Nat.{_≤_};
 ghost use lib.ListN.{length};
 ghost use Rattle.rules.specs.Memory.{over};
 ghost use Rattle.rules.specs.Refusals.{replyOf};

@@ -8,7 +8,7 @@ mod speaking;
 
 use file::layout;
 ghost use mathlib.Core.Path.{_≡_};
-ghost use Prim.Native.Nat.{ℕ, _≤_};
+ghost use Prim.Native.Nat.{_≤_};
 ghost use lib.ListN.{length, take};
 ghost use Rattle.rules.specs.Memory.{over};
 ghost use Rattle.frames.specs.Lines.{soundLine, decoded};

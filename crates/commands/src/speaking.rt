@@ -5,7 +5,7 @@ use reading::Speech;
 use rules::Answer;
 use walk::WalkAnswer;
 ghost use mathlib.Core.Path.{_≡_};
-ghost use Prim.Native.Nat.{ℕ, _≤_};
+ghost use Prim.Native.Nat.{_≤_};
 ghost use lib.ListN.{length, getD, take, drop};
 ghost use Rattle.numbers.specs.Numbers.{two};
 ghost use Rattle.rules.specs.Memory.{over};

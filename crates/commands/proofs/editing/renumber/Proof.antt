@@ -1,6 +1,5 @@
 -- `commands::editing::renumber` meets its contract: the number of a place that there is, or nothing.
 -- Assumes nothing.
-use mathlib.Core.Path.{_∙_}
 use borrow.Author.Tests.{lt-ltb, le-ltb}
 use Rattle.rules.specs.Limits.{maxRules}
 use borrow.Author.Needs.{needs}

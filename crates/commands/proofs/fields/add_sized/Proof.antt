@@ -1,6 +1,5 @@
 -- `commands::fields::add_sized` meets its contract: as long as the four lengths say.
 -- Assumes nothing.
-use mathlib.Core.Path.{_≡_, sym}
 use mathlib.Core.Path.{ap}
 use lib.Dec.{eqb}
 use borrow.Author.Tests.{lt-leb, le-leb}

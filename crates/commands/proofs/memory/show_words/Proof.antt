@@ -3,11 +3,9 @@
 use mathlib.Core.Path.{sym, _∙_}
 use native.Mathlib.Omega.{arith}
 use borrow.Author.Tests.{not-true, not-false}
-use lib.ListN.{length, getD, take, drop}
-use Prim.Native.Nat.{ℕ}
-use mathlib.Core.List.{List, _∷_}
+use lib.ListN.{length}
 use Rattle.transcript.specs.Answers.{twos}
-use Rattle.commands.specs.Memory.{inside, shownWords}
+use Rattle.commands.specs.Memory.{shownWords}
 use Rattle.commands.proofs.Shown.{inside-size, inside-end, part-not, part-shown}
 use borrow.Author.Needs.{needs}
 use Rattle.commands.proofs.memory.show_words.Statement.{statement}

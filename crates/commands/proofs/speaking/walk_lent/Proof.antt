@@ -1,8 +1,7 @@
 -- `commands::speaking::walk_lent` meets its contract: all four counts are the smaller of what is asked for and what there is.
 -- Assumes nothing.
 use Rattle.rules.proofs.Memory.{tail-is}
-use Rattle.commands.proofs.Lent.{walk-by}
-use Rattle.commands.proofs.Lent.{walk-told}
+use Rattle.commands.proofs.Lent.{walk-by, walk-told}
 use Rattle.reading.specs.Speech.{toldOf}
 use mathlib.Core.Path.{sym}
 use lib.Seq.{length-take-le}
