@@ -29,7 +29,7 @@ fn fetch(command: &[u8], file: &mut [u8]) -> usize
 fn command_in(text: &[u8], frame: &mut [u8], file: &mut [u8]) -> Command
     ensures { λ r. ⌜ Counts (r .len) (now (frame .exit)) × Counts (r .file) (now (file .exit)) ⌝ }
 {
-    let len = commands::hear(text, &mut *frame);
+    let len = commands::command_in(text, &mut *frame);
     let size = fetch(&frame[..len], file);
     Command { len, file: size }
 }
@@ -52,8 +52,8 @@ fn converse(
     let mut input = lines::empty(false);
     let mut turns = u64::MAX;
     while turns > 0 {
-        let heard = lines::next_line(input, piece, line);
-        let next = heard.next;
+        let read = lines::next_line(input, piece, line);
+        let next = read.next;
         if let Next::End = next {
             return;
         }
@@ -74,7 +74,7 @@ fn converse(
         if !io::write_all(STDOUT_FILENO, &out[..n]) {
             return;
         }
-        input = heard.input;
+        input = read.input;
         turns -= 1;
     }
 }
@@ -83,13 +83,13 @@ fn main() {
     let mut piece = io::buffer();
     let mut line = [0u8; MAX_LINE + 1];
     let mut frame = [0u8; MAX_LINE / 2];
-    let mut file = [0u8; 32769];
+    let mut file = [0u8; loader::MAX_INPUT + 1];
     let mut image = [0u8; image::SIZE];
     let mut words = [65535u16; 524418];
     let mut sets = [18446744073709551615u64; 65552];
     let mut phones = [238u8; 256];
     let mut numbers = [61166u16; 64];
-    let mut out = [0u8; 29199];
+    let mut out = [0u8; commands::LONGEST_FILE];
     converse(
         &mut piece,
         &mut line,
