@@ -43,16 +43,6 @@ pub fn build_lent(f: &[u8], image: &[u8], words: &mut [u16], sets: &mut [u64]) -
     build_in(image, words, n, sets, m)
 }
 
-// The word at a place; 0 where there is none.
-fn word_at(words: &[u16], at: usize) -> usize
-    ensures { λ r. ⌜ r ≡ getD (now (words .entry)) at 0 ⌝ }
-{
-    if words.len() <= at {
-        return 0;
-    }
-    numbers::wide16(words[at])
-}
-
 // 15: build.
 pub fn build_command(
     f: &[u8],
@@ -70,8 +60,8 @@ pub fn build_command(
     let answer = build_lent(f, image, &mut *words, sets);
     match answer {
         Answer::Accepted => {
-            let l = word_at(words, tables::LEFT_COUNT);
-            let r = word_at(words, tables::RIGHT_COUNT);
+            let l = compiled::state_count(words, tables::LEFT_COUNT);
+            let r = compiled::state_count(words, tables::RIGHT_COUNT);
             answers::states_line(l, r, out)
         },
         Answer::Refused(x) => transcript::refusal_line(x, out),

@@ -20,7 +20,7 @@ pub struct Compiled<'a> {
 }
 
 // The state count that stands at a place of the words; 0 where they are too short.
-fn state_count(words: &[u16], at: usize) -> usize
+pub fn state_count(words: &[u16], at: usize) -> usize
     ensures { λ r. ⌜ r ≡ getD (now (words .entry)) at 0 ⌝ }
 {
     if words.len() <= at {

@@ -30,11 +30,11 @@ build-lent-requires c κs = search needs
 enum-told : tie.Need-enum-told
 enum-told c = search needs
 
-word-at-requires : tie.Need-word-at-requires
-word-at-requires c κs = search needs
+state-count-requires : tie.Need-state-count-requires
+state-count-requires c κs = search needs
 
-word-at-requires-2 : tie.Need-word-at-requires-2
-word-at-requires-2 c κs = search needs
+state-count-requires-2 : tie.Need-state-count-requires-2
+state-count-requires-2 c κs = search needs
 
 states-line-requires : tie.Need-states-line-requires
 states-line-requires c κs = search needs
@@ -61,7 +61,7 @@ returns-2 c =
     let b = c .before .before .before .before .before .before .before .before .before .before .before .before .before .before .build-lent in
     both-built (eqb (length (a .f .now)) 9) (a .words .now) (a .sets .now) (a .out .now) _ _ (eq-eqb (length (a .f .now)) 9 (c .before .before .before .before .before .before .before .before .before .before .before .before .before .before .before .before .before .if1 .left)) _ _
     (builtIn (lentOf (four 1 (a .f .now)) (length (a .words .now))) (lentOf (four 5 (a .f .now)) (length (a .sets .now))) (a .image .now) (a .words .now) (a .sets .now)) (replyOf (b .result)) (b .ensures)
-    (gives-states (b .result) _ _ (a .out .now) _ (c .before .before .before .before .before .before .before .before .enum-told .given .1) _ _ (c .before .before .before .before .before .before .word-at .ensures) (c .before .before .before .before .word-at2 .ensures) (c .before .before .states-line .ensures .0) (c .before .before .states-line .ensures .1))
+    (gives-states (b .result) _ _ (a .out .now) _ (c .before .before .before .before .before .before .before .before .enum-told .given .1) _ _ (c .before .before .before .before .before .before .state-count .ensures) (c .before .before .before .before .state-count2 .ensures) (c .before .before .states-line .ensures .0) (c .before .before .states-line .ensures .1))
 
 same-length-5 : tie.Need-same-length-5
 same-length-5 c = search needs
@@ -90,8 +90,8 @@ build-command-spec =
     returns
     build-lent-requires
     enum-told
-    word-at-requires
-    word-at-requires-2
+    state-count-requires
+    state-count-requires-2
     states-line-requires
     enum-known-answer
     refusal-line-requires
