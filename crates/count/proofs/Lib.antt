@@ -1,2 +1,5 @@
+pub mod Starts
+pub mod Hanging
+pub mod Adding
 pub mod Seeking
-pub mod Growing
+pub mod Following

@@ -1,115 +1,159 @@
-// How many states the patterns of one side have, counted in a tree of its own: no lent memory is touched.
-use side::Place;
+// How many states the patterns of one side have, counted in a small tree of its own: no lent memory is touched.
+// A node is a pattern and not a state: node i + 1 is pattern i, and node 0 the empty string. A pattern runs along the nodes before it as
+// far as they have its symbols, and hangs from the last of them, by the depth and the symbol at which it leaves that one. What is left of
+// it then are its new states.
 ghost use mathlib.Core.Path.{_≡_};
 ghost use Prim.Native.Nat.{ℕ, _+_, _*_, _≤_, _<_};
 ghost use lib.ListN.{length, getD, set};
-ghost use Rattle.side.specs.Patterns.{patternsOf, Patterns, stateCount};
-ghost use Rattle.tables.specs.States.{states};
-ghost use Rattle.count.specs.Chains.{seek, childOf, Room, Chains, Descended, Counted};
-ghost use Rattle.side.specs.Steps.{Children};
+ghost use Rattle.tables.specs.Words.{rowSize};
+ghost use Rattle.side.specs.Patterns.{maxPattern, patternAt, patternsOf, Patterns, stateCount};
+ghost use Rattle.count.specs.Chains.{seek, childOf, Room, Linked, Chains};
+ghost use Rattle.count.specs.Tree.{keyOf, nodeAt, runsOn, onwardFrom, Tree, Followed, Counted};
 
-fn wide(x: u8) -> usize
-    ensures { λ r. ⌜ r ≡ x ⌝ }
-{
-    x as usize
+// A node for each pattern, and one for the empty string.
+const NODES: usize = rules::MAX_RULES + 1;
+
+// Where a pattern branches off from the nodes before it: the last of them that it runs along, and how many of its symbols they have.
+struct Branch {
+    node: usize,
+    depth: usize,
 }
 
-fn wide16(x: u16) -> usize
-    ensures { λ r. ⌜ r ≡ x ⌝ }
+// ---- the nodes that hang from a node, each by its key
+
+// The key of the symbol c at a depth.
+fn key_of(depth: usize, c: u8) -> u16
+    requires { ⌜ (depth < maxPattern) × (c < rowSize) ⌝ }
+    ensures { λ r. ⌜ r ≡ keyOf depth c ⌝ }
 {
-    x as usize
+    (tables::ROW * depth + numbers::wide(c)) as u16
 }
 
-// The state under `c` in the chain of siblings from `s` on, or 0.
-fn find(next: &[u16], symbol: &[u8], s: usize, c: u8) -> usize
-    requires { ⌜ (s < length (now next)) × (s < length (now symbol)) × ((k : ℕ) → 0 < k → k ≤ s → getD (now next) k 0 < k) ⌝ }
-    ensures { λ r. ⌜ r ≡ seek (length (now (next .entry))) (now (next .entry)) (now (symbol .entry)) s c ⌝ }
+// The node under the key `c` in the chain from `s` on, or 0.
+fn find(next: &[u16], key: &[u16], s: usize, c: u16) -> usize
+    requires { ⌜ (s < length (now next)) × (s < length (now key)) × ((k : ℕ) → 0 < k → k ≤ s → getD (now next) k 0 < k) ⌝ }
+    ensures { λ r. ⌜ r ≡ seek (length (now (next .entry))) (now (next .entry)) (now (key .entry)) s c ⌝ }
 {
     let mut k = s;
     while 0 < k {
-        if symbol[k] == c {
+        if key[k] == c {
             return k;
         }
-        k = wide16(next[k]);
+        k = numbers::wide16(next[k]);
     }
     k
 }
 
-// State `n` becomes the latest child of `q`.
-fn attach(first: &mut [u16], next: &mut [u16], symbol: &mut [u8], q: usize, n: usize, c: u8)
-    requires { ⌜ (q < n) × (n < 65536) × Room (n + 1) (now first) (now next) (now symbol) ⌝ }
-    ensures first { λ _. ⌜ now (first .exit) ≡ set (set (now (first .entry)) q n) n 0 ⌝ }
+// Node `n` becomes the latest that hangs from `q`.
+fn attach(first: &mut [u16], next: &mut [u16], key: &mut [u16], q: usize, n: usize, c: u16)
+    requires { ⌜ (q < n) × (n < 65536) × Room (n + 1) (now first) (now next) (now key) ⌝ }
+    ensures first { λ _. ⌜ now (first .exit) ≡ set (now (first .entry)) q n ⌝ }
     ensures next { λ _. ⌜ now (next .exit) ≡ set (now (next .entry)) n (getD (now (first .entry)) q 0) ⌝ }
-    ensures symbol { λ _. ⌜ now (symbol .exit) ≡ set (now (symbol .entry)) n c ⌝ }
+    ensures key { λ _. ⌜ now (key .exit) ≡ set (now (key .entry)) n c ⌝ }
 {
     next[n] = first[q];
-    symbol[n] = c;
+    key[n] = c;
     first[q] = n as u16;
-    first[n] = 0;
 }
 
-// From a state to its child, which is numbered where it was not.
-fn descend(first: &mut [u16], next: &mut [u16], symbol: &mut [u8], at: Place, c: u8) -> Place
-    requires { ⌜ (at .state < at .count) × (at .count < 65536) × Chains (now first) (now next) (now symbol) (at .count) × (childOf (now first) (now next) (now symbol) (at .state) c ≡ 0 → Room (at .count + 1) (now first) (now next) (now symbol)) ⌝ }
-    ensures { λ r. ⌜ Descended (now (first .entry)) (now (next .entry)) (now (symbol .entry)) (at .state) (at .count) c r (now (first .exit)) (now (next .exit)) (now (symbol .exit)) ⌝ }
+// ---- one pattern
+
+// Whether node q has the symbol c at depth m.
+fn runs_on(pats: &[u8], lens: &[u8], q: usize, m: usize, c: u8) -> bool
+    requires { ⌜ Patterns (now pats) (now lens) q × (m < maxPattern) ⌝ }
+    ensures { λ r. ⌜ r ≡ runsOn (nodeAt (now (pats .entry)) (now (lens .entry)) q) m c ⌝ }
 {
-    let q = at.state;
-    let n = at.count;
-    let s = find(next, symbol, wide16(first[q]), c);
-    if s != 0 {
-        return Place { state: s, count: n };
+    if q == 0 {
+        return false;
     }
-    attach(first, next, symbol, q, n, c);
-    Place {
-        state: n,
-        count: n + 1,
+    let i = q - 1;
+    if numbers::wide(lens[i]) <= m {
+        return false;
     }
+    c == pats[side::PATTERN * i + m]
 }
 
-// The prefixes of pattern i are numbered after those of the patterns before it.
-fn number_one(
+// The node along which a pattern goes on from node q with the symbol c at depth m: q itself, or one that hangs from it; 0 where there is none.
+fn onward(
+    first: &[u16],
+    next: &[u16],
+    key: &[u16],
+    pats: &[u8],
+    lens: &[u8],
+    q: usize,
+    m: usize,
+    c: u8,
+) -> usize
+    requires { ⌜ Patterns (now pats) (now lens) q × (m < maxPattern) × (c < rowSize) × Linked (now first) (now next) (now key) q ⌝ }
+    ensures { λ r. ⌜ r ≡ onwardFrom (nodeAt (now (pats .entry)) (now (lens .entry)) q) (childOf (now (first .entry)) (now (next .entry)) (now (key .entry))) q m c ⌝ }
+{
+    if runs_on(pats, lens, q, m, c) {
+        return q;
+    }
+    find(next, key, numbers::wide16(first[q]), key_of(m, c))
+}
+
+// Where pattern i branches off from the nodes of the patterns before it.
+fn follow(first: &[u16], next: &[u16], key: &[u16], pats: &[u8], lens: &[u8], i: usize) -> Branch
+    requires { ⌜ Patterns (now pats) (now lens) (i + 1) × Chains (now first) (now next) (now key) (i + 1) × Tree (patternsOf (now pats) (now lens) i) (childOf (now first) (now next) (now key)) ⌝ }
+    ensures { λ r. ⌜ Followed (patternsOf (now (pats .entry)) (now (lens .entry)) i) (patternAt (now (pats .entry)) (now (lens .entry)) i) r ⌝ }
+{
+    let a = side::PATTERN * i;
+    let len = numbers::wide(lens[i]);
+    let mut q: usize = 0;
+    let mut m: usize = 0;
+    while m < len {
+        let r = onward(first, next, key, pats, lens, q, m, pats[a + m]);
+        if r == 0 {
+            return Branch { node: q, depth: m };
+        }
+        q = r;
+        m += 1;
+    }
+    Branch { node: q, depth: m }
+}
+
+// Pattern i goes into the tree, and its new states are counted to those of the patterns before it.
+fn count_one(
     first: &mut [u16],
     next: &mut [u16],
-    symbol: &mut [u8],
+    key: &mut [u16],
     pats: &[u8],
     lens: &[u8],
     i: usize,
     count: usize,
 ) -> usize
-    requires { ⌜ Patterns (now pats) (now lens) (i + 1) × (count ≡ stateCount (now pats) (now lens) i) × Room (stateCount (now pats) (now lens) (i + 1)) (now first) (now next) (now symbol) × Chains (now first) (now next) (now symbol) count × Children (states (patternsOf (now pats) (now lens) i)) (childOf (now first) (now next) (now symbol)) ⌝ }
-    ensures { λ r. ⌜ Counted (now (pats .entry)) (now (lens .entry)) (i + 1) (now (first .entry)) (now (next .entry)) (now (symbol .entry)) r (now (first .exit)) (now (next .exit)) (now (symbol .exit)) ⌝ }
+    requires { ⌜ Patterns (now pats) (now lens) (i + 1) × Room (i + 2) (now first) (now next) (now key) × Counted (now pats) (now lens) i (now first) (now next) (now key) count (now first) (now next) (now key) ⌝ }
+    ensures { λ r. ⌜ Counted (now (pats .entry)) (now (lens .entry)) (i + 1) (now (first .entry)) (now (next .entry)) (now (key .entry)) r (now (first .exit)) (now (next .exit)) (now (key .exit)) ⌝ }
 {
-    let a = 10 * i;
-    let len = wide(lens[i]);
-    let mut at = Place {
-        state: 0,
-        count: count,
-    };
-    let mut m: usize = 0;
-    while m < len {
-        at = descend(first, next, symbol, at, pats[a + m]);
-        m += 1;
+    let s = follow(first, next, key, pats, lens, i);
+    let m = s.depth;
+    let len = numbers::wide(lens[i]);
+    if len <= m {
+        return count;
     }
-    at.count
+    let c = pats[side::PATTERN * i + m];
+    attach(first, next, key, s.node, i + 1, key_of(m, c));
+    count + (len - m)
 }
 
-// The prefixes of n patterns are numbered in the tree.
-fn number_all(
+// ---- all patterns
+
+fn count_all(
     first: &mut [u16],
     next: &mut [u16],
-    symbol: &mut [u8],
+    key: &mut [u16],
     pats: &[u8],
     lens: &[u8],
     n: usize,
 ) -> usize
-    requires { ⌜ Patterns (now pats) (now lens) n × Room (stateCount (now pats) (now lens) n) (now first) (now next) (now symbol) ⌝ }
+    requires { ⌜ Patterns (now pats) (now lens) n × Room (n + 1) (now first) (now next) (now key) × Chains (now first) (now next) (now key) 1 ⌝ }
     ensures { λ r. ⌜ r ≡ stateCount (now (pats .entry)) (now (lens .entry)) n ⌝ }
 {
-    first[0] = 0;
     let mut count: usize = 1;
     let mut i: usize = 0;
     while i < n {
-        count = number_one(first, next, symbol, pats, lens, i, count);
+        count = count_one(first, next, key, pats, lens, i, count);
         i += 1;
     }
     count
@@ -120,8 +164,8 @@ pub fn count_states(pats: &[u8], lens: &[u8], n: usize) -> usize
     requires { ⌜ Patterns (now pats) (now lens) n ⌝ }
     ensures { λ r. ⌜ r ≡ stateCount (now (pats .entry)) (now (lens .entry)) n ⌝ }
 {
-    let mut first = [0u16; 5121];
-    let mut next = [0u16; 5121];
-    let mut symbol = [0u8; 5121];
-    number_all(&mut first, &mut next, &mut symbol, pats, lens, n)
+    let mut first = [0u16; NODES];
+    let mut next = [0u16; NODES];
+    let mut key = [0u16; NODES];
+    count_all(&mut first, &mut next, &mut key, pats, lens, n)
 }

@@ -22,7 +22,7 @@ use Rattle.side.proofs.Inserting.{states-grow}
 
 -- ---- a state starts a pattern
 
-starts-take : (s p : Str) → starts s p ≡ true → (take (length s) p ≡ s) × (length s ≤ length p)
+pub starts-take : (s p : Str) → starts s p ≡ true → (take (length s) p ≡ s) × (length s ≤ length p)
 starts-take [] p e = (refl, zero-le)
 starts-take (x ∷ s) [] e = clash e refl
 starts-take (x ∷ s) (y ∷ p) e =
@@ -56,7 +56,7 @@ member-at (x ∷ l) (suc q) h = rw (member-at l q (le-of-suc-le-suc h)) (or-true
 
 -- ---- a prefix of a pattern is numbered
 
-take-starts : (d : ℕ) (p : Str) → starts (take d p) p ≡ true
+pub take-starts : (d : ℕ) (p : Str) → starts (take d p) p ≡ true
 take-starts zero p = refl
 take-starts (suc d) [] = refl
 take-starts (suc d) (x ∷ p) = rw (eq-true (eqb x x) (eqb-refl x)) (take-starts d p)

@@ -32,9 +32,9 @@ fn clear_row(rows: &mut [u16], at: usize)
 }
 
 // Where the numbering of a pattern stands: the state of its symbols so far, and how many states there are.
-pub struct Place {
-    pub state: usize,
-    pub count: usize,
+struct Place {
+    state: usize,
+    count: usize,
 }
 
 // From a state to its child, which is numbered where it was not.

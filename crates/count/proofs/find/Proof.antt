@@ -1,4 +1,4 @@
--- The search in a chain of siblings: its numbers fall, and the rest of the chain gives what the whole does.
+-- The search in a chain: its numbers fall, and the rest of the chain gives what the whole does.
 -- Assumes nothing.
 use mathlib.Core.Path.{sym, subst}
 use native.Mathlib.Omega.{arith}
@@ -8,13 +8,16 @@ use Rattle.count.proofs.find.Statement.{statement}
 use Rattle.count.proofs.find.Tie as tie
 
 abbrev Inv-loop : tie.InvT-loop
-Inv-loop next symbol s c k₀ k = S.Seeking next symbol s c k
+Inv-loop next key s c k₀ k = S.Seeking next key s c k
 
 abbrev μ-loop : tie.MeasureT-loop
-μ-loop next symbol s c k₀ k = k
+μ-loop next key s c k₀ k = k
 
 loop-holds : tie.Need-loop-holds Inv-loop μ-loop
 loop-holds c = S.begin _ _ _ _
+
+mul-if1 : tie.Need-mul-if1 Inv-loop μ-loop
+mul-if1 c = search needs
 
 shared-slice-read-if1 : tie.Need-shared-slice-read-if1 Inv-loop μ-loop
 shared-slice-read-if1 c = omega (arith, c .before .before .loop .inv .below, c .before .before .before .before .before .pre .1)
@@ -32,11 +35,11 @@ wide16-requires : tie.Need-wide16-requires Inv-loop μ-loop
 wide16-requires c κs = search needs
 
 loop-less : tie.Need-loop-less Inv-loop μ-loop
-loop-less c = omega (arith, c .wide16 .ensures, c .before .before .before .before .before .before .before .before .pre .2 (c .before .before .before .before .before .loop .k) (c .before .before .before .before .loop-test .taken) (c .before .before .before .before .before .loop .inv .below))
+loop-less c = omega (arith, c .wide16 .ensures .0, c .before .before .before .before .before .before .before .before .pre .2 (c .before .before .before .before .before .loop .k) (c .before .before .before .before .loop-test .taken) (c .before .before .before .before .before .loop .inv .below))
 
 loop-again : tie.Need-loop-again Inv-loop μ-loop
 loop-again c =
-    subst (S.Seeking _ _ _ _) (sym (c .wide16 .ensures))
+    subst (S.Seeking _ _ _ _) (sym (c .wide16 .ensures .0))
     (S.miss _ _ _ _ (c .before .before .before .before .before .before .before .before .pre .2) (c .before .before .before .before .before .before .before .before .pre .0) _ (c .before .before .before .before .before .loop .inv) (c .before .before .before .before .loop-test .taken) (c .before .before .if1 .left))
 
 returns-2 : tie.Need-returns-2 Inv-loop μ-loop
@@ -49,6 +52,7 @@ find-spec =
     Inv-loop
     μ-loop
     loop-holds
+    mul-if1
     shared-slice-read-if1
     returns
     mul-wide16
