@@ -19,13 +19,13 @@ use Rattle.tables.proofs.Truth.{clash}
 use Rattle.side.specs.Patterns.{maxPattern, patternAt, patternsOf, Patterns, stateCount}
 use Rattle.side.proofs.Inserting.{patterns-next, patterns-length, patterns-less, pattern-length, pattern-symbol, symbol-small}
 use Rattle.side.proofs.Parts.{patterns-at}
-use Rattle.count.specs.Chains.{seek, childOf, Room, Linked, Chains, Alike, Hung}
-use Rattle.count.specs.Tree.{keyOf, nodes, nodeAt, runsOn, onwardFrom, holder, Tree, Followed, Counted}
+use Rattle.count.specs.Chains.{seek, childOf, Room, Linked, Chains, Alike, Attached}
+use Rattle.count.specs.Tree.{keyOf, nodes, nodeAt, hasSymbol, nextNode, firstWith, Tree, Followed, Counted}
 use Rattle.count.specs.declared.Branch.{Branch}
-use Rattle.count.proofs.Starts.{holder-lt, any-node}
-use Rattle.count.proofs.Hanging.{Leads, tree-leads, leads-tree, leads-same, leads-more}
+use Rattle.count.proofs.Starts.{first-lt, any-node}
+use Rattle.count.proofs.Branching.{Branches, tree-branches, branches-tree, branches-same, branches-more}
 use Rattle.count.proofs.Adding.{added}
-use Rattle.count.proofs.Seeking.{Falling, seek-zero, chain-linked, chains-more, attached-alike, attached-chains, attached-hung}
+use Rattle.count.proofs.Seeking.{Falling, seek-zero, chain-linked, chains-more, attached-alike, attached-chains, attached-child}
 
 -- ---- one node
 
@@ -35,23 +35,23 @@ drop-none zero (x ∷ w) h = absurd (omega arith)
 drop-none (suc m) [] h = refl
 drop-none (suc m) (x ∷ w) h = drop-none m w (omega arith)
 
-pub runs-none : (ps ls : List ℕ) (q m c : ℕ) → q ≡ 0 → false ≡ runsOn (nodeAt ps ls q) m c
-runs-none ps ls q m c e =
-    sym (ap (λ (k : ℕ). runsOn (nodeAt ps ls k) m c) e ∙ ap (λ (w : Str). starts (c ∷ []) w) (drop-none m [] (omega arith)))
+pub symbol-none : (ps ls : List ℕ) (q m c : ℕ) → q ≡ 0 → false ≡ hasSymbol (nodeAt ps ls q) m c
+symbol-none ps ls q m c e =
+    sym (ap (λ (k : ℕ). hasSymbol (nodeAt ps ls k) m c) e ∙ ap (λ (w : Str). starts (c ∷ []) w) (drop-none m [] (omega arith)))
 
 -- node q is pattern i
 module _ (ps ls : List ℕ) (q : ℕ) (ok : Patterns ps ls q) (m c i : ℕ) (e : q ≡ suc i) where
-  node-is : runsOn (nodeAt ps ls q) m c ≡ runsOn (patternAt ps ls i) m c
-  node-is = ap (λ (k : ℕ). runsOn (nodeAt ps ls k) m c) e
+  node-is : hasSymbol (nodeAt ps ls q) m c ≡ hasSymbol (patternAt ps ls i) m c
+  node-is = ap (λ (k : ℕ). hasSymbol (nodeAt ps ls k) m c) e
 
   node-length : length (patternAt ps ls i) ≡ getD ls i 0
   node-length = pattern-length ps ls q ok i (omega arith)
 
-  pub runs-past : getD ls i 0 ≤ m → false ≡ runsOn (nodeAt ps ls q) m c
-  runs-past h = sym (node-is ∙ ap (λ (w : Str). starts (c ∷ []) w) (drop-none m (patternAt ps ls i) (omega (arith, node-length))))
+  pub symbol-past : getD ls i 0 ≤ m → false ≡ hasSymbol (nodeAt ps ls q) m c
+  symbol-past h = sym (node-is ∙ ap (λ (w : Str). starts (c ∷ []) w) (drop-none m (patternAt ps ls i) (omega (arith, node-length))))
 
-  pub runs-at : m < getD ls i 0 → eqb c (getD ps (maxPattern * i + m) 0) ≡ runsOn (nodeAt ps ls q) m c
-  runs-at h =
+  pub symbol-at : m < getD ls i 0 → eqb c (getD ps (maxPattern * i + m) 0) ≡ hasSymbol (nodeAt ps ls q) m c
+  symbol-at h =
       let w = patternAt ps ls i in
       sym (node-is ∙ ap (λ (v : Str). starts (c ∷ []) v) (drop-cons w m 0 (omega (arith, node-length)))
       ∙ and-true (eqb c (getD w m 0)) ∙ ap (eqb c) (pattern-symbol ps ls q ok i (omega arith) m h))
@@ -68,12 +68,12 @@ module _ (pats : List Str) (p : Str) where
   pub record Following (q m : ℕ) : Type 0 where
     pub reached : m ≤ length p
     pub has : startsAny (take m p) (nodes pats) ≡ true
-    pub node : q ≡ holder (take m p) (nodes pats)
+    pub node : q ≡ firstWith (take m p) (nodes pats)
 
   pub begin : Following 0 0
   begin = record { reached = omega arith; has = refl; node = refl }
 
-some-node : (pats : List Str) (s : Str) (c : ℕ) → holder (s ++ (c ∷ [])) (nodes pats) ≡ 0 → ⊥
+some-node : (pats : List Str) (s : Str) (c : ℕ) → firstWith (s ++ (c ∷ [])) (nodes pats) ≡ 0 → ⊥
 some-node pats [] c e = suc-ne-zero _ e
 some-node pats (x ∷ s) c e = suc-ne-zero _ e
 
@@ -97,7 +97,7 @@ module _ (ps ls : List ℕ) (i : ℕ) (ok : Patterns ps ls (i + 1)) where
   module _ (fi nx ky : List ℕ) (ch : Chains fi nx ky (i + 1)) (tree : Tree pats (childOf fi nx ky)) where
     module _ (q m : ℕ) (f : Following pats p q m) where
       pub node-lt : q < i + 1
-      node-lt = omega (arith, f .node, holder-lt (take m p) (nodes pats) (f .has), nodes-length)
+      node-lt = omega (arith, f .node, first-lt (take m p) (nodes pats) (f .has), nodes-length)
 
       -- p ends
       pub ended : getD ls i 0 ≤ m → Followed pats p (record { node = q; depth = m })
@@ -129,22 +129,22 @@ module _ (ps ls : List ℕ) (i : ℕ) (ok : Patterns ps ls (i + 1)) where
             ap (λ (k : ℕ). take m p ++ (k ∷ [])) (sym (pattern-symbol ps ls (i + 1) ok i (omega arith) m h))
             ∙ sym (take-suc p m 0 (omega (arith, p-length)))
 
-        module _ (r : ℕ) (e : r ≡ onwardFrom (nodeAt ps ls q) (childOf fi nx ky) q m c) where
+        module _ (r : ℕ) (e : r ≡ nextNode (nodeAt ps ls q) (childOf fi nx ky) q m c) where
           m-is : m ≡ length (take m p)
           m-is = sym (length-take-le m p (f .reached))
 
-          leads : r ≡ onwardFrom (getD (nodes pats) (holder (take m p) (nodes pats)) []) (childOf fi nx ky) (holder (take m p) (nodes pats)) (length (take m p)) c
+          leads : r ≡ nextNode (getD (nodes pats) (firstWith (take m p) (nodes pats)) []) (childOf fi nx ky) (firstWith (take m p) (nodes pats)) (length (take m p)) c
           leads =
-              e ∙ ap (λ (w : Str). onwardFrom w (childOf fi nx ky) q m c) (string-is q node-lt)
-              ∙ ap₂ (λ (k n : ℕ). onwardFrom (getD (nodes pats) k []) (childOf fi nx ky) k n c) (f .node) m-is
+              e ∙ ap (λ (w : Str). nextNode w (childOf fi nx ky) q m c) (string-is q node-lt)
+              ∙ ap₂ (λ (k n : ℕ). nextNode (getD (nodes pats) k []) (childOf fi nx ky) k n c) (f .node) m-is
 
-          found : startsAny (take m p ++ (c ∷ [])) (nodes pats) ≡ true → r ≡ holder (take m p ++ (c ∷ [])) (nodes pats)
-          found a = leads ∙ tree-leads pats (childOf fi nx ky) tree (take m p) c (f .has) small ∙ rw a
+          found : startsAny (take m p ++ (c ∷ [])) (nodes pats) ≡ true → r ≡ firstWith (take m p ++ (c ∷ [])) (nodes pats)
+          found a = leads ∙ tree-branches pats (childOf fi nx ky) tree (take m p) c (f .has) small ∙ rw a
 
           lost : startsAny (take m p ++ (c ∷ [])) (nodes pats) ≡ false → r ≡ 0
-          lost a = leads ∙ tree-leads pats (childOf fi nx ky) tree (take m p) c (f .has) small ∙ rw a
+          lost a = leads ∙ tree-branches pats (childOf fi nx ky) tree (take m p) c (f .has) small ∙ rw a
 
-          -- p goes on along node r
+          -- p follows node r
           pub next : (r ≡ 0 → ⊥) → Following pats p r (m + 1)
           next d =
               let s : m + 1 ≡ suc m = omega arith in
@@ -152,7 +152,7 @@ module _ (ps ls : List ℕ) (i : ℕ) (ok : Patterns ps ls (i + 1)) where
               (λ a. record {
                 reached = omega (arith, p-length);
                 has = ap (λ (k : ℕ). startsAny (take k p) (nodes pats)) s ∙ ap (λ (w : Str). startsAny w (nodes pats)) (sym more) ∙ a;
-                node = found a ∙ ap (λ (w : Str). holder w (nodes pats)) more ∙ ap (λ (k : ℕ). holder (take k p) (nodes pats)) (sym s);
+                node = found a ∙ ap (λ (w : Str). firstWith w (nodes pats)) more ∙ ap (λ (k : ℕ). firstWith (take k p) (nodes pats)) (sym s);
               })
               (λ a. absurd (d (lost a)))
 
@@ -187,8 +187,8 @@ module _ (ps ls : List ℕ) (i : ℕ) (ok : Patterns ps ls (i + 1)) where
       pub room-more : Room (i + 1 + 1) fi nx ky
       room-more = record { firsts = omega (arith, room .firsts); nexts = omega (arith, room .nexts); keys = omega (arith, room .keys) }
 
-      tree-of : (look : ℕ → ℕ → ℕ) → Leads (nodes pats ++ (p ∷ [])) look → Tree (patternsOf ps ls (i + 1)) look
-      tree-of look l = subst (λ (x : List Str). Tree x look) (sym (patterns-next ps ls i)) (leads-tree (pats ++ (p ∷ [])) look l)
+      tree-of : (look : ℕ → ℕ → ℕ) → Branches (nodes pats ++ (p ∷ [])) look → Tree (patternsOf ps ls (i + 1)) look
+      tree-of look l = subst (λ (x : List Str). Tree x look) (sym (patterns-next ps ls i)) (branches-tree (pats ++ (p ∷ [])) look l)
 
       -- nothing of p is new
       pub count-same : getD ls i 0 ≤ b .depth → Counted ps ls (i + 1) fi nx ky count fi nx ky
@@ -198,18 +198,18 @@ module _ (ps ls : List ℕ) (i : ℕ) (ok : Patterns ps ls (i + 1)) where
             count = (let e : count ≡ count + (getD ls i 0 - b .depth) = omega arith in e) ∙ count-is;
             chains = chains-more fi nx ky (i + 1) ch room-more;
             tree = tree-of (childOf fi nx ky)
-                (leads-same (nodes pats) p (childOf fi nx ky) (childOf fi nx ky) (tree-leads pats (childOf fi nx ky) tree)
+                (branches-same (nodes pats) p (childOf fi nx ky) (childOf fi nx ky) (tree-branches pats (childOf fi nx ky) tree)
                 (ap (λ (x : Str). startsAny x (nodes pats)) (sym w) ∙ has) (λ k e l. refl));
             alike = record { firsts = refl; nexts = refl; keys = refl };
           }
 
       pub branch-lt : b .node < i + 1
-      branch-lt = omega (arith, f .node, holder-lt (take (b .depth) p) (nodes pats) has, nodes-length)
+      branch-lt = omega (arith, f .node, first-lt (take (b .depth) p) (nodes pats) has, nodes-length)
 
       pub branch-symbol : b .depth < getD ls i 0 → (b .depth < maxPattern) × (getD ps (maxPattern * i + b .depth) 0 < rowSize)
       branch-symbol h = (omega (arith, ok .short i (omega arith)), symbol-small ps ls (i + 1) ok i (omega arith) (b .depth) h)
 
-      -- p hangs from its node, under the key k
+      -- p becomes a child of its node, under the key k
       module _ (h : b .depth < getD ls i 0) (k : ℕ) (e : k ≡ keyOf (b .depth) (getD ps (maxPattern * i + b .depth) 0)) where
         abbrev fi₁ : List ℕ
         fi₁ = set fi (b .node) (i + 1)
@@ -223,19 +223,19 @@ module _ (ps ls : List ℕ) (i : ℕ) (ok : Patterns ps ls (i + 1)) where
         symbol-is : getD ps (maxPattern * i + b .depth) 0 ≡ getD p (b .depth) 0
         symbol-is = sym (pattern-symbol ps ls (i + 1) ok i (omega arith) (b .depth) h)
 
-        new : Hung (childOf fi nx ky) (childOf fi₁ nx₁ ky₁) (holder (take (b .depth) p) (nodes pats)) (length (nodes pats)) (keyOf (b .depth) (getD p (b .depth) 0))
+        new : Attached (childOf fi nx ky) (childOf fi₁ nx₁ ky₁) (firstWith (take (b .depth) p) (nodes pats)) (length (nodes pats)) (keyOf (b .depth) (getD p (b .depth) 0))
         new =
-            subst (λ (q : ℕ). Hung (childOf fi nx ky) (childOf fi₁ nx₁ ky₁) q (length (nodes pats)) (keyOf (b .depth) (getD p (b .depth) 0))) (f .node)
-            (subst₂ (λ (n c : ℕ). Hung (childOf fi nx ky) (childOf fi₁ nx₁ ky₁) (b .node) n c) (sym nodes-length) (e ∙ ap (keyOf (b .depth)) symbol-is)
-            (attached-hung fi nx ky (b .node) (i + 1) k branch-lt ch room-more))
+            subst (λ (q : ℕ). Attached (childOf fi nx ky) (childOf fi₁ nx₁ ky₁) q (length (nodes pats)) (keyOf (b .depth) (getD p (b .depth) 0))) (f .node)
+            (subst₂ (λ (n c : ℕ). Attached (childOf fi nx ky) (childOf fi₁ nx₁ ky₁) (b .node) n c) (sym nodes-length) (e ∙ ap (keyOf (b .depth)) symbol-is)
+            (attached-child fi nx ky (b .node) (i + 1) k branch-lt ch room-more))
 
-        hung : Counted ps ls (i + 1) fi nx ky (count + (getD ls i 0 - b .depth)) fi₁ nx₁ ky₁
-        hung =
+        attached : Counted ps ls (i + 1) fi nx ky (count + (getD ls i 0 - b .depth)) fi₁ nx₁ ky₁
+        attached =
             record {
               count = count-is;
               chains = attached-chains fi nx ky (b .node) (i + 1) k branch-lt ch room-more;
               tree = tree-of (childOf fi₁ nx₁ ky₁)
-                  (leads-more (nodes pats) p (childOf fi nx ky) (childOf fi₁ nx₁ ky₁) (tree-leads pats (childOf fi nx ky) tree) (b .depth) (omega (arith, p-length))
+                  (branches-more (nodes pats) p (childOf fi nx ky) (childOf fi₁ nx₁ ky₁) (tree-branches pats (childOf fi nx ky) tree) (b .depth) (omega (arith, p-length))
                   (subst (λ (x : ℕ). x < rowSize) symbol-is (branch-symbol h .1)) has (most (omega (arith, p-length))) new);
               alike = attached-alike fi nx ky (b .node) (i + 1) k branch-lt ch room-more;
             }
@@ -244,7 +244,7 @@ module _ (ps ls : List ℕ) (i : ℕ) (ok : Patterns ps ls (i + 1)) where
         count-more r re fi₂ nx₂ ky₂ a₁ a₂ a₃ =
             subst (λ (n : ℕ). Counted ps ls (i + 1) fi nx ky n fi₂ nx₂ ky₂) (sym re)
             (subst (λ (x : List ℕ). Counted ps ls (i + 1) fi nx ky (count + (getD ls i 0 - b .depth)) x nx₂ ky₂) (sym a₁)
-            (subst₂ (λ (x y : List ℕ). Counted ps ls (i + 1) fi nx ky (count + (getD ls i 0 - b .depth)) fi₁ x y) (sym a₂) (sym a₃) hung))
+            (subst₂ (λ (x y : List ℕ). Counted ps ls (i + 1) fi nx ky (count + (getD ls i 0 - b .depth)) fi₁ x y) (sym a₂) (sym a₃) attached))
 
 -- ---- all patterns
 
@@ -258,14 +258,14 @@ first ps ls fi nx ky ch =
     record {
       count = refl;
       chains = ch;
-      tree = leads-tree [] (childOf fi nx ky) root;
+      tree = branches-tree [] (childOf fi nx ky) root;
       alike = alike-same fi nx ky;
     }
   where
     none : getD fi 0 0 ≡ 0
     none = let g = ch .heads 0 (omega arith) in omega arith
 
-    root : Leads ([] ∷ []) (childOf fi nx ky)
+    root : Branches ([] ∷ []) (childOf fi nx ky)
     root [] c a l = ap (λ (s : ℕ). seek (length nx) nx ky s (keyOf 0 c)) none ∙ seek-zero (length nx) nx ky (keyOf 0 c)
     root (x ∷ s) c a l = clash a refl
 
@@ -303,6 +303,6 @@ zero-chains n h =
       room = zero-room n 1 h;
       heads = λ q l. let e = zeros n q in omega arith;
       falling = λ s p l. absurd (omega arith);
-      bare = λ k l. zeros n k;
-      loose = λ k l. zeros n k;
+      firstsZero = λ k l. zeros n k;
+      nextsZero = λ k l. zeros n k;
     }

@@ -1,5 +1,5 @@
 pub mod Starts
-pub mod Hanging
+pub mod Branching
 pub mod Adding
 pub mod Seeking
 pub mod Following

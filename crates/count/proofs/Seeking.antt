@@ -1,4 +1,4 @@
--- A chain of nodes with falling numbers: what is found in it, and that a node that is hung leaves the other chains as they were.
+-- A chain of nodes with falling numbers: what is found in it, and that a new child leaves the other chains as they were.
 -- Assumes nothing.
 use mathlib.Core.Path.{_≡_, refl, sym, ap, ap₂, _∙_, subst, subst₂}
 use mathlib.Core.Logic.{_≢_, _⊎_, inl, inr}
@@ -13,7 +13,7 @@ use lib.Seq.{getD-set-same, getD-set-other}
 use borrow.Author.Tests.{eqb-false, eq-eqb, ne-eqb}
 use Rattle.rules.proofs.Cases.{byBool}
 use Rattle.tables.proofs.Truth.{true-eq}
-use Rattle.count.specs.Chains.{seek, childOf, Room, Linked, Chains, Alike, Hung}
+use Rattle.count.specs.Chains.{seek, childOf, Room, Linked, Chains, Alike, Attached}
 
 pub seek-zero : (k : ℕ) (nx ky : List ℕ) (c : ℕ) → seek k nx ky 0 c ≡ 0
 unfolding seek
@@ -104,7 +104,7 @@ module _ (nx ky : List ℕ) (s c : ℕ) where
         let e : k ≡ 0 = omega arith in
         e ∙ sym (i .rest ∙ ap (λ (t : ℕ). seek (length nx) nx ky t c) e ∙ seek-zero (length nx) nx ky c)
 
--- ---- a node is hung
+-- ---- a new child
 
 pub chain-linked : (fi nx ky : List ℕ) (n : ℕ) → Chains fi nx ky n → (q : ℕ) → q < n → Linked fi nx ky q
 chain-linked fi nx ky n ch q h =
@@ -116,24 +116,24 @@ chain-linked fi nx ky n ch q h =
       falling = λ k p l. ch .falling k p (omega arith);
     }
 
--- a node from which nothing hangs, and that hangs from none
+-- a node without children, and that is none
 pub chains-more : (fi nx ky : List ℕ) (n : ℕ) → Chains fi nx ky n → Room (n + 1) fi nx ky → Chains fi nx ky (n + 1)
 chains-more fi nx ky n ch room =
     record {
       room = room;
       heads = λ q h. head q h (decLe (suc q) n);
       falling = λ s p h. fall s p h (decLe (suc s) n);
-      bare = λ k h. ch .bare k (omega arith);
-      loose = λ k h. ch .loose k (omega arith);
+      firstsZero = λ k h. ch .firstsZero k (omega arith);
+      nextsZero = λ k h. ch .nextsZero k (omega arith);
     }
   where
     head : (q : ℕ) → q < n + 1 → Dec (q < n) → getD fi q 0 < n + 1
     head q h (yes y) = let g = ch .heads q y in omega arith
-    head q h (no y) = let g = ch .bare q (omega arith) in omega arith
+    head q h (no y) = let g = ch .firstsZero q (omega arith) in omega arith
 
     fall : (s : ℕ) → 0 < s → s < n + 1 → Dec (s < n) → getD nx s 0 < s
     fall s p h (yes y) = ch .falling s p y
-    fall s p h (no y) = let g = ch .loose s (omega arith) in omega arith
+    fall s p h (no y) = let g = ch .nextsZero s (omega arith) in omega arith
 
 module _ (fi nx ky : List ℕ) (q n c : ℕ) (l : q < n) (ch : Chains fi nx ky n) (room : Room (n + 1) fi nx ky) where
   abbrev fi′ : List ℕ
@@ -149,7 +149,7 @@ module _ (fi nx ky : List ℕ) (q n c : ℕ) (l : q < n) (ch : Chains fi nx ky n
   falls k h s p m = ch .falling s p (let g = ch .heads k h in omega arith)
 
   first-new : getD fi′ n 0 ≡ 0
-  first-new = getD-set-other fi q n n 0 (omega arith) ∙ ch .bare n (omega arith)
+  first-new = getD-set-other fi q n n 0 (omega arith) ∙ ch .firstsZero n (omega arith)
 
   first-parent : getD fi′ q 0 ≡ n
   first-parent = getD-set-same fi q n 0 (omega (arith, room .firsts))
@@ -182,8 +182,8 @@ module _ (fi nx ky : List ℕ) (q n c : ℕ) (l : q < n) (ch : Chains fi nx ky n
         };
         heads = λ k h. head k h (decLe (suc k) n);
         falling = λ s p h. fall s p h (decLe (suc s) n);
-        bare = λ k h. first-other k (omega arith) ∙ ch .bare k (omega arith);
-        loose = λ k h. getD-set-other nx n k (getD fi q 0) 0 (omega arith) ∙ ch .loose k (omega arith);
+        firstsZero = λ k h. first-other k (omega arith) ∙ ch .firstsZero k (omega arith);
+        nextsZero = λ k h. getD-set-other nx n k (getD fi q 0) 0 (omega arith) ∙ ch .nextsZero k (omega arith);
       }
     where
       head : (k : ℕ) → k < n + 1 → Dec (k < n) → getD fi′ k 0 < n + 1
@@ -210,8 +210,8 @@ module _ (fi nx ky : List ℕ) (q n c : ℕ) (l : q < n) (ch : Chains fi nx ky n
   one-less′ : suc (length nx - 1) ≡ length nx
   one-less′ = omega (arith, room .nexts)
 
-  pub attached-hung : Hung (childOf fi nx ky) (childOf fi′ nx′ ky′) q n c
-  attached-hung =
+  pub attached-child : Attached (childOf fi nx ky) (childOf fi′ nx′ ky′) q n c
+  attached-child =
       record {
         child =
             ap₂ (λ (m s : ℕ). seek m nx′ ky′ s c) (attached-alike .nexts ∙ sym one-less′) first-parent

@@ -15,7 +15,7 @@ use Rattle.tables.proofs.Trie.{startsAny}
 use Rattle.tables.proofs.Truth.{clash, true-eq, and-left, and-right, or-left-false, or-right-false}
 use Rattle.tables.proofs.Numbering.{numbered-is}
 use Rattle.side.proofs.Prefixes.{starts-take}
-use Rattle.count.specs.Tree.{nodes, runsOn, holder}
+use Rattle.count.specs.Tree.{nodes, hasSymbol, firstWith}
 
 -- ---- two strings
 
@@ -49,7 +49,7 @@ starts-snoc [] c = refl
 starts-snoc (x ∷ s) c = rw (eq-eqb x x refl) (starts-snoc s c)
 
 -- one symbol more
-pub starts-more : (s : Str) (c : ℕ) (w : Str) → starts s w ≡ true → starts (s ++ (c ∷ [])) w ≡ runsOn w (length s) c
+pub starts-more : (s : Str) (c : ℕ) (w : Str) → starts s w ≡ true → starts (s ++ (c ∷ [])) w ≡ hasSymbol w (length s) c
 starts-more [] c w a = refl
 starts-more (x ∷ s) c [] a = clash a refl
 starts-more (x ∷ s) c (y ∷ w) a = rw (eq-eqb x y (head-is x y s w a)) (starts-more s c w (rest-is x y s w a))
@@ -73,21 +73,21 @@ any-at s (w ∷ l) zero h a = or-left-false (starts s w) (startsAny s l) a
 any-at s (w ∷ l) (suc k) h a = any-at s l k (omega arith) (or-right-false (starts s w) (startsAny s l) a)
 
 module _ (s : Str) where
-  pub holder-lt : (l : List Str) → startsAny s l ≡ true → holder s l < length l
-  holder-lt [] a = clash a refl
-  holder-lt (w ∷ l) a = byBool (starts s w) (λ e. rw e (suc-le-suc zero-le)) (λ e. rw e (suc-le-suc (holder-lt l (rw e at a))))
+  pub first-lt : (l : List Str) → startsAny s l ≡ true → firstWith s l < length l
+  first-lt [] a = clash a refl
+  first-lt (w ∷ l) a = byBool (starts s w) (λ e. rw e (suc-le-suc zero-le)) (λ e. rw e (suc-le-suc (first-lt l (rw e at a))))
 
-  pub holder-is : (l : List Str) → startsAny s l ≡ true → starts s (getD l (holder s l) []) ≡ true
-  holder-is [] a = clash a refl
-  holder-is (w ∷ l) a = byBool (starts s w) (λ e. rw e e) (λ e. rw e (holder-is l (rw e at a)))
+  pub first-is : (l : List Str) → startsAny s l ≡ true → starts s (getD l (firstWith s l) []) ≡ true
+  first-is [] a = clash a refl
+  first-is (w ∷ l) a = byBool (starts s w) (λ e. rw e e) (λ e. rw e (first-is l (rw e at a)))
 
-  pub holder-old : (l : List Str) (p : Str) → startsAny s l ≡ true → holder s (l ++ (p ∷ [])) ≡ holder s l
-  holder-old [] p a = clash a refl
-  holder-old (w ∷ l) p a = byBool (starts s w) (λ e. rw e) (λ e. rw e (ap suc (holder-old l p (rw e at a))))
+  pub first-old : (l : List Str) (p : Str) → startsAny s l ≡ true → firstWith s (l ++ (p ∷ [])) ≡ firstWith s l
+  first-old [] p a = clash a refl
+  first-old (w ∷ l) p a = byBool (starts s w) (λ e. rw e) (λ e. rw e (ap suc (first-old l p (rw e at a))))
 
-  pub holder-new : (l : List Str) (p : Str) → startsAny s l ≡ false → starts s p ≡ true → holder s (l ++ (p ∷ [])) ≡ length l
-  holder-new [] p a b = rw b
-  holder-new (w ∷ l) p a b = byBool (starts s w) (λ e. clash refl (rw e at a)) (λ e. rw e (ap suc (holder-new l p (rw e at a) b)))
+  pub first-new : (l : List Str) (p : Str) → startsAny s l ≡ false → starts s p ≡ true → firstWith s (l ++ (p ∷ [])) ≡ length l
+  first-new [] p a b = rw b
+  first-new (w ∷ l) p a b = byBool (starts s w) (λ e. clash refl (rw e at a)) (λ e. rw e (ap suc (first-new l p (rw e at a) b)))
 
 -- a string is numbered where it starts a node
 pub any-node : (pats : List Str) (s : Str) → numbered (states pats) s ≡ startsAny s (nodes pats)

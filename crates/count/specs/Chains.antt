@@ -1,5 +1,5 @@
--- The nodes that hang from a node, as a chain: `first` has the latest of them, `next` the one before it from the same node, `key` by what a
--- node hangs. 0 ends a chain.
+-- The children of a node, as a chain: `first` has the latest child of a node, `next` the child before it of the same node, `key` the key of
+-- a child. 0 ends a chain.
 -- Assumes nothing.
 use mathlib.Core.Path.{_≡_}
 use mathlib.Core.Logic.{_≢_, _⊎_}
@@ -14,7 +14,7 @@ unfoldable pub seek : ℕ → List ℕ → List ℕ → ℕ → ℕ → ℕ
 seek zero nx ky s c = 0
 seek (suc k) nx ky s c = cond (eqb s 0) 0 (cond (eqb (getD ky s 0) c) s (seek k nx ky (getD nx s 0) c))
 
--- the node that hangs from q under c
+-- the child of q under c
 abbrev pub childOf : List ℕ → List ℕ → List ℕ → ℕ → ℕ → ℕ
 childOf fi nx ky q c = seek (length nx) nx ky (getD fi q 0) c
 
@@ -36,8 +36,8 @@ pub record Chains (fi nx ky : List ℕ) (n : ℕ) : Type 0 where
   pub room : Room n fi nx ky
   pub heads : (q : ℕ) → q < n → getD fi q 0 < n
   pub falling : (s : ℕ) → 0 < s → s < n → getD nx s 0 < s
-  pub bare : (k : ℕ) → n ≤ k → getD fi k 0 ≡ 0
-  pub loose : (k : ℕ) → n ≤ k → getD nx k 0 ≡ 0
+  pub firstsZero : (k : ℕ) → n ≤ k → getD fi k 0 ≡ 0
+  pub nextsZero : (k : ℕ) → n ≤ k → getD nx k 0 ≡ 0
 
 -- as long as before
 pub record Alike (fi nx ky fi′ nx′ ky′ : List ℕ) : Type 0 where
@@ -45,8 +45,8 @@ pub record Alike (fi nx ky fi′ nx′ ky′ : List ℕ) : Type 0 where
   pub nexts : length nx′ ≡ length nx
   pub keys : length ky′ ≡ length ky
 
--- node n hangs from q under c now, and nothing from n
-pub record Hung (look look′ : ℕ → ℕ → ℕ) (q n c : ℕ) : Type 0 where
+-- node n is the child of q under c now, and has none itself
+pub record Attached (look look′ : ℕ → ℕ → ℕ) (q n c : ℕ) : Type 0 where
   pub child : look′ q c ≡ n
   pub row : (e : ℕ) → look′ n e ≡ 0
   pub other : (k e : ℕ) → k < n → (k ≢ q) ⊎ (e ≢ c) → look′ k e ≡ look k e

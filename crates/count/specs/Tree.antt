@@ -1,4 +1,4 @@
--- The tree of some patterns: its nodes are the empty string and the patterns in order, and what hangs from a node runs on where the node does not.
+-- The tree of some patterns: its nodes are the empty string and the patterns in order. A child goes on where its parent does not.
 -- Assumes nothing.
 use mathlib.Core.Path.{_≡_}
 use Prim.Native.Nat.{ℕ, zero, suc, _+_, _*_, _≤_, _<_}
@@ -25,29 +25,29 @@ nodeAt ps ls zero = []
 nodeAt ps ls (suc i) = patternAt ps ls i
 
 -- the string w has the symbol c after its first m
-abbrev pub runsOn : Str → ℕ → ℕ → Bool
-runsOn w m c = starts (c ∷ []) (drop m w)
+abbrev pub hasSymbol : Str → ℕ → ℕ → Bool
+hasSymbol w m c = starts (c ∷ []) (drop m w)
 
--- from a node with the string w on: along it, or along what hangs from it; 0 where there is nothing
-abbrev pub onwardFrom : Str → (ℕ → ℕ → ℕ) → ℕ → ℕ → ℕ → ℕ
-onwardFrom w hung q m c = cond (runsOn w m c) q (hung q (keyOf m c))
+-- after node q, which has the string w: q itself, or a child of it; 0 where there is none
+abbrev pub nextNode : Str → (ℕ → ℕ → ℕ) → ℕ → ℕ → ℕ → ℕ
+nextNode w look q m c = cond (hasSymbol w m c) q (look q (keyOf m c))
 
 -- the first of some strings that s starts
-abbrev pub holder : Str → List Str → ℕ
-holder s [] = 0
-holder s (w ∷ l) = cond (starts s w) 0 (suc (holder s l))
+abbrev pub firstWith : Str → List Str → ℕ
+firstWith s [] = 0
+firstWith s (w ∷ l) = cond (starts s w) 0 (suc (firstWith s l))
 
 -- From the first node that a numbered string s starts, c leads to the first one that s and c start, and to 0 where these are not numbered.
-pub record Tree (pats : List Str) (hung : ℕ → ℕ → ℕ) : Type 0 where
+pub record Tree (pats : List Str) (look : ℕ → ℕ → ℕ) : Type 0 where
   pub child : (s : Str) (c : ℕ) → numbered (states pats) s ≡ true → c < rowSize
-      → onwardFrom (getD (nodes pats) (holder s (nodes pats)) []) hung (holder s (nodes pats)) (length s) c
-      ≡ cond (numbered (states pats) (s ++ (c ∷ []))) (holder (s ++ (c ∷ [])) (nodes pats)) 0
+      → nextNode (getD (nodes pats) (firstWith s (nodes pats)) []) look (firstWith s (nodes pats)) (length s) c
+      ≡ cond (numbered (states pats) (s ++ (c ∷ []))) (firstWith (s ++ (c ∷ [])) (nodes pats)) 0
 
 -- where p branches off: no longer prefix of it is numbered
 pub record Followed (pats : List Str) (p : Str) (r : Branch) : Type 0 where
   pub reached : r .depth ≤ length p
   pub has : numbered (states pats) (take (r .depth) p) ≡ true
-  pub node : r .node ≡ holder (take (r .depth) p) (nodes pats)
+  pub node : r .node ≡ firstWith (take (r .depth) p) (nodes pats)
   pub most : r .depth < length p → numbered (states pats) (take (r .depth + 1) p) ≡ false
 
 -- the tree of the first n patterns, and r their states

@@ -1,25 +1,25 @@
 // How many states the patterns of one side have, counted in a small tree of its own: no lent memory is touched.
-// A node is a pattern and not a state: node i + 1 is pattern i, and node 0 the empty string. A pattern runs along the nodes before it as
-// far as they have its symbols, and hangs from the last of them, by the depth and the symbol at which it leaves that one. What is left of
-// it then are its new states.
+// It is a compressed trie, whose nodes are patterns and not states: node i + 1 is pattern i, and node 0 the empty string. A pattern follows
+// the nodes before it as long as they have its symbols, and becomes a child of the last of them, under the depth and the symbol at which it
+// leaves that one. The rest of its symbols are its new states.
 ghost use mathlib.Core.Path.{_≡_};
 ghost use Prim.Native.Nat.{ℕ, _+_, _*_, _≤_, _<_};
 ghost use lib.ListN.{length, getD, set};
 ghost use Rattle.tables.specs.Words.{rowSize};
 ghost use Rattle.side.specs.Patterns.{maxPattern, patternAt, patternsOf, Patterns, stateCount};
 ghost use Rattle.count.specs.Chains.{seek, childOf, Room, Linked, Chains};
-ghost use Rattle.count.specs.Tree.{keyOf, nodeAt, runsOn, onwardFrom, Tree, Followed, Counted};
+ghost use Rattle.count.specs.Tree.{keyOf, nodeAt, hasSymbol, nextNode, Tree, Followed, Counted};
 
 // A node for each pattern, and one for the empty string.
 const NODES: usize = rules::MAX_RULES + 1;
 
-// Where a pattern branches off from the nodes before it: the last of them that it runs along, and how many of its symbols they have.
+// Where a pattern branches off from the nodes before it: the last node that it follows, and how many of its symbols it has in common with it.
 struct Branch {
     node: usize,
     depth: usize,
 }
 
-// ---- the nodes that hang from a node, each by its key
+// ---- the children of a node, each under its key
 
 // The key of the symbol c at a depth.
 fn key_of(depth: usize, c: u8) -> u16
@@ -44,7 +44,7 @@ fn find(next: &[u16], key: &[u16], s: usize, c: u16) -> usize
     k
 }
 
-// Node `n` becomes the latest that hangs from `q`.
+// Node `n` becomes the latest child of `q`.
 fn attach(first: &mut [u16], next: &mut [u16], key: &mut [u16], q: usize, n: usize, c: u16)
     requires { ⌜ (q < n) × (n < 65536) × Room (n + 1) (now first) (now next) (now key) ⌝ }
     ensures first { λ _. ⌜ now (first .exit) ≡ set (now (first .entry)) q n ⌝ }
@@ -59,9 +59,9 @@ fn attach(first: &mut [u16], next: &mut [u16], key: &mut [u16], q: usize, n: usi
 // ---- one pattern
 
 // Whether node q has the symbol c at depth m.
-fn runs_on(pats: &[u8], lens: &[u8], q: usize, m: usize, c: u8) -> bool
+fn has_symbol(pats: &[u8], lens: &[u8], q: usize, m: usize, c: u8) -> bool
     requires { ⌜ Patterns (now pats) (now lens) q × (m < maxPattern) ⌝ }
-    ensures { λ r. ⌜ r ≡ runsOn (nodeAt (now (pats .entry)) (now (lens .entry)) q) m c ⌝ }
+    ensures { λ r. ⌜ r ≡ hasSymbol (nodeAt (now (pats .entry)) (now (lens .entry)) q) m c ⌝ }
 {
     if q == 0 {
         return false;
@@ -73,8 +73,8 @@ fn runs_on(pats: &[u8], lens: &[u8], q: usize, m: usize, c: u8) -> bool
     c == pats[side::PATTERN * i + m]
 }
 
-// The node along which a pattern goes on from node q with the symbol c at depth m: q itself, or one that hangs from it; 0 where there is none.
-fn onward(
+// The node that a pattern follows after node q with the symbol c at depth m: q itself, or a child of it; 0 where there is none.
+fn next_node(
     first: &[u16],
     next: &[u16],
     key: &[u16],
@@ -85,9 +85,9 @@ fn onward(
     c: u8,
 ) -> usize
     requires { ⌜ Patterns (now pats) (now lens) q × (m < maxPattern) × (c < rowSize) × Linked (now first) (now next) (now key) q ⌝ }
-    ensures { λ r. ⌜ r ≡ onwardFrom (nodeAt (now (pats .entry)) (now (lens .entry)) q) (childOf (now (first .entry)) (now (next .entry)) (now (key .entry))) q m c ⌝ }
+    ensures { λ r. ⌜ r ≡ nextNode (nodeAt (now (pats .entry)) (now (lens .entry)) q) (childOf (now (first .entry)) (now (next .entry)) (now (key .entry))) q m c ⌝ }
 {
-    if runs_on(pats, lens, q, m, c) {
+    if has_symbol(pats, lens, q, m, c) {
         return q;
     }
     find(next, key, numbers::wide16(first[q]), key_of(m, c))
@@ -103,7 +103,7 @@ fn follow(first: &[u16], next: &[u16], key: &[u16], pats: &[u8], lens: &[u8], i:
     let mut q: usize = 0;
     let mut m: usize = 0;
     while m < len {
-        let r = onward(first, next, key, pats, lens, q, m, pats[a + m]);
+        let r = next_node(first, next, key, pats, lens, q, m, pats[a + m]);
         if r == 0 {
             return Branch { node: q, depth: m };
         }

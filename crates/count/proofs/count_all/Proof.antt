@@ -22,7 +22,7 @@ loop-holds : tie.Need-loop-holds Inv-loop μ-loop
 loop-holds c = (omega arith, F.first _ _ _ _ _ (c .before .before .before .before .before .pre .2))
 
 count-one-requires : tie.Need-count-one-requires Inv-loop μ-loop
-count-one-requires c κs = 
+count-one-requires c κs =
     let l = c .before .before .before .before .loop in
     let st = c .before .before .before .before .before .before .before .before .before .before in
     let h : l .i + 1 ≤ st .args .n = omega (arith, c .before .before .before .loop-test .taken) in (
@@ -50,7 +50,7 @@ same-length-3 : tie.Need-same-length-3 Inv-loop μ-loop
 same-length-3 c = c .before .loop .inv .1 .alike .keys
 
 returns : tie.Need-returns Inv-loop μ-loop
-returns c = 
+returns c =
     let st = c .before .before .before .before .before .before .before in
     c .before .loop .inv .1 .count ∙ ap (stateCount (st .args .pats .now) (st .args .lens .now)) (let e : c .before .loop .i ≡ st .args .n = omega (arith, c .loop-test .left, c .before .loop .inv .0) in e)
 

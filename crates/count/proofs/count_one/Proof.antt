@@ -1,4 +1,4 @@
--- One pattern more: what it shares with the nodes is no new state, and the rest of it hangs from the last of them.
+-- One pattern more: the symbols that it has in common with a node give no state, and each of the others gives one.
 -- Assumes nothing.
 use mathlib.Core.Path.{ap}
 use Prim.Native.Nat.{ℕ, _+_, _-_}
@@ -64,7 +64,7 @@ same-length-6 : tie.Need-same-length-6
 same-length-6 c = search needs
 
 returns-2 : tie.Need-returns-2
-returns-2 c = 
+returns-2 c =
     F.count-more _ _ _ (c .before .before .before .before .before .before .before .before .before .before .before .before .before .before .before .before .before .before .before .before .before .before .before .before .pre .0) _ _ _ (c .before .before .before .before .before .before .before .before .before .before .before .before .before .before .before .before .before .before .before .before .before .before .before .before .pre .2 .chains) (c .before .before .before .before .before .before .before .before .before .before .before .before .before .before .before .before .before .before .before .before .before .before .before .before .pre .2 .tree) _ (c .before .before .before .before .before .before .before .before .before .before .before .before .before .before .before .before .before .before .before .before .before .before .before .before .pre .2 .count) (c .before .before .before .before .before .before .before .before .before .before .before .before .before .before .before .before .before .before .before .before .before .before .before .before .pre .1) _ (c .before .before .before .before .before .before .before .before .before .before .before .before .before .before .before .follow .ensures) (omega (arith, c .before .before .before .before .before .before .before .before .before .before .before .before .if1 .left, c .before .before .before .before .before .before .before .before .before .before .before .before .before .wide .ensures .0)) _ (c .before .before .before .before .before .before .before .key-of .ensures) _
     (ap (λ (k : ℕ). c .before .before .before .before .before .before .before .before .before .before .before .before .before .before .before .before .before .before .before .before .before .before .before .before .args .count + (k - c .before .before .before .before .before .before .before .before .before .before .before .before .before .before .before .follow .result .depth)) (c .before .before .before .before .before .before .before .before .before .before .before .before .before .wide .ensures .0)) _ _ _ (c .before .before .before .before .before .before .attach .ensures .0) (c .before .before .before .before .before .before .attach .ensures .1 .0) (c .before .before .before .before .before .before .attach .ensures .1 .1)
 

@@ -18,7 +18,7 @@ slice-aggregate-count-all-3 : tie.Need-slice-aggregate-count-all-3
 slice-aggregate-count-all-3 c = search needs
 
 count-all-requires : tie.Need-count-all-requires
-count-all-requires c κs = 
+count-all-requires c κs =
     let pre = c .before .before .before .before .before .pre in
     (pre, zero-room (maxRules + 1) _ (omega (arith, pre .few)), zero-chains (maxRules + 1) (omega arith))
 

@@ -26,17 +26,17 @@ wide-requires c κs = search needs
 loop-holds : tie.Need-loop-holds Inv-loop μ-loop
 loop-holds c = F.begin _ _
 
-add-onward : tie.Need-add-onward Inv-loop μ-loop
-add-onward c = omega (arith, c .before .before .wide .ensures .0, c .loop-test .taken, c .before .before .before .before .before .before .before .before .before .pre .0 .short (c .before .before .before .before .before .before .before .before .before .args .i) (omega arith), c .before .before .before .before .before .before .before .before .before .pre .0 .few)
+add-next-node : tie.Need-add-next-node Inv-loop μ-loop
+add-next-node c = omega (arith, c .before .before .wide .ensures .0, c .loop-test .taken, c .before .before .before .before .before .before .before .before .before .pre .0 .short (c .before .before .before .before .before .before .before .before .before .args .i) (omega arith), c .before .before .before .before .before .before .before .before .before .pre .0 .few)
 
-shared-slice-read-onward : tie.Need-shared-slice-read-onward Inv-loop μ-loop
-shared-slice-read-onward c = omega (arith, c .before .before .before .wide .ensures .0, c .before .loop-test .taken, c .before .before .before .before .before .before .before .before .before .before .pre .0 .short (c .before .before .before .before .before .before .before .before .before .before .args .i) (omega arith), c .before .before .before .before .before .before .before .before .before .before .pre .0 .room)
+shared-slice-read-next-node : tie.Need-shared-slice-read-next-node Inv-loop μ-loop
+shared-slice-read-next-node c = omega (arith, c .before .before .before .wide .ensures .0, c .before .loop-test .taken, c .before .before .before .before .before .before .before .before .before .before .pre .0 .short (c .before .before .before .before .before .before .before .before .before .before .args .i) (omega arith), c .before .before .before .before .before .before .before .before .before .before .pre .0 .room)
 
-onward-requires : tie.Need-onward-requires Inv-loop μ-loop
-onward-requires c κs = F.asks _ _ _ (c .before .before .before .before .before .before .before .before .before .before .pre .0) _ _ _ (c .before .before .before .before .before .before .before .before .before .before .pre .1) (c .before .before .before .before .before .before .before .before .before .before .pre .2) _ _ (c .before .before .loop .inv) (omega (arith, c .before .before .before .wide .ensures .0, c .before .loop-test .taken))
+next-node-requires : tie.Need-next-node-requires Inv-loop μ-loop
+next-node-requires c κs = F.asks _ _ _ (c .before .before .before .before .before .before .before .before .before .before .pre .0) _ _ _ (c .before .before .before .before .before .before .before .before .before .before .pre .1) (c .before .before .before .before .before .before .before .before .before .before .pre .2) _ _ (c .before .before .loop .inv) (omega (arith, c .before .before .before .wide .ensures .0, c .before .loop-test .taken))
 
 returns : tie.Need-returns Inv-loop μ-loop
-returns c = F.stopped _ _ _ (c .before .before .before .before .before .before .before .before .before .before .before .before .pre .0) _ _ _ (c .before .before .before .before .before .before .before .before .before .before .before .before .pre .1) (c .before .before .before .before .before .before .before .before .before .before .before .before .pre .2) _ _ (c .before .before .before .before .loop .inv) (omega (arith, c .before .before .before .before .before .wide .ensures .0, c .before .before .before .loop-test .taken)) _ (c .before .onward .ensures) (c .if1 .taken)
+returns c = F.stopped _ _ _ (c .before .before .before .before .before .before .before .before .before .before .before .before .pre .0) _ _ _ (c .before .before .before .before .before .before .before .before .before .before .before .before .pre .1) (c .before .before .before .before .before .before .before .before .before .before .before .before .pre .2) _ _ (c .before .before .before .before .loop .inv) (omega (arith, c .before .before .before .before .before .wide .ensures .0, c .before .before .before .loop-test .taken)) _ (c .before .next-node .ensures) (c .if1 .taken)
 
 add-m : tie.Need-add-m Inv-loop μ-loop
 add-m c = search needs
@@ -45,7 +45,7 @@ loop-less : tie.Need-loop-less Inv-loop μ-loop
 loop-less c = search needs
 
 loop-again : tie.Need-loop-again Inv-loop μ-loop
-loop-again c = F.next _ _ _ (c .before .before .before .before .before .before .before .before .before .before .before .before .pre .0) _ _ _ (c .before .before .before .before .before .before .before .before .before .before .before .before .pre .1) (c .before .before .before .before .before .before .before .before .before .before .before .before .pre .2) _ _ (c .before .before .before .before .loop .inv) (omega (arith, c .before .before .before .before .before .wide .ensures .0, c .before .before .before .loop-test .taken)) _ (c .before .onward .ensures) (c .if1 .left)
+loop-again c = F.next _ _ _ (c .before .before .before .before .before .before .before .before .before .before .before .before .pre .0) _ _ _ (c .before .before .before .before .before .before .before .before .before .before .before .before .pre .1) (c .before .before .before .before .before .before .before .before .before .before .before .before .pre .2) _ _ (c .before .before .before .before .loop .inv) (omega (arith, c .before .before .before .before .before .wide .ensures .0, c .before .before .before .loop-test .taken)) _ (c .before .next-node .ensures) (c .if1 .left)
 
 returns-2 : tie.Need-returns-2 Inv-loop μ-loop
 returns-2 c = F.ended _ _ _ (c .before .before .before .before .before .before .before .before .before .pre .0) _ _ _ (c .before .before .before .before .before .before .before .before .before .pre .1) (c .before .before .before .before .before .before .before .before .before .pre .2) _ _ (c .before .loop .inv) (omega (arith, c .before .before .wide .ensures .0, c .loop-test .left))
@@ -60,9 +60,9 @@ follow-spec =
     shared-slice-read-wide
     wide-requires
     loop-holds
-    add-onward
-    shared-slice-read-onward
-    onward-requires
+    add-next-node
+    shared-slice-read-next-node
+    next-node-requires
     returns
     add-m
     loop-less

@@ -1,4 +1,4 @@
--- Along the node itself, or along what hangs from it.
+-- The node itself, or a child of it.
 -- Assumes nothing.
 use mathlib.Core.Path.{sym, ap₂, _∙_}
 use Prim.Native.Nat.{ℕ}
@@ -6,14 +6,14 @@ use lib.ListN.{length}
 use Rattle.count.specs.Chains.{seek}
 use Rattle.count.proofs.Following as F
 use borrow.Author.Needs.{needs}
-use Rattle.count.proofs.onward.Statement.{statement}
-use Rattle.count.proofs.onward.Tie as tie
+use Rattle.count.proofs.next_node.Statement.{statement}
+use Rattle.count.proofs.next_node.Tie as tie
 
-runs-on-requires : tie.Need-runs-on-requires
-runs-on-requires c κs = search needs
+has-symbol-requires : tie.Need-has-symbol-requires
+has-symbol-requires c κs = search needs
 
 returns : tie.Need-returns
-returns c = rw (sym (c .before .runs-on .ensures) ∙ c .if1 .taken)
+returns c = rw (sym (c .before .has-symbol .ensures) ∙ c .if1 .taken)
 
 mul-wide16 : tie.Need-mul-wide16
 mul-wide16 c = search needs
@@ -31,16 +31,16 @@ find-requires : tie.Need-find-requires
 find-requires c κs = F.may-seek _ _ _ _ _ (c .before .before .before .before .before .before .before .before .before .before .pre .3) (c .before .wide16 .ensures .0)
 
 returns-2 : tie.Need-returns-2
-returns-2 c = 
+returns-2 c =
     let st = c .before .before .before .before .before .before .before .before .before .before .before in
-    rw (sym (c .before .before .before .before .before .runs-on .ensures) ∙ c .before .before .before .before .if1 .left)
+    rw (sym (c .before .before .before .before .before .has-symbol .ensures) ∙ c .before .before .before .before .if1 .left)
     (c .find .ensures ∙ ap₂ (λ (s k : ℕ). seek (length (st .args .next .now)) (st .args .next .now) (st .args .key .now) s k) (c .before .before .wide16 .ensures .0) (c .before .key-of .ensures))
 
-pub onward-spec : {M : Type 1} → statement M
-onward-spec =
+pub next-node-spec : {M : Type 1} → statement M
+next-node-spec =
     tie.close
     (tie.spec
-    runs-on-requires
+    has-symbol-requires
     returns
     mul-wide16
     shared-slice-read-wide16

@@ -1,15 +1,15 @@
--- Whether a node goes on with a symbol: the empty string does not, nor does a pattern that has ended.
+-- Whether a node has a symbol next: the empty string does not, nor does a pattern that has ended.
 -- Assumes nothing.
 use native.Mathlib.Omega.{arith}
 use Rattle.count.proofs.Following as F
 use mathlib.Core.Path.{_≡_}
 use Prim.Native.Nat.{suc, _-_}
 use borrow.Author.Needs.{needs}
-use Rattle.count.proofs.runs_on.Statement.{statement}
-use Rattle.count.proofs.runs_on.Tie as tie
+use Rattle.count.proofs.has_symbol.Statement.{statement}
+use Rattle.count.proofs.has_symbol.Tie as tie
 
 returns : tie.Need-returns
-returns c = F.runs-none _ _ (c .before .before .before .args .q) (c .before .before .before .args .m) (c .before .before .before .args .c) (c .if1 .taken)
+returns c = F.symbol-none _ _ (c .before .before .before .args .q) (c .before .before .before .args .m) (c .before .before .before .args .c) (c .if1 .taken)
 
 sub-i : tie.Need-sub-i
 sub-i c = search needs
@@ -24,7 +24,7 @@ returns-2 : tie.Need-returns-2
 returns-2 c =
     let st = c .before .before .before .before .before .before in
     let e : st .args .q ≡ suc (st .args .q - 1) = omega (arith, c .before .before .before .if1 .left) in
-    F.runs-past _ _ _ (st .pre .0) (st .args .m) (st .args .c) (st .args .q - 1) e (omega (arith, c .if2 .taken, c .before .wide .ensures .0))
+    F.symbol-past _ _ _ (st .pre .0) (st .args .m) (st .args .c) (st .args .q - 1) e (omega (arith, c .if2 .taken, c .before .wide .ensures .0))
 
 mul-result : tie.Need-mul-result
 mul-result c = search needs
@@ -39,10 +39,10 @@ returns-3 : tie.Need-returns-3
 returns-3 c =
     let st = c .before .before .before .before .before .before .before in
     let e : st .args .q ≡ suc (st .args .q - 1) = omega (arith, c .before .before .before .before .if1 .left) in
-    F.runs-at _ _ _ (st .pre .0) (st .args .m) (st .args .c) (st .args .q - 1) e (omega (arith, c .before .if2 .left, c .before .before .wide .ensures .0))
+    F.symbol-at _ _ _ (st .pre .0) (st .args .m) (st .args .c) (st .args .q - 1) e (omega (arith, c .before .if2 .left, c .before .before .wide .ensures .0))
 
-pub runs-on-spec : {M : Type 1} → statement M
-runs-on-spec =
+pub has-symbol-spec : {M : Type 1} → statement M
+has-symbol-spec =
     tie.close
     (tie.spec
     returns
