@@ -8,6 +8,7 @@ use mathlib.Core.Bool.{Bool, true}
 use mathlib.Core.List.{List, [], _∷_, _++_, map, map-append}
 use lib.ListN.{length, getD, take, drop, set, replicate, length-replicate, length-set, length-take, length-drop}
 use lib.Seq.{getD-set-same, getD-set-other, getD-take, getD-drop, take-suc, take-all, ext-getD}
+use Rattle.side.proofs.Writing.{zeros}
 use Rattle.rules.specs.Limits.{maxRules}
 use Rattle.tables.specs.Words.{rowSize}
 use Rattle.image.specs.State.{noEntry}
@@ -118,10 +119,5 @@ pub laid-at : {d : List ℕ} {right : Bool} {ps₀ ls₀ ps ls : List ℕ} {i : 
 laid-at {d} {right} {ps₀} {ls₀} {ps} {ls} {i} n e y = subst (Laying d right ps₀ ls₀ ps ls) e y
 
 -- arrays of zeros are scratch memory
-zeros : (n k : ℕ) → getD (replicate n 0) k 0 < rowSize
-zeros zero k = omega arith
-zeros (suc n) zero = omega arith
-zeros (suc n) (suc k) = zeros n k
-
 pub cleared : (m n : ℕ) → maxPattern * maxRules ≤ m → maxRules ≤ n → Scratch (replicate m 0) (replicate n 0)
-cleared m n a b = record { room = omega (arith, length-replicate {A = ℕ} m 0); lens = omega (arith, length-replicate {A = ℕ} n 0); low = zeros m }
+cleared m n a b = record { room = omega (arith, length-replicate {A = ℕ} m 0); lens = omega (arith, length-replicate {A = ℕ} n 0); low = λ k. rw (zeros m k) (omega arith) }

@@ -10,6 +10,7 @@ use mathlib.Core.List.{List, [], _∷_, _++_}
 use lib.Dec.{eqb}
 use lib.ListN.{length, getD, take, drop, set, replicate, length-replicate}
 use lib.Seq.{drop-cons, take-suc, take-all, length-take-le}
+use Rattle.side.proofs.Writing.{zeros}
 use Rattle.rules.proofs.Cases.{byBool}
 use Rattle.reading.specs.Fitting.{Str, starts}
 use Rattle.tables.specs.States.{states, numbered}
@@ -288,11 +289,6 @@ module _ (ps ls : List ℕ) (n i : ℕ) (fi nx ky : List ℕ) (count : ℕ) (fi�
       }
 
 -- ---- arrays of zeros
-
-zeros : (n k : ℕ) → _≡_ {A = ℕ} (getD (replicate n 0) k 0) 0
-zeros zero k = refl
-zeros (suc n) zero = refl
-zeros (suc n) (suc k) = zeros n k
 
 pub zero-room : (n k : ℕ) → k ≤ n → Room k (replicate n 0) (replicate n 0) (replicate n 0)
 zero-room n k h = let e = length-replicate {A = ℕ} n 0 in record { firsts = omega arith; nexts = omega arith; keys = omega arith }
