@@ -3,3 +3,4 @@ pub mod Branching
 pub mod Adding
 pub mod Seeking
 pub mod Following
+pub mod Counting

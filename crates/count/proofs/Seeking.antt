@@ -79,9 +79,6 @@ module _ (nx ky : List ℕ) (s c : ℕ) where
   begin = record { below = omega arith; rest = refl }
 
   module _ (f : Falling nx s) (room : s < length nx) (k : ℕ) (i : Seeking k) where
-    at-length : (m : ℕ) → m ≡ length nx → 0 < m → seek m nx ky s c ≡ seek m nx ky k c
-    at-length m e p = subst (λ (n : ℕ). seek n nx ky s c ≡ seek n nx ky k c) (sym e) (i .rest)
-
     one-less : suc (length nx - 1) ≡ length nx
     one-less = omega arith
 

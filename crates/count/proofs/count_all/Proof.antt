@@ -8,7 +8,7 @@ use borrow.Author.Needs.{needs}
 use Rattle.side.specs.Patterns.{stateCount}
 use Rattle.side.proofs.Inserting.{patterns-less}
 use Rattle.count.specs.Tree.{Counted}
-use Rattle.count.proofs.Following as F
+use Rattle.count.proofs.Counting as C
 use Rattle.count.proofs.count_all.Statement.{statement}
 use Rattle.count.proofs.count_all.Tie as tie
 
@@ -19,7 +19,7 @@ abbrev μ-loop : tie.MeasureT-loop
 μ-loop first₀ next₀ key₀ pats lens n count₀ i₀ first next key count i = n - i
 
 loop-holds : tie.Need-loop-holds Inv-loop μ-loop
-loop-holds c = (omega arith, F.first _ _ _ _ _ (c .before .before .before .before .before .pre .2))
+loop-holds c = (omega arith, C.first _ _ _ _ _ (c .before .before .before .before .before .pre .2))
 
 count-one-requires : tie.Need-count-one-requires Inv-loop μ-loop
 count-one-requires c κs =
@@ -27,8 +27,8 @@ count-one-requires c κs =
     let st = c .before .before .before .before .before .before .before .before .before .before in
     let h : l .i + 1 ≤ st .args .n = omega (arith, c .before .before .before .loop-test .taken) in (
       patterns-less (st .args .pats .now) (st .args .lens .now) (l .i + 1) (st .args .n) h (st .pre .0),
-      F.room-next _ _ _ _ _ _ _ _ _ _ _ (l .inv .1) (st .pre .1) (omega arith),
-      F.again _ _ (st .args .n) _ _ _ _ _ _ _ _ (l .inv .1),
+      C.room-next _ _ _ _ _ _ _ _ _ _ _ (l .inv .1) (st .pre .1) (omega arith),
+      C.again _ _ (st .args .n) _ _ _ _ _ _ _ _ (l .inv .1),
     )
 
 add-i : tie.Need-add-i Inv-loop μ-loop
@@ -38,7 +38,7 @@ loop-less : tie.Need-loop-less Inv-loop μ-loop
 loop-less c = search needs
 
 loop-again : tie.Need-loop-again Inv-loop μ-loop
-loop-again c = (omega (arith, c .before .before .before .before .before .before .before .before .before .before .loop-test .taken), F.another _ _ (c .before .before .before .before .before .before .before .before .before .before .before .before .before .before .before .before .before .args .n) _ _ _ _ _ _ _ _ (c .before .before .before .before .before .before .before .before .before .before .before .loop .inv .1) _ _ _ _ (c .before .before .before .before .before .before .count-one .ensures))
+loop-again c = (omega (arith, c .before .before .before .before .before .before .before .before .before .before .loop-test .taken), C.another _ _ (c .before .before .before .before .before .before .before .before .before .before .before .before .before .before .before .before .before .args .n) _ _ _ _ _ _ _ _ (c .before .before .before .before .before .before .before .before .before .before .before .loop .inv .1) _ _ _ _ (c .before .before .before .before .before .before .count-one .ensures))
 
 same-length : tie.Need-same-length Inv-loop μ-loop
 same-length c = c .before .loop .inv .1 .alike .firsts

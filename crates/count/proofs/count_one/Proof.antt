@@ -4,7 +4,7 @@ use mathlib.Core.Path.{ap}
 use Prim.Native.Nat.{ℕ, _+_, _-_}
 use native.Mathlib.Omega.{arith}
 use Rattle.side.proofs.Inserting.{count-few}
-use Rattle.count.proofs.Following as F
+use Rattle.count.proofs.Counting as C
 use borrow.Author.Needs.{needs}
 use Rattle.count.proofs.count_one.Statement.{statement}
 use Rattle.count.proofs.count_one.Tie as tie
@@ -28,7 +28,7 @@ same-length-3 : tie.Need-same-length-3
 same-length-3 c = search needs
 
 returns : tie.Need-returns
-returns c = F.count-same _ _ _ (c .before .before .before .before .before .before .before .before .before .before .before .before .pre .0) _ _ _ (c .before .before .before .before .before .before .before .before .before .before .before .before .pre .2 .chains) (c .before .before .before .before .before .before .before .before .before .before .before .before .pre .2 .tree) _ (c .before .before .before .before .before .before .before .before .before .before .before .before .pre .2 .count) (c .before .before .before .before .before .before .before .before .before .before .before .before .pre .1) _ (c .before .before .before .follow .ensures) (omega (arith, c .if1 .taken, c .before .wide .ensures .0))
+returns c = C.count-same _ _ _ (c .before .before .before .before .before .before .before .before .before .before .before .before .pre .0) _ _ _ (c .before .before .before .before .before .before .before .before .before .before .before .before .pre .2 .chains) (c .before .before .before .before .before .before .before .before .before .before .before .before .pre .2 .tree) _ (c .before .before .before .before .before .before .before .before .before .before .before .before .pre .2 .count) (c .before .before .before .before .before .before .before .before .before .before .before .before .pre .1) _ (c .before .before .before .follow .ensures) (omega (arith, c .if1 .taken, c .before .wide .ensures .0))
 
 mul-c : tie.Need-mul-c
 mul-c c = search needs
@@ -43,16 +43,16 @@ add-attach : tie.Need-add-attach
 add-attach c = search needs
 
 key-of-requires : tie.Need-key-of-requires
-key-of-requires c κs = F.branch-symbol _ _ _ (c .before .before .before .before .before .before .before .before .before .before .before .before .before .before .before .before .pre .0) _ _ _ (c .before .before .before .before .before .before .before .before .before .before .before .before .before .before .before .before .pre .2 .chains) (c .before .before .before .before .before .before .before .before .before .before .before .before .before .before .before .before .pre .2 .tree) _ (c .before .before .before .before .before .before .before .before .before .before .before .before .before .before .before .before .pre .2 .count) (c .before .before .before .before .before .before .before .before .before .before .before .before .before .before .before .before .pre .1) _ (c .before .before .before .before .before .before .before .follow .ensures) (omega (arith, c .before .before .before .before .if1 .left, c .before .before .before .before .before .wide .ensures .0))
+key-of-requires c κs = C.branch-symbol _ _ _ (c .before .before .before .before .before .before .before .before .before .before .before .before .before .before .before .before .pre .0) _ _ _ (c .before .before .before .before .before .before .before .before .before .before .before .before .before .before .before .before .pre .2 .chains) (c .before .before .before .before .before .before .before .before .before .before .before .before .before .before .before .before .pre .2 .tree) _ (c .before .before .before .before .before .before .before .before .before .before .before .before .before .before .before .before .pre .2 .count) (c .before .before .before .before .before .before .before .before .before .before .before .before .before .before .before .before .pre .1) _ (c .before .before .before .before .before .before .before .follow .ensures) (omega (arith, c .before .before .before .before .if1 .left, c .before .before .before .before .before .wide .ensures .0))
 
 attach-requires : tie.Need-attach-requires
-attach-requires c κs = (F.branch-lt _ _ _ (c .before .before .before .before .before .before .before .before .before .before .before .before .before .before .before .before .before .pre .0) _ _ _ (c .before .before .before .before .before .before .before .before .before .before .before .before .before .before .before .before .before .pre .2 .chains) (c .before .before .before .before .before .before .before .before .before .before .before .before .before .before .before .before .before .pre .2 .tree) _ (c .before .before .before .before .before .before .before .before .before .before .before .before .before .before .before .before .before .pre .2 .count) (c .before .before .before .before .before .before .before .before .before .before .before .before .before .before .before .before .before .pre .1) _ (c .before .before .before .before .before .before .before .before .follow .ensures), omega (arith, c .before .before .before .before .before .before .before .before .before .before .before .before .before .before .before .before .before .pre .0 .few), F.room-more _ _ _ (c .before .before .before .before .before .before .before .before .before .before .before .before .before .before .before .before .before .pre .0) _ _ _ (c .before .before .before .before .before .before .before .before .before .before .before .before .before .before .before .before .before .pre .2 .chains) (c .before .before .before .before .before .before .before .before .before .before .before .before .before .before .before .before .before .pre .2 .tree) _ (c .before .before .before .before .before .before .before .before .before .before .before .before .before .before .before .before .before .pre .2 .count) (c .before .before .before .before .before .before .before .before .before .before .before .before .before .before .before .before .before .pre .1) _ (c .before .before .before .before .before .before .before .before .follow .ensures))
+attach-requires c κs = (C.branch-lt _ _ _ (c .before .before .before .before .before .before .before .before .before .before .before .before .before .before .before .before .before .pre .0) _ _ _ (c .before .before .before .before .before .before .before .before .before .before .before .before .before .before .before .before .before .pre .2 .chains) (c .before .before .before .before .before .before .before .before .before .before .before .before .before .before .before .before .before .pre .2 .tree) _ (c .before .before .before .before .before .before .before .before .before .before .before .before .before .before .before .before .before .pre .2 .count) (c .before .before .before .before .before .before .before .before .before .before .before .before .before .before .before .before .before .pre .1) _ (c .before .before .before .before .before .before .before .before .follow .ensures), omega (arith, c .before .before .before .before .before .before .before .before .before .before .before .before .before .before .before .before .before .pre .0 .few), C.room-more _ _ _ (c .before .before .before .before .before .before .before .before .before .before .before .before .before .before .before .before .before .pre .0) _ _ _ (c .before .before .before .before .before .before .before .before .before .before .before .before .before .before .before .before .before .pre .2 .chains) (c .before .before .before .before .before .before .before .before .before .before .before .before .before .before .before .before .before .pre .2 .tree) _ (c .before .before .before .before .before .before .before .before .before .before .before .before .before .before .before .before .before .pre .2 .count) (c .before .before .before .before .before .before .before .before .before .before .before .before .before .before .before .before .before .pre .1) _ (c .before .before .before .before .before .before .before .before .follow .ensures))
 
 sub-result : tie.Need-sub-result
 sub-result c = search needs
 
 add-result : tie.Need-add-result
-add-result c = omega (arith, F.count-is _ _ _ (c .before .before .before .before .before .before .before .before .before .before .before .before .before .before .before .before .before .before .before .before .before .before .before .before .pre .0) _ _ _ (c .before .before .before .before .before .before .before .before .before .before .before .before .before .before .before .before .before .before .before .before .before .before .before .before .pre .2 .chains) (c .before .before .before .before .before .before .before .before .before .before .before .before .before .before .before .before .before .before .before .before .before .before .before .before .pre .2 .tree) _ (c .before .before .before .before .before .before .before .before .before .before .before .before .before .before .before .before .before .before .before .before .before .before .before .before .pre .2 .count) (c .before .before .before .before .before .before .before .before .before .before .before .before .before .before .before .before .before .before .before .before .before .before .before .before .pre .1) _ (c .before .before .before .before .before .before .before .before .before .before .before .before .before .before .before .follow .ensures), count-few _ _ _ (c .before .before .before .before .before .before .before .before .before .before .before .before .before .before .before .before .before .before .before .before .before .before .before .before .pre .0), c .before .before .before .before .before .before .before .before .before .before .before .before .before .wide .ensures .0)
+add-result c = omega (arith, C.count-is _ _ _ (c .before .before .before .before .before .before .before .before .before .before .before .before .before .before .before .before .before .before .before .before .before .before .before .before .pre .0) _ _ _ (c .before .before .before .before .before .before .before .before .before .before .before .before .before .before .before .before .before .before .before .before .before .before .before .before .pre .2 .chains) (c .before .before .before .before .before .before .before .before .before .before .before .before .before .before .before .before .before .before .before .before .before .before .before .before .pre .2 .tree) _ (c .before .before .before .before .before .before .before .before .before .before .before .before .before .before .before .before .before .before .before .before .before .before .before .before .pre .2 .count) (c .before .before .before .before .before .before .before .before .before .before .before .before .before .before .before .before .before .before .before .before .before .before .before .before .pre .1) _ (c .before .before .before .before .before .before .before .before .before .before .before .before .before .before .before .follow .ensures), count-few _ _ _ (c .before .before .before .before .before .before .before .before .before .before .before .before .before .before .before .before .before .before .before .before .before .before .before .before .pre .0), c .before .before .before .before .before .before .before .before .before .before .before .before .before .wide .ensures .0)
 
 same-length-4 : tie.Need-same-length-4
 same-length-4 c = search needs
@@ -65,7 +65,7 @@ same-length-6 c = search needs
 
 returns-2 : tie.Need-returns-2
 returns-2 c =
-    F.count-more _ _ _ (c .before .before .before .before .before .before .before .before .before .before .before .before .before .before .before .before .before .before .before .before .before .before .before .before .pre .0) _ _ _ (c .before .before .before .before .before .before .before .before .before .before .before .before .before .before .before .before .before .before .before .before .before .before .before .before .pre .2 .chains) (c .before .before .before .before .before .before .before .before .before .before .before .before .before .before .before .before .before .before .before .before .before .before .before .before .pre .2 .tree) _ (c .before .before .before .before .before .before .before .before .before .before .before .before .before .before .before .before .before .before .before .before .before .before .before .before .pre .2 .count) (c .before .before .before .before .before .before .before .before .before .before .before .before .before .before .before .before .before .before .before .before .before .before .before .before .pre .1) _ (c .before .before .before .before .before .before .before .before .before .before .before .before .before .before .before .follow .ensures) (omega (arith, c .before .before .before .before .before .before .before .before .before .before .before .before .if1 .left, c .before .before .before .before .before .before .before .before .before .before .before .before .before .wide .ensures .0)) _ (c .before .before .before .before .before .before .before .key-of .ensures) _
+    C.count-more _ _ _ (c .before .before .before .before .before .before .before .before .before .before .before .before .before .before .before .before .before .before .before .before .before .before .before .before .pre .0) _ _ _ (c .before .before .before .before .before .before .before .before .before .before .before .before .before .before .before .before .before .before .before .before .before .before .before .before .pre .2 .chains) (c .before .before .before .before .before .before .before .before .before .before .before .before .before .before .before .before .before .before .before .before .before .before .before .before .pre .2 .tree) _ (c .before .before .before .before .before .before .before .before .before .before .before .before .before .before .before .before .before .before .before .before .before .before .before .before .pre .2 .count) (c .before .before .before .before .before .before .before .before .before .before .before .before .before .before .before .before .before .before .before .before .before .before .before .before .pre .1) _ (c .before .before .before .before .before .before .before .before .before .before .before .before .before .before .before .follow .ensures) (omega (arith, c .before .before .before .before .before .before .before .before .before .before .before .before .if1 .left, c .before .before .before .before .before .before .before .before .before .before .before .before .before .wide .ensures .0)) _ (c .before .before .before .before .before .before .before .key-of .ensures) _
     (ap (λ (k : ℕ). c .before .before .before .before .before .before .before .before .before .before .before .before .before .before .before .before .before .before .before .before .before .before .before .before .args .count + (k - c .before .before .before .before .before .before .before .before .before .before .before .before .before .before .before .follow .result .depth)) (c .before .before .before .before .before .before .before .before .before .before .before .before .before .wide .ensures .0)) _ _ _ (c .before .before .before .before .before .before .attach .ensures .0) (c .before .before .before .before .before .before .attach .ensures .1 .0) (c .before .before .before .before .before .before .attach .ensures .1 .1)
 
 pub count-one-spec : {M : Type 1} → statement M

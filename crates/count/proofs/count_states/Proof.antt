@@ -3,7 +3,7 @@
 use Prim.Native.Nat.{_+_}
 use native.Mathlib.Omega.{arith}
 use Rattle.rules.specs.Limits.{maxRules}
-use Rattle.count.proofs.Following.{zero-room, zero-chains}
+use Rattle.count.proofs.Counting.{zero-room, zero-chains}
 use borrow.Author.Needs.{needs}
 use Rattle.count.proofs.count_states.Statement.{statement}
 use Rattle.count.proofs.count_states.Tie as tie
