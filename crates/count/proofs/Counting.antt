@@ -1,15 +1,12 @@
 -- A pattern goes into the tree of those before it, and the loop over the patterns.
 -- Assumes nothing.
 use mathlib.Core.Path.{_≡_, refl, sym, ap, ap₂, _∙_, subst, subst₂}
-use Prim.Native.Nat.{ℕ, zero, suc, _+_, _-_, _*_, _≤_, _<_}
+use Prim.Native.Nat.{ℕ, suc, _+_, _-_, _*_, _≤_, _<_}
 use native.Mathlib.Omega.{arith}
-use native.Mathlib.Nat.{suc-ne-zero}
-use native.Mathlib.Numerals.{add-one}
-use mathlib.Core.Bool.{true, false, _&&_, and-true}
+use mathlib.Core.Bool.{true, false}
 use mathlib.Core.List.{List, [], _∷_, _++_}
-use lib.Dec.{eqb}
-use lib.ListN.{length, getD, take, drop, set, replicate, length-replicate}
-use lib.Seq.{drop-cons, take-suc, take-all, length-take-le}
+use lib.ListN.{length, getD, take, set, replicate, length-replicate}
+use lib.Seq.{take-all}
 use Rattle.side.proofs.Writing.{zeros}
 use Rattle.reading.specs.Fitting.{Str}
 use Rattle.tables.specs.States.{states}

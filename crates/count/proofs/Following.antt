@@ -1,15 +1,14 @@
 -- A pattern is followed along the nodes of the patterns before it.
 -- Assumes nothing.
-use mathlib.Core.Path.{_≡_, refl, sym, ap, ap₂, _∙_, subst, subst₂}
+use mathlib.Core.Path.{_≡_, refl, sym, ap, ap₂, _∙_}
 use Prim.Native.Nat.{ℕ, zero, suc, _+_, _-_, _*_, _≤_, _<_}
 use native.Mathlib.Omega.{arith}
 use native.Mathlib.Nat.{suc-ne-zero}
-use native.Mathlib.Numerals.{add-one}
-use mathlib.Core.Bool.{true, false, _&&_, and-true}
+use mathlib.Core.Bool.{true, false, and-true}
 use mathlib.Core.List.{List, [], _∷_, _++_}
 use lib.Dec.{eqb}
-use lib.ListN.{length, getD, take, drop, set, replicate, length-replicate}
-use lib.Seq.{drop-cons, take-suc, take-all, length-take-le}
+use lib.ListN.{length, getD, take, drop}
+use lib.Seq.{drop-cons, take-suc, length-take-le}
 use Rattle.rules.proofs.Cases.{byBool}
 use Rattle.reading.specs.Fitting.{Str, starts}
 use Rattle.tables.specs.States.{states, numbered}
