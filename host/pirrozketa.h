@@ -110,9 +110,9 @@ enum {
 
 /*
  * Stack: no call uses more than 32,768 bytes, to which host/build holds what host/stack.c measures with 512
- * rules and a name of 64 letters. In bytes: clear, count, last none to speak of; check 8,200; drop 8,232;
- * move 8,344; add and write_file 8,360; speak 8,392; speak_many 8,440; read_name 8,536; read_file 8,636;
- * build 31,592.
+ * rules and a name of 64 letters. In bytes: clear, count, last none to speak of; check 8,216; drop 8,248;
+ * move 8,312; write_file 8,344; add 8,376; speak 8,408; speak_many 8,456; read_name 8,552; read_file 8,588;
+ * build 13,976.
  */
 
 /* ---- the ruleset: `image` is PIRROZKETA_IMAGE bytes or more. Tables built before a change of it are old. */

@@ -19,7 +19,7 @@ ghost use mathlib.Core.Path.{_≡_};
 ghost use mathlib.Core.Bool.{true};
 ghost use Rattle.image.specs.Image.{valid};
 
-// What each catches: a walk that stops before the last letter, of which nothing is heard where that letter is silent; one that applies
+// What each catches: a walk that stops before the last letter, which its phones do not show where that letter is silent; one that applies
 // another than the first of the rules that fit, as the longest; one that skips or guesses what no rule covers.
 pub enum Item {
     SilentEnd,

@@ -14,6 +14,7 @@ ghost use Rattle.reading.specs.Speech.{toldOf, saying};
 ghost use Rattle.tables.specs.Words.{building};
 ghost use Rattle.walk.specs.Walked.{walkedOf};
 ghost use Rattle.transcript.specs.Names.{ToldWithin};
+ghost use Rattle.transcript.specs.Answers.{longestLine};
 ghost use Rattle.commands.specs.Answers.{BothAnswered};
 ghost use Rattle.commands.specs.Fields.{four};
 ghost use Rattle.commands.specs.Lent.{lentOf, builtIn, plainIn, walkIn, builtBy, plainLine, plainBy, walkLine, walkedBy};
@@ -149,7 +150,7 @@ pub fn walk_lent<'a>(
 
 // The answer of a plain reading: 04 with no steps, or 05.
 fn plain_line(speech: Speech, phones: &[u8], numbers: &[u16], out: &mut [u8]) -> usize
-    requires { ⌜ (length (now phones) ≤ 256) × ((length (now numbers) ≤ 64) × ((783 ≤ length (now out)) × ToldWithin (toldOf speech) (length (now phones)) (length (now numbers)))) ⌝ }
+    requires { ⌜ (length (now phones) ≤ 256) × ((length (now numbers) ≤ 64) × ((longestLine ≤ length (now out)) × ToldWithin (toldOf speech) (length (now phones)) (length (now numbers)))) ⌝ }
     ensures len { λ r. ⌜ r ≡ length (plainLine (toldOf speech) (now (phones .entry)) (now (numbers .entry))) ⌝ }
     ensures bytes { λ _. ⌜ now (out .exit) ≡ over (plainLine (toldOf speech) (now (phones .entry)) (now (numbers .entry))) (now (out .entry)) ⌝ }
 {
@@ -165,7 +166,7 @@ pub fn plain_command(
     numbers: &mut [u16],
     out: &mut [u8],
 ) -> usize
-    requires { ⌜ (length (now phones) ≤ 256) × ((length (now numbers) ≤ 64) × (783 ≤ length (now out))) ⌝ }
+    requires { ⌜ (length (now phones) ≤ 256) × ((length (now numbers) ≤ 64) × (longestLine ≤ length (now out))) ⌝ }
     ensures { λ r. ⌜ BothAnswered (plainBy (now (f .entry)) (now (image .entry)) (now (phones .entry)) (now (numbers .entry))) (now (phones .exit)) (now (numbers .exit)) r (now (out .entry)) (now (out .exit)) ⌝ }
 {
     if f.len() < 5 {
@@ -177,7 +178,7 @@ pub fn plain_command(
 
 // The answer of a walk: 04, or 08 with the steps.
 fn walk_line(answer: WalkAnswer, phones: &[u8], numbers: &[u16], out: &mut [u8]) -> usize
-    requires { ⌜ (length (now phones) ≤ 256) × ((length (now numbers) ≤ 64) × ((783 ≤ length (now out)) × ToldWithin (toldOf (answer .speech)) (length (now phones)) (length (now numbers)))) ⌝ }
+    requires { ⌜ (length (now phones) ≤ 256) × ((length (now numbers) ≤ 64) × ((longestLine ≤ length (now out)) × ToldWithin (toldOf (answer .speech)) (length (now phones)) (length (now numbers)))) ⌝ }
     ensures len { λ r. ⌜ r ≡ length (walkLine (toldOf (answer .speech)) (answer .steps) (now (phones .entry)) (now (numbers .entry))) ⌝ }
     ensures bytes { λ _. ⌜ now (out .exit) ≡ over (walkLine (toldOf (answer .speech)) (answer .steps) (now (phones .entry)) (now (numbers .entry))) (now (out .entry)) ⌝ }
 {
@@ -198,7 +199,7 @@ pub fn walk_command<'a>(
     numbers: &mut [u16],
     out: &mut [u8],
 ) -> usize
-    requires { ⌜ (length (now phones) ≤ 256) × ((length (now numbers) ≤ 64) × (783 ≤ length (now out))) ⌝ }
+    requires { ⌜ (length (now phones) ≤ 256) × ((length (now numbers) ≤ 64) × (longestLine ≤ length (now out))) ⌝ }
     ensures { λ r. ⌜ BothAnswered (walkedBy (now (f .entry)) (now (image .entry)) (now (words .entry)) (now (sets .entry)) (now (phones .entry)) (now (numbers .entry))) (now (phones .exit)) (now (numbers .exit)) r (now (out .entry)) (now (out .exit)) ⌝ }
 {
     if f.len() < 13 {

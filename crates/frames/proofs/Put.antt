@@ -1,4 +1,5 @@
--- What stands in the lent bytes while a line is written. Assumes nothing.
+-- What stands in the lent bytes while a line is written.
+-- Assumes nothing.
 use Prim.Native.Nat.{ℕ, _+_, _*_, _/_, _%_, _≤_, _<_}
 use mathlib.Core.Path.{_≡_, refl, sym, ap, _∙_, subst}
 use mathlib.Core.List.{List, [], _∷_, _++_, append-assoc}

@@ -28,7 +28,7 @@ pub enum Next {
 }
 
 // What comes next, and how far the input is then.
-pub struct Heard {
+pub struct LineRead {
     pub next: Next,
     pub input: Input,
 }
@@ -100,12 +100,12 @@ fn read(piece: &mut [u8]) -> usize
 
 // What comes next, its text in the line buffer. Nothing says that the input ends, and a proved loop has to: it counts its turns down, from a
 // number that no run uses up.
-pub fn next_line(input: Input, piece: &mut [u8], line: &mut [u8]) -> Heard
+pub fn next_line(input: Input, piece: &mut [u8], line: &mut [u8]) -> LineRead
     requires { ⌜ Within (length (now piece)) (length (now line)) input ⌝ }
     ensures { λ r. ⌜ (textOf (r .next) ≤ length (now (line .exit))) × Within (length (now (piece .exit))) (length (now (line .exit))) (r .input) ⌝ }
 {
     if input.over {
-        return Heard {
+        return LineRead {
             next: Next::End,
             input,
         };
@@ -118,7 +118,7 @@ pub fn next_line(input: Input, piece: &mut [u8], line: &mut [u8]) -> Heard
         let stop = bytes::scan::find(piece, at, end, 10);
         held = keep(&piece[at..stop], line, held);
         if stop < end {
-            return Heard {
+            return LineRead {
                 next: ended(line, held),
                 input: Input {
                     over: false,
@@ -131,14 +131,14 @@ pub fn next_line(input: Input, piece: &mut [u8], line: &mut [u8]) -> Heard
         at = 0;
         end = read(piece);
         if end == 0 {
-            return Heard {
+            return LineRead {
                 next: at_end(held),
                 input: empty(true),
             };
         }
         turns -= 1;
     }
-    Heard {
+    LineRead {
         next: Next::End,
         input: empty(true),
     }

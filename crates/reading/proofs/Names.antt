@@ -14,7 +14,7 @@ use Rattle.rules.proofs.Cases.{byBool, and-l, and-r, and-i}
 use Rattle.rules.specs.Limits.{maxName, maxNameByte}
 use Rattle.rules.specs.Shape.{allFrom}
 use Rattle.reading.specs.Fitting.{Str}
-use Rattle.reading.specs.Speech.{Outcome, SoundName, speaks, declines, atOnce, nameByte, judgedBytes, judgedName}
+use Rattle.reading.specs.Speech.{Outcome, SoundName, speaks, atOnce, nameByte, judgedBytes, judgedName}
 
 pub name-long : (name : Str) (o : Outcome) → maxName < length name → judgedName name o ≡ atOnce 2 0
 name-long name o h = rw (lt-leb _ _ h)

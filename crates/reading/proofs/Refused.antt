@@ -12,8 +12,8 @@ use Rattle.rules.proofs.Cases.{byBool}
 use Rattle.rules.specs.Shape.{Entry}
 use Rattle.image.specs.Image.{valid, entriesOf}
 use Rattle.reading.specs.Fitting.{Str}
-use Rattle.reading.specs.Reading.{Piece, Reading, finished, uncovered, plain}
-use Rattle.reading.specs.Speech.{Outcome, speaks, atOnce, stepsOf, answered, SoundName, judgedName, phonesOf, numbersOf, Told, spoken, refused, saying, delivered, plainSaid}
+use Rattle.reading.specs.Reading.{Piece, Reading, uncovered, plain}
+use Rattle.reading.specs.Speech.{Outcome, speaks, atOnce, stepsOf, answered, SoundName, judgedName, phonesOf, numbersOf, spoken, refused, saying, delivered, plainSaid}
 use Rattle.reading.specs.Meaning.{Uncovered}
 use Rattle.reading.proofs.Names.{sound-judged, Judgement, sound, refuses, judgement}
 use Rattle.reading.proofs.Search.{Targets, valid-targets}

@@ -1,6 +1,6 @@
 -- Bounds for a caller that goes through a text line by line.
 --     onward           the next line starts after this one
---     answer-short     no answer's line has more than 783 bytes
+--     answer-short     no answer's line has more than `longestLine` bytes
 -- Assumes nothing.
 use Prim.Native.Nat.{ℕ, zero, suc, _-_, _≤_, _<_}
 use mathlib.Core.List.{List, [], _∷_}
@@ -11,7 +11,7 @@ use Rattle.rules.proofs.Cases.{byBool}
 use Rattle.frames.specs.Lines.{pastLine, lineAfter, soundLine}
 use Rattle.reading.specs.Speech.{Told, spoken, refused}
 use Rattle.tables.specs.Walk.{walkSaid}
-use Rattle.transcript.specs.Answers.{spokenBody, refusedBody, printed, toldBody}
+use Rattle.transcript.specs.Answers.{longestLine, spokenBody, refusedBody, printed, toldBody}
 use Rattle.transcript.specs.Names.{Asked, unsound, name, asked, lentPhones, lentNumbers, nameLine, answerTo, nameAnswer, ToldWithin}
 use Rattle.transcript.proofs.Fields.{length-spoken}
 use Rattle.transcript.proofs.Printed.{length-printed}
@@ -36,22 +36,22 @@ length-first zero l = omega arith
 length-first (suc n) [] = omega arith
 length-first (suc n) (a ∷ l) = omega (arith, length-first n l)
 
-told-short : (t : Told) (steps : ℕ) (phones numbers : List ℕ) → ToldWithin t 256 64 → length (printed (toldBody t steps phones numbers)) ≤ 783
+told-short : (t : Told) (steps : ℕ) (phones numbers : List ℕ) → ToldWithin t 256 64 → length (printed (toldBody t steps phones numbers)) ≤ longestLine
 told-short (spoken p n) steps phones numbers w =
     omega (arith, length-printed (spokenBody steps (take p phones) (take n numbers)), length-spoken steps (take p phones) (take n numbers), length-first p phones, length-first n numbers, w .0, w .1)
 told-short (refused k p) steps phones numbers w = omega (arith, length-printed (refusedBody k p))
 
 module _ (image words sets : List ℕ) where
-  nameLine-short : (letters : List ℕ) → length (nameLine image words sets letters) ≤ 783
+  nameLine-short : (letters : List ℕ) → length (nameLine image words sets letters) ≤ longestLine
   unfolding nameLine lentPhones lentNumbers
   nameLine-short letters =
       let w = walkSaid image words sets letters lentPhones lentNumbers in
       told-short (w .said .told) (w .steps) (w .said .phones) (w .said .numbers) (walk-within image words sets letters lentPhones lentNumbers)
 
-  asked-short : (a : Asked) → length (answerTo image words sets a) ≤ 783
+  asked-short : (a : Asked) → length (answerTo image words sets a) ≤ longestLine
   asked-short unsound = omega (arith, length-printed (refusedBody 13 0))
   asked-short (name letters) = nameLine-short letters
 
-  pub answer-short : (s : List ℕ) → length (nameAnswer image words sets s) ≤ 783
+  pub answer-short : (s : List ℕ) → length (nameAnswer image words sets s) ≤ longestLine
   unfolding nameAnswer
   answer-short s = asked-short (asked (soundLine s))

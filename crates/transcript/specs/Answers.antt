@@ -31,6 +31,10 @@ spokenBody steps phones numbers = ((spokenFront steps (length phones) ++ phones)
 abbrev pub refusedBody : ℕ → ℕ → List ℕ
 refusedBody number place = 5 ∷ number ∷ bytes4 place
 
+-- no line that is printed for a name has more bytes, its 0A included
+abbrev pub longestLine : ℕ
+longestLine = 783
+
 -- the line of a body
 unfoldable pub printed : List ℕ → List ℕ
 printed body = lineOf (framed body)

@@ -12,10 +12,13 @@ ghost use Rattle.frames.specs.Lines.{soundLine, lineAfter};
 ghost use Rattle.reading.specs.Speech.{toldOf};
 ghost use Rattle.rules.specs.Refusals.{replyOf, accepted};
 ghost use Rattle.image.specs.Image.{valid};
-ghost use Rattle.transcript.specs.Answers.{bytes2, twos, spokenFront, spokenBody, printed, refusalLine, toldBody};
+ghost use Rattle.transcript.specs.Answers.{longestLine, bytes2, twos, spokenFront, spokenBody, printed, refusalLine, toldBody};
 ghost use Rattle.transcript.specs.Names.{asked, nameLine, nameAnswer, cut, nameIn, ToldWithin};
 
 // ---- answers
+
+// No line that is printed for a name has more bytes, its 0A included.
+pub const LONGEST_LINE: usize = 783;
 
 // The lowest byte of a number.
 pub fn low(n: usize) -> u8
@@ -106,9 +109,9 @@ fn put_spoken(body: &mut [u8], steps: usize, phones: &[u8], numbers: &[u16]) -> 
     put_numbers(&mut *body, c, numbers)
 }
 
-// The line of what was spoken, and its length: 783 bytes at most.
+// The line of what was spoken, and its length.
 pub fn spoken_line(steps: usize, phones: &[u8], numbers: &[u16], out: &mut [u8]) -> usize
-    requires { ⌜ (length (now phones) ≤ 256) × ((length (now numbers) ≤ 64) × (783 ≤ length (now out))) ⌝ }
+    requires { ⌜ (length (now phones) ≤ 256) × ((length (now numbers) ≤ 64) × (longestLine ≤ length (now out))) ⌝ }
     ensures len { λ r. ⌜ r ≡ length (printed (spokenBody steps (now (phones .entry)) (now (numbers .entry)))) ⌝ }
     ensures bytes { λ _. ⌜ now (out .exit) ≡ over (printed (spokenBody steps (now (phones .entry)) (now (numbers .entry)))) (now (out .entry)) ⌝ }
 {
@@ -119,7 +122,7 @@ pub fn spoken_line(steps: usize, phones: &[u8], numbers: &[u16], out: &mut [u8])
 
 // The line of a walk's answer, and its length.
 pub fn answer_line(answer: WalkAnswer, phones: &[u8], numbers: &[u16], out: &mut [u8]) -> usize
-    requires { ⌜ (length (now phones) ≤ 256) × ((length (now numbers) ≤ 64) × ((783 ≤ length (now out)) × ToldWithin (toldOf (answer .speech)) (length (now phones)) (length (now numbers)))) ⌝ }
+    requires { ⌜ (length (now phones) ≤ 256) × ((length (now numbers) ≤ 64) × ((longestLine ≤ length (now out)) × ToldWithin (toldOf (answer .speech)) (length (now phones)) (length (now numbers)))) ⌝ }
     ensures len { λ r. ⌜ r ≡ length (printed (toldBody (toldOf (answer .speech)) (answer .steps) (now (phones .entry)) (now (numbers .entry)))) ⌝ }
     ensures bytes { λ _. ⌜ now (out .exit) ≡ over (printed (toldBody (toldOf (answer .speech)) (answer .steps) (now (phones .entry)) (now (numbers .entry)))) (now (out .entry)) ⌝ }
 {
@@ -137,7 +140,7 @@ pub fn answer_line(answer: WalkAnswer, phones: &[u8], numbers: &[u16], out: &mut
 
 // A name is walked, and its answer's line printed.
 fn speak<'a>(image: &[u8], words: &'a [u16], sets: &'a [u64], name: &[u8], out: &mut [u8]) -> usize
-    requires { ⌜ (valid (now image) ≡ true) × (783 ≤ length (now out)) ⌝ }
+    requires { ⌜ (valid (now image) ≡ true) × (longestLine ≤ length (now out)) ⌝ }
     ensures len { λ r. ⌜ r ≡ length (nameLine (now (image .entry)) (now (words .entry)) (now (sets .entry)) (now (name .entry))) ⌝ }
     ensures bytes { λ _. ⌜ now (out .exit) ≡ over (nameLine (now (image .entry)) (now (words .entry)) (now (sets .entry)) (now (name .entry))) (now (out .entry)) ⌝ }
 {
@@ -183,7 +186,7 @@ pub fn answer_name<'a>(
     at: usize,
     out: &mut [u8],
 ) -> Answered
-    requires { ⌜ (valid (now image) ≡ true) × (783 ≤ length (now out)) ⌝ }
+    requires { ⌜ (valid (now image) ≡ true) × (longestLine ≤ length (now out)) ⌝ }
     ensures next { λ r. ⌜ r .next ≡ lineAfter (now (text .entry)) at ⌝ }
     ensures len { λ r. ⌜ r .len ≡ length (nameAnswer (now (image .entry)) (now (words .entry)) (now (sets .entry)) (drop at (now (text .entry)))) ⌝ }
     ensures bytes { λ _. ⌜ now (out .exit) ≡ over (nameAnswer (now (image .entry)) (now (words .entry)) (now (sets .entry)) (drop at (now (text .entry)))) (now (out .entry)) ⌝ }

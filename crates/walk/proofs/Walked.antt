@@ -18,7 +18,6 @@ use Rattle.reading.specs.Fitting.{Str, frame, fits}
 use Rattle.reading.specs.Reading.{Choice, chosen, nothing, unusable, applied, Reading, cons, past, onward, readFrom}
 use Rattle.reading.specs.Speech.{Outcome, atOnce, stepsOf, answered, judgedName, Said, delivered, saying, toldOf}
 use Rattle.reading.specs.Places.{readingOf, ReadBy}
-use Rattle.reading.specs.declared.Speech.{Speech}
 use Rattle.reading.specs.declared.Speech.the-variants.{Refused}
 use Rattle.reading.specs.declared.Reached.{Reached}
 use Rattle.reading.specs.declared.Reached.the-variants.{Rules, Uncovered, BadTables}

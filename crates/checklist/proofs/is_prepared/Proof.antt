@@ -1,4 +1,5 @@
--- `checklist::is_prepared` meets its contract: what was prepared is a ruleset. Assumes nothing.
+-- `checklist::is_prepared` meets its contract: what was prepared is a ruleset.
+-- Assumes nothing.
 use Rattle.rules.specs.Refusals.{replyOf}
 use mathlib.Core.Path.{_≡_, ap}
 use Prim.Native.Nat.{ℕ}

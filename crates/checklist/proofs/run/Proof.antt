@@ -1,4 +1,5 @@
--- `checklist::run` is safe: names are tried only where the rules were prepared. Assumes nothing.
+-- `checklist::run` is safe: names are tried only where the rules were prepared.
+-- Assumes nothing.
 use borrow.Author.Needs.{needs}
 use borrow.Author.Tests.{not-false}
 use Rattle.checklist.proofs.run.Statement.{statement}

@@ -1,4 +1,5 @@
--- `frames::byte_at` meets its contract: both digits stand in the text. Assumes nothing.
+-- `frames::byte_at` meets its contract: both digits stand in the text.
+-- Assumes nothing.
 use native.Mathlib.Omega.{arith}
 use Rattle.frames.proofs.Decoding.{placed}
 use Rattle.frames.proofs.byte_at.Statement.{statement}

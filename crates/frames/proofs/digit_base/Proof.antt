@@ -1,4 +1,5 @@
--- `frames::digit_base` meets its contract: the test decides. Assumes nothing.
+-- `frames::digit_base` meets its contract: the test decides.
+-- Assumes nothing.
 use borrow.Author.Tests.{lt-ltb, le-ltb}
 use Rattle.frames.proofs.digit_base.Statement.{statement}
 use Rattle.frames.proofs.digit_base.Tie as tie

@@ -1,4 +1,5 @@
--- `frames::digit_value` meets its contract. Assumes nothing.
+-- `frames::digit_value` meets its contract.
+-- Assumes nothing.
 use Rattle.frames.proofs.Decoding.{value-by}
 use borrow.Author.Needs.{needs}
 use Rattle.frames.proofs.digit_value.Statement.{statement}

@@ -1,4 +1,5 @@
--- `frames::ended` meets its contract: the tests in turn. Assumes nothing.
+-- `frames::ended` meets its contract: the tests in turn.
+-- Assumes nothing.
 use borrow.Author.Needs.{needs}
 use borrow.Author.Tests.{le-leb, lt-leb, eq-eqb, ne-eqb}
 use Rattle.frames.proofs.ended.Statement.{statement}

@@ -1,4 +1,5 @@
--- `frames::hex_digit` meets its contract. Assumes nothing.
+-- `frames::hex_digit` meets its contract.
+-- Assumes nothing.
 use native.Mathlib.Omega.{arith}
 use Rattle.frames.proofs.Lines.{digit-from}
 use borrow.Author.Needs.{needs}

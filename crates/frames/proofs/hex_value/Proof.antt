@@ -1,4 +1,5 @@
--- `frames::hex_value` meets its contract: the test decides. Assumes nothing.
+-- `frames::hex_value` meets its contract: the test decides.
+-- Assumes nothing.
 use mathlib.Core.Path.{_∙_}
 use Rattle.frames.proofs.Lines.{value-digit-in, value-digit-out}
 use borrow.Author.Needs.{needs}

@@ -1,4 +1,5 @@
--- `frames::letter_value` meets its contract: the test decides. Assumes nothing.
+-- `frames::letter_value` meets its contract: the test decides.
+-- Assumes nothing.
 use Rattle.frames.proofs.Lines.{letter-in, letter-out}
 use borrow.Author.Needs.{needs}
 use Rattle.frames.proofs.letter_value.Statement.{statement}

@@ -1,4 +1,5 @@
--- `frames::pair_at` meets its contract: the tests in turn. Assumes nothing.
+-- `frames::pair_at` meets its contract: the tests in turn.
+-- Assumes nothing.
 use Rattle.frames.proofs.Pairs.{pair-short, pair-high, pair-low, pair-found}
 use denote.Ref.{now}
 use native.Mathlib.Omega.{arith}

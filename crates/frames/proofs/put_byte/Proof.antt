@@ -1,4 +1,5 @@
--- `frames::put_byte` meets its contract: two digits. Assumes nothing.
+-- `frames::put_byte` meets its contract: two digits.
+-- Assumes nothing.
 use borrow.Author.Needs.{needs}
 use Rattle.frames.proofs.put_byte.Statement.{statement}
 use Rattle.frames.proofs.put_byte.Tie as tie

@@ -1,5 +1,6 @@
 -- `frames::put_line` meets its contract. The loop's invariant: the digits of the bytes so far are written, and the sum so far makes them
--- add to zero. Assumes nothing.
+-- add to zero.
+-- Assumes nothing.
 use Rattle.frames.proofs.Put.{Put, put-start, put-length, put-next, put-kept, put-done}
 use lib.ListN.{length, length-set}
 use Prim.Native.Nat.{_-_}

@@ -1,5 +1,6 @@
 -- `frames::read_line` meets its contract. The loop's invariant: what remains from here gives the whole line, and the bytes so far stand
--- in the lent ones. Assumes nothing.
+-- in the lent ones.
+-- Assumes nothing.
 use Prim.Native.Nat.{_-_}
 use mathlib.Core.Path.{_∙_}
 use native.Mathlib.Omega.{arith}

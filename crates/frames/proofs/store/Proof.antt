@@ -1,4 +1,5 @@
--- `frames::store` meets its contract: past the end `set` changes nothing. Assumes nothing.
+-- `frames::store` meets its contract: past the end `set` changes nothing.
+-- Assumes nothing.
 use mathlib.Core.Path.{sym}
 use borrow.Author.Needs.{needs}
 use lib.Seq.{set-out}

@@ -1,4 +1,5 @@
--- `frames::write_line` meets its contract: the part from `at` on is overlaid by `put_line`. Assumes nothing.
+-- `frames::write_line` meets its contract: the part from `at` on is overlaid by `put_line`.
+-- Assumes nothing.
 use native.Mathlib.Omega.{arith}
 use Rattle.rules.proofs.Memory.{over-tail}
 use Rattle.frames.specs.Lines.{lineOf, framed}

@@ -1,4 +1,5 @@
--- `say::load` meets its contract: what was prepared is a ruleset. Assumes nothing.
+-- `say::load` meets its contract: what was prepared is a ruleset.
+-- Assumes nothing.
 use Rattle.rules.specs.Refusals.{replyOf}
 use mathlib.Core.Path.{_≡_, ap}
 use Prim.Native.Nat.{ℕ}

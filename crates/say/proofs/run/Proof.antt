@@ -1,4 +1,5 @@
--- `say::run` is safe: names are spoken only where the rules were loaded. Assumes nothing.
+-- `say::run` is safe: names are spoken only where the rules were loaded.
+-- Assumes nothing.
 use borrow.Author.Needs.{needs}
 use Rattle.say.proofs.run.Statement.{statement}
 use Rattle.say.proofs.run.Tie as tie

@@ -1,4 +1,6 @@
--- `say::say_line` meets its contract: an answer has at most 783 bytes, and the next line starts later. Assumes nothing.
+-- `say::say_line` meets its contract: no answer is longer than the memory for it, and the next line starts later.
+-- Assumes nothing.
+use Rattle.transcript.specs.Answers.{longestLine}
 use Rattle.transcript.proofs.Bounds.{onward, answer-short}
 use lib.Seq.{length-take-le}
 use lib.ListN.{length, drop}
@@ -18,14 +20,14 @@ array-share-prefix-out : tie.Need-array-share-prefix-out
 array-share-prefix-out c =
     let a = c .before .before .before .before .before .before .before .args in
     let n = c .before .answer-name in
-    let l : length (n .last .1 .1 .1 .1 .1 .0) ≡ 783 = search needs in
+    let l : length (n .last .1 .1 .1 .1 .1 .0) ≡ longestLine = search needs in
     omega (arith, n .ensures .1 .0, answer-short (a .image .now) (a .words .now) (a .sets .now) (drop (a .at) (a .text .now)))
 
 slice-aggregate-write-all : tie.Need-slice-aggregate-write-all
 slice-aggregate-write-all c =
     let a = c .before .before .before .before .before .before .before .before .args in
     let n = c .before .before .answer-name in
-    let l : length (n .last .1 .1 .1 .1 .1 .0) ≡ 783 = search needs in
+    let l : length (n .last .1 .1 .1 .1 .1 .0) ≡ longestLine = search needs in
     sym (length-take-le (n .result .len) (n .last .1 .1 .1 .1 .1 .0) (omega (arith, n .ensures .1 .0, answer-short (a .image .now) (a .words .now) (a .sets .now) (drop (a .at) (a .text .now)))))
 
 write-all-requires : tie.Need-write-all-requires

@@ -1,4 +1,5 @@
--- `say::say_lines` meets its contract: each line leaves less of the text. Assumes nothing.
+-- `say::say_lines` meets its contract: each line leaves less of the text.
+-- Assumes nothing.
 use Prim.Native.Nat.{_-_}
 use native.Mathlib.Omega.{arith}
 use borrow.Author.Needs.{needs}

@@ -1,4 +1,5 @@
--- `transcript::answer_line` meets its contract, by the cases of the answer. Assumes nothing.
+-- `transcript::answer_line` meets its contract, by the cases of the answer.
+-- Assumes nothing.
 use Rattle.rules.specs.Memory.{over}
 use Rattle.transcript.proofs.Spoken.{spoken-within, spoken-told, refused-told, length-refusal}
 use lib.Seq.{length-take-le}

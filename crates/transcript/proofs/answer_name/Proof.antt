@@ -1,4 +1,5 @@
--- `transcript::answer_name` meets its contract: 65 letters are answered as a longer name is. Assumes nothing.
+-- `transcript::answer_name` meets its contract: 65 letters are answered as a longer name is.
+-- Assumes nothing.
 use Rattle.rules.specs.Memory.{over}
 use Rattle.transcript.proofs.Spoken.{answered-none, answered-name, length-refusal}
 use Rattle.rules.specs.declared.Refusal.the-variants.{BadLine}

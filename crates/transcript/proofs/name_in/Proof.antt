@@ -1,4 +1,5 @@
--- `transcript::name_in` meets its contract, by what the report of a line tells. Assumes nothing.
+-- `transcript::name_in` meets its contract, by what the report of a line tells.
+-- Assumes nothing.
 use Rattle.transcript.proofs.NameLine.{wrong, right}
 use Rattle.transcript.proofs.NameLine.{nameIn-bad, nameIn-other, nameIn-long, nameIn-short, some}
 use borrow.Author.Tests.{eq-eqb, ne-eqb}

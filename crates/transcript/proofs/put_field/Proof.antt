@@ -1,4 +1,5 @@
--- `transcript::put_field` meets its contract: a paste of the whole field. Assumes nothing.
+-- `transcript::put_field` meets its contract: a paste of the whole field.
+-- Assumes nothing.
 use Rattle.transcript.proofs.Fields.{paste-all}
 use mathlib.Core.Path.{refl, _∙_}
 use borrow.Author.Needs.{needs}

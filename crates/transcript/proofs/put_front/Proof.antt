@@ -1,4 +1,5 @@
--- `transcript::put_front` meets its contract. Assumes nothing.
+-- `transcript::put_front` meets its contract.
+-- Assumes nothing.
 use borrow.Author.Needs.{needs}
 use Rattle.transcript.proofs.put_front.Statement.{statement}
 use Rattle.transcript.proofs.put_front.Tie as tie

@@ -1,4 +1,5 @@
--- `transcript::put_spoken` meets its contract: its fields laid one after the other. Assumes nothing.
+-- `transcript::put_spoken` meets its contract: its fields laid one after the other.
+-- Assumes nothing.
 use Rattle.transcript.proofs.Fields.{spoken-is}
 use Prim.Native.Nat.{ℕ}
 use mathlib.Core.List.{[], _∷_}

@@ -1,4 +1,5 @@
--- `transcript::put_two` meets its contract. Assumes nothing.
+-- `transcript::put_two` meets its contract.
+-- Assumes nothing.
 use Prim.Native.Nat.{ℕ}
 use mathlib.Core.List.{[], _∷_}
 use mathlib.Core.Path.{_∙_, ap₂}

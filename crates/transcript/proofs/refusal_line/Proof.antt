@@ -1,4 +1,5 @@
--- `transcript::refusal_line` meets its contract. Assumes nothing.
+-- `transcript::refusal_line` meets its contract.
+-- Assumes nothing.
 use Rattle.transcript.proofs.Printed.{refused-is}
 use borrow.Author.Needs.{needs}
 use Rattle.transcript.proofs.refusal_line.Statement.{statement}

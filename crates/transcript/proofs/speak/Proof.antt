@@ -1,4 +1,5 @@
--- `transcript::speak` meets its contract: what the walk tells fits its lent memory. Assumes nothing.
+-- `transcript::speak` meets its contract: what the walk tells fits its lent memory.
+-- Assumes nothing.
 use Rattle.rules.specs.Memory.{over}
 use Rattle.transcript.proofs.Spoken.{nameLine-is, told-within}
 use Rattle.transcript.specs.Names.{lentPhones, lentNumbers}

@@ -1,4 +1,5 @@
--- `transcript::spoken_line` meets its contract: the front of the buffer is the body. Assumes nothing.
+-- `transcript::spoken_line` meets its contract: the front of the buffer is the body.
+-- Assumes nothing.
 use Rattle.transcript.specs.Answers.{spokenBody}
 use Rattle.transcript.proofs.Printed.{front-is, printed-is, length-printed}
 use Rattle.transcript.proofs.Fields.{length-spoken}

@@ -1,4 +1,5 @@
--- `checklist::editing::writes` is safe: what is compared lies inside the lent bytes. Assumes nothing.
+-- `checklist::editing::writes` is safe: what is compared lies inside the lent bytes.
+-- Assumes nothing.
 use mathlib.Core.Path.{sym}
 use lib.Seq.{length-take-le}
 use borrow.Author.Needs.{needs}

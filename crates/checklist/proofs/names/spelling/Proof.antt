@@ -1,4 +1,5 @@
--- `checklist::names::spelling` is safe: what it gives lies inside the array. Assumes nothing.
+-- `checklist::names::spelling` is safe: what it gives lies inside the array.
+-- Assumes nothing.
 use mathlib.Core.Path.{sym}
 use lib.Seq.{length-take-le}
 use borrow.Author.Needs.{needs}

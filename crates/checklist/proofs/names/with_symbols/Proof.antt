@@ -1,4 +1,5 @@
--- `checklist::names::with_symbols` ends: each turn leaves fewer symbols. Assumes nothing.
+-- `checklist::names::with_symbols` ends: each turn leaves fewer symbols.
+-- Assumes nothing.
 use Prim.Native.Nat.{_-_}
 use borrow.Author.Needs.{needs}
 use Rattle.checklist.proofs.names.with_symbols.Statement.{statement}

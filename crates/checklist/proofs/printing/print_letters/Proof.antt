@@ -1,4 +1,5 @@
--- `checklist::printing::print_letters` ends: each turn leaves fewer letters. Assumes nothing.
+-- `checklist::printing::print_letters` ends: each turn leaves fewer letters.
+-- Assumes nothing.
 use Prim.Native.Nat.{_-_}
 use borrow.Author.Needs.{needs}
 use lib.ListN.{length}

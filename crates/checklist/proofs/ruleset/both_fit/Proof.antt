@@ -1,4 +1,5 @@
--- `checklist::ruleset::both_fit` is safe: the framed name lies inside the array. Assumes nothing.
+-- `checklist::ruleset::both_fit` is safe: the framed name lies inside the array.
+-- Assumes nothing.
 use mathlib.Core.Path.{sym}
 use lib.Seq.{length-take-le}
 use borrow.Author.Needs.{needs}

@@ -1,4 +1,5 @@
--- `checklist::ruleset::first_fitting` ends: each turn leaves fewer places. Assumes nothing.
+-- `checklist::ruleset::first_fitting` ends: each turn leaves fewer places.
+-- Assumes nothing.
 use Prim.Native.Nat.{_-_}
 use borrow.Author.Needs.{needs}
 use Rattle.checklist.proofs.ruleset.first_fitting.Statement.{statement}

@@ -1,4 +1,5 @@
--- `checklist::ruleset::highest_number` ends: each turn leaves fewer places. Assumes nothing.
+-- `checklist::ruleset::highest_number` ends: each turn leaves fewer places.
+-- Assumes nothing.
 use Prim.Native.Nat.{_-_}
 use borrow.Author.Needs.{needs}
 use Rattle.checklist.proofs.ruleset.highest_number.Statement.{statement}

@@ -1,4 +1,5 @@
--- `checklist::searches::uncovered` ends: each turn leaves fewer letters. Assumes nothing.
+-- `checklist::searches::uncovered` ends: each turn leaves fewer letters.
+-- Assumes nothing.
 use Prim.Native.Nat.{_-_}
 use borrow.Author.Needs.{needs}
 use Rattle.checklist.proofs.searches.uncovered.Statement.{statement}

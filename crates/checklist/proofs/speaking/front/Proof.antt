@@ -1,4 +1,5 @@
--- `checklist::speaking::front` is safe: what it gives lies inside the numbers. Assumes nothing.
+-- `checklist::speaking::front` is safe: what it gives lies inside the numbers.
+-- Assumes nothing.
 use mathlib.Core.Path.{sym}
 use lib.Seq.{length-take-le}
 use borrow.Author.Needs.{needs}
