@@ -14,12 +14,12 @@ use Rattle.image.specs.Image.{Edited}
 use Rattle.edits.specs.Ledger.{Edit}
 use Rattle.edits.specs.Edits.{edited}
 use Rattle.file.specs.Layout.{frontSize, bodySize, ruleIn, ruleStruct}
-use Rattle.commands.specs.Fields.{addSized, AddSized, ruleOf}
+use Rattle.commands.specs.Fields.{addSized, AddSized, addedRule}
 
 pub sized : (f : List ℕ) → addSized f ≡ true → AddSized f
 sized f e = (leb-true frontSize (length f) (and-l (leb frontSize (length f)) _ e), eqb-true (length f) (bodySize f) (and-r (leb frontSize (length f)) _ e))
 
 pub add-is : (e : Edited) (f image : List ℕ) (rule : Rule) (place : ℕ) → rule ≡ ruleStruct (ruleIn f) → place ≡ two 1 f
-    → e ≡ edited image (Edit.Add rule place) → e ≡ edited image (Edit.Add (ruleOf f) (two 1 f))
-unfolding ruleOf
+    → e ≡ edited image (Edit.Add rule place) → e ≡ edited image (Edit.Add (addedRule f) (two 1 f))
+unfolding addedRule
 add-is e f image rule place er ep h = h ∙ rw (er, ep)

@@ -13,14 +13,14 @@ use Rattle.commands.specs.Answers.{Effect, Effects, Answered, BothAnswer
 use Rattle.commands.specs.Memory.{forcedBy, clearedBy, storedWord, storedSet, shownWords, shownSets, shownPhones, shownNumbers}
 use Rattle.commands.specs.Lent.{builtBy, walkedBy, plainBy}
 use Rattle.commands.specs.Filing.{loadedBy, writeLine}
-use Rattle.commands.specs.Monitor.{State, holding, Outcome, onImage, onWords, onSets, onTables, onSpeech, shows, byKind, answerTo, Replied}
+use Rattle.commands.specs.Monitor.{State, holding, Response, onImage, onWords, onSets, onTables, onSpeech, shows, byKind, answerTo, Replied}
 use Rattle.commands.proofs.Replies.{Gives, within}
 
 -- an answer that was given had room
-abbrev pub Given : Outcome → State → ℕ → List ℕ → List ℕ → Type 0
+abbrev pub Given : Response → State → ℕ → List ℕ → List ℕ → Type 0
 Given o s len out out′ = Replied o s len out out′ × (len ≤ length out′)
 
-given : (o : Outcome) (s : State) (len : ℕ) (out out′ : List ℕ) → s ≡ o .state → len ≡ length (o .line) → out′ ≡ over (o .line) out
+given : (o : Response) (s : State) (len : ℕ) (out out′ : List ℕ) → s ≡ o .state → len ≡ length (o .line) → out′ ≡ over (o .line) out
     → Given o s len out out′
 given o s len out out′ k l h = (record { kept = k; many = l; bytes = h }, within (o .line) len out out′ l h)
 
@@ -140,4 +140,4 @@ module _ (f file image words sets phones numbers : List ℕ) (len : ℕ) (out ou
     other k n = rw (ne-eqb k 16 (n .0 .0 .0 .0 .0 .0 .0 .0 .0 .0 .0 .0 .0 .0 .0 .1), ne-eqb k 17 (n .0 .0 .0 .0 .0 .0 .0 .0 .0 .0 .0 .0 .0 .0 .1), ne-eqb k 18 (n .0 .0 .0 .0 .0 .0 .0 .0 .0 .0 .0 .0 .0 .1), ne-eqb k 19 (n .0 .0 .0 .0 .0 .0 .0 .0 .0 .0 .0 .0 .1), ne-eqb k 20 (n .0 .0 .0 .0 .0 .0 .0 .0 .0 .0 .0 .1), ne-eqb k 21 (n .0 .0 .0 .0 .0 .0 .0 .0 .0 .0 .1), ne-eqb k 22 (n .0 .0 .0 .0 .0 .0 .0 .0 .0 .1), ne-eqb k 23 (n .0 .0 .0 .0 .0 .0 .0 .0 .1), ne-eqb k 24 (n .0 .0 .0 .0 .0 .0 .0 .1), ne-eqb k 25 (n .0 .0 .0 .0 .0 .0 .1), ne-eqb k 26 (n .0 .0 .0 .0 .0 .1), ne-eqb k 27 (n .0 .0 .0 .0 .1), ne-eqb k 28 (n .0 .0 .0 .1), ne-eqb k 29 (n .0 .0 .1), ne-eqb k 30 (n .0 .1), ne-eqb k 31 (n .1))
 
     pub by-other : Other (getD f 0 0) → Given (answerTo f file before) before len out out′
-    by-other n = at (getD f 0 0) _ refl (subst (λ (o : Outcome). Given o before len out out′) (sym (other (getD f 0 0) n)) none)
+    by-other n = at (getD f 0 0) _ refl (subst (λ (o : Response). Given o before len out out′) (sym (other (getD f 0 0) n)) none)

@@ -16,7 +16,7 @@ use Rattle.edits.specs.Ledger.Edit.{Add, Drop, Move}
 use Rattle.edits.specs.Edits.{edited}
 use Rattle.file.specs.Layout.{lineSize, headLineSize, longestFrame}
 use Rattle.transcript.specs.Answers.{bytes2, bytes4, printed, refusedBody}
-use Rattle.commands.specs.Fields.{addSized, ruleOf}
+use Rattle.commands.specs.Fields.{addSized, addedRule}
 
 -- bytes of the longest rule file: a head line, and 512 rule lines with each field full. No answer has more
 abbrev pub longestFile : ℕ
@@ -80,7 +80,7 @@ ruled e = leaving (editLine e) (e .image)
 
 -- 10, p (2), four lengths (1 each), their bytes: add
 unfoldable pub added : List ℕ → List ℕ → Effect
-added f image = sizedTo (addSized f) (ruled (edited image (Add (ruleOf f) (two 1 f)))) image
+added f image = sizedTo (addSized f) (ruled (edited image (Add (addedRule f) (two 1 f)))) image
 
 -- 11, number (2): drop
 unfoldable pub dropped : List ℕ → List ℕ → Effect

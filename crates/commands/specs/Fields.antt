@@ -28,5 +28,5 @@ abbrev pub AddSized : List ℕ → Type 0
 AddSized f = (frontSize ≤ length f) × (length f ≡ bodySize f)
 
 -- the rule of such a frame; a length above what a rule can hold is kept as the length
-unfoldable pub ruleOf : List ℕ → Rule
-ruleOf f = ruleStruct (ruleIn f)
+unfoldable pub addedRule : List ℕ → Rule
+addedRule f = ruleStruct (ruleIn f)

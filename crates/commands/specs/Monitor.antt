@@ -35,32 +35,32 @@ abbrev pub holding : List ℕ → List ℕ → List ℕ → List ℕ → List �
 holding image words sets phones numbers = record { image = image; words = words; sets = sets; phones = phones; numbers = numbers }
 
 -- the line of an answer, and what is held after it
-pub record Outcome : Type 0 where
+pub record Response : Type 0 where
   pub line : List ℕ
   pub state : State
 
 -- ---- what is not lent to a command to change stays as it is
 
-abbrev pub onImage : State → Effect → Outcome
+abbrev pub onImage : State → Effect → Response
 onImage s e = record { line = e .line; state = holding (e .after) (s .words) (s .sets) (s .phones) (s .numbers) }
 
-abbrev pub onWords : State → Effect → Outcome
+abbrev pub onWords : State → Effect → Response
 onWords s e = record { line = e .line; state = holding (s .image) (e .after) (s .sets) (s .phones) (s .numbers) }
 
-abbrev pub onSets : State → Effect → Outcome
+abbrev pub onSets : State → Effect → Response
 onSets s e = record { line = e .line; state = holding (s .image) (s .words) (e .after) (s .phones) (s .numbers) }
 
-abbrev pub onTables : State → Effects → Outcome
+abbrev pub onTables : State → Effects → Response
 onTables s e = record { line = e .line; state = holding (s .image) (e .first) (e .second) (s .phones) (s .numbers) }
 
-abbrev pub onSpeech : State → Effects → Outcome
+abbrev pub onSpeech : State → Effects → Response
 onSpeech s e = record { line = e .line; state = holding (s .image) (s .words) (s .sets) (e .first) (e .second) }
 
-abbrev pub shows : State → List ℕ → Outcome
+abbrev pub shows : State → List ℕ → Response
 shows s line = record { line = line; state = s }
 
 -- 10 to 1F; `file` is what rules.hex holds
-unfoldable pub byKind : ℕ → List ℕ → List ℕ → State → Outcome
+unfoldable pub byKind : ℕ → List ℕ → List ℕ → State → Response
 byKind kind f file s =
     cond (eqb kind 16) (onImage s (added f (s .image)))
     (cond (eqb kind 17) (onImage s (dropped f (s .image)))
@@ -81,11 +81,11 @@ byKind kind f file s =
     (shows s malformedLine))))))))))))))))
 
 -- the answer to a command; a frame of no bytes is none
-unfoldable pub answerTo : List ℕ → List ℕ → State → Outcome
+unfoldable pub answerTo : List ℕ → List ℕ → State → Response
 answerTo f file s = byKind (getD f 0 0) f file s
 
 -- an answer that was given: what is held after it, and its line at the front of the lent bytes
-pub record Replied (o : Outcome) (held : State) (len : ℕ) (out out′ : List ℕ) : Type 0 where
+pub record Replied (o : Response) (held : State) (len : ℕ) (out out′ : List ℕ) : Type 0 where
   pub kept : held ≡ o .state
   pub many : len ≡ length (o .line)
   pub bytes : out′ ≡ over (o .line) out

@@ -12,13 +12,13 @@ ghost use Rattle.image.specs.Image.{imageSize, outcome};
 ghost use Rattle.edits.specs.Ledger.{Edit};
 ghost use Rattle.edits.specs.Edits.{edited};
 ghost use Rattle.commands.specs.Answers.{Answered, added, dropped, moved};
-ghost use Rattle.commands.specs.Fields.{AddSized, ruleOf};
+ghost use Rattle.commands.specs.Fields.{AddSized, addedRule};
 ghost use Rattle.commands.specs.Memory.{renumbered, forced, forcedBy, clearedBy};
 
 // 10, p (2), four lengths, their bytes.
 pub fn add(f: &[u8], image: &mut [u8]) -> Answer
     requires { ⌜ AddSized (now f) ⌝ }
-    ensures { λ r. ⌜ outcome (replyOf r) (now (image .exit)) ≡ edited (now (image .entry)) (Edit.Add (ruleOf (now (f .entry))) (two 1 (now (f .entry)))) ⌝ }
+    ensures { λ r. ⌜ outcome (replyOf r) (now (image .exit)) ≡ edited (now (image .entry)) (Edit.Add (addedRule (now (f .entry))) (two 1 (now (f .entry)))) ⌝ }
 {
     let rule = layout::rule_in(f);
     edits::add_rule(image, rule, fields::two_at(f, 1))

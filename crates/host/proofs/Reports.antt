@@ -18,7 +18,7 @@ use Rattle.reading.specs.Speech.{Told, Said, saying}
 use Rattle.tables.specs.Words.{Built, building}
 use Rattle.file.specs.Loading.{Report, Filed, filing}
 use Rattle.host.specs.Files.{writtenCode, bytesOrPlace}
-use Rattle.host.specs.Codes.{checked, countIn, lastIn, spokenCode, phonesOrPlace, numbersGiven, blankRule, ruleIn}
+use Rattle.host.specs.Codes.{checked, countIn, lastIn, spokenCode, phonesOrPlace, numbersGiven, blankRule, ruleGiven}
 
 -- the numbers of an edit or a reading, and the memory after it
 module _ (a : Reply) (image : List ℕ) (e : Edited) (h : outcome a image ≡ e) where
@@ -49,16 +49,16 @@ pub last-short : (image : List ℕ) → length image < imageSize → 0 ≡ lastI
 last-short image h = ap (λ (t : Bool). cond t (lastOf image) 0) (sym (lt-leb imageSize (length image) h))
 
 -- a rule from the bytes of a slot without its number
-pub rule-yes : (s : List ℕ) (r : Rule) → r ≡ ruleOf s → length s ≡ ruleSize → r ≡ ruleIn s
-unfolding ruleIn
+pub rule-yes : (s : List ℕ) (r : Rule) → r ≡ ruleOf s → length s ≡ ruleSize → r ≡ ruleGiven s
+unfolding ruleGiven
 rule-yes s r e h = e ∙ ap (λ (t : Bool). cond t (ruleOf s) blankRule) (sym (eq-eqb (length s) ruleSize h))
 
-pub rule-no : (s : List ℕ) → (length s ≡ ruleSize → ⊥) → blankRule ≡ ruleIn s
-unfolding ruleIn
+pub rule-no : (s : List ℕ) → (length s ≡ ruleSize → ⊥) → blankRule ≡ ruleGiven s
+unfolding ruleGiven
 rule-no s h = ap (λ (t : Bool). cond t (ruleOf s) blankRule) (sym (ne-eqb (length s) ruleSize h))
 
 -- so bytes of another length are refused with 6, and change nothing
-pub odd-rule : (image s : List ℕ) (p : ℕ) → (length s ≡ ruleSize → ⊥) → valid image ≡ true → edited image (Edit.Add (ruleIn s) p) ≡ outcome (declined 6 0) image
+pub odd-rule : (image s : List ℕ) (p : ℕ) → (length s ≡ ruleSize → ⊥) → valid image ≡ true → edited image (Edit.Add (ruleGiven s) p) ≡ outcome (declined 6 0) image
 unfolding edited judged shape
 odd-rule image s p h v =
     ap (λ (r : Rule). edited image (Edit.Add r p)) (sym (rule-no s h))

@@ -60,5 +60,5 @@ blankRule = record {
 }
 
 -- bytes of another length are no rule
-unfoldable pub ruleIn : List ℕ → Rule
-ruleIn s = cond (eqb (length s) ruleSize) (ruleOf s) blankRule
+unfoldable pub ruleGiven : List ℕ → Rule
+ruleGiven s = cond (eqb (length s) ruleSize) (ruleOf s) blankRule

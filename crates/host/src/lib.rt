@@ -14,7 +14,7 @@ ghost use Rattle.edits.specs.Edits.{edited};
 ghost use Rattle.reading.specs.Speech.{plainSaid};
 ghost use Rattle.tables.specs.Words.{built};
 ghost use Rattle.tables.specs.Walk.{walkSaid};
-ghost use Rattle.host.specs.Codes.{checked, countIn, lastIn, spokenCode, phonesOrPlace, numbersGiven, ruleIn};
+ghost use Rattle.host.specs.Codes.{checked, countIn, lastIn, spokenCode, phonesOrPlace, numbersGiven, ruleGiven};
 ghost use Rattle.file.specs.Loading.{loaded, filed};
 ghost use Rattle.host.specs.Files.{writtenCode, bytesOrPlace};
 ghost use Rattle.host.specs.Many.{manySaid};
@@ -67,9 +67,9 @@ pub extern "C" fn pirrozketa_last(image: &[u8]) -> u16
 // Add(rule, p).
 #[no_mangle]
 pub extern "C" fn pirrozketa_add(image: &mut [u8], rule: &[u8], p: usize, place: &mut usize) -> u8
-    ensures code { λ r. ⌜ r ≡ replyCode (edited (now (image .entry)) (Edit.Add (ruleIn (now (rule .entry))) p) .reply) ⌝ }
-    ensures place { λ _. ⌜ now (place .exit) ≡ replyPlace (edited (now (image .entry)) (Edit.Add (ruleIn (now (rule .entry))) p) .reply) ⌝ }
-    ensures image { λ _. ⌜ now (image .exit) ≡ edited (now (image .entry)) (Edit.Add (ruleIn (now (rule .entry))) p) .image ⌝ }
+    ensures code { λ r. ⌜ r ≡ replyCode (edited (now (image .entry)) (Edit.Add (ruleGiven (now (rule .entry))) p) .reply) ⌝ }
+    ensures place { λ _. ⌜ now (place .exit) ≡ replyPlace (edited (now (image .entry)) (Edit.Add (ruleGiven (now (rule .entry))) p) .reply) ⌝ }
+    ensures image { λ _. ⌜ now (image .exit) ≡ edited (now (image .entry)) (Edit.Add (ruleGiven (now (rule .entry))) p) .image ⌝ }
 {
     let added = given::rule_in(rule);
     let answer = edits::add_rule(image, added, p);

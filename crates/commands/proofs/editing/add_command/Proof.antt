@@ -6,7 +6,7 @@ use Rattle.numbers.specs.Numbers.{two}
 use Rattle.edits.specs.Ledger.{Edit}
 use Rattle.edits.specs.Edits.{edited}
 use Rattle.commands.specs.Answers.{ruled, added}
-use Rattle.commands.specs.Fields.{addSized, ruleOf}
+use Rattle.commands.specs.Fields.{addSized, addedRule}
 use Rattle.commands.proofs.AddFrame.{sized}
 use Rattle.commands.proofs.Replies.{answered-not, answered-edit}
 use borrow.Author.Needs.{needs}
@@ -24,7 +24,7 @@ same-length c = search needs
 
 returns : tie.Need-returns
 unfolding added
-returns c = let a = c .before .before .before .before .before .before .before .before .before .args in answered-not (addSized (a .f .now)) (ruled (edited (a .image .now) (Edit.Add (ruleOf (a .f .now)) (two 1 (a .f .now))))) (a .image .now) (a .out .now) _ _ (sym (c .before .before .before .before .before .add-sized .ensures) ∙ not-true _ (c .before .before .before .before .if1 .taken)) (c .before .before .malformed .ensures .0) (c .before .before .malformed .ensures .1)
+returns c = let a = c .before .before .before .before .before .before .before .before .before .args in answered-not (addSized (a .f .now)) (ruled (edited (a .image .now) (Edit.Add (addedRule (a .f .now)) (two 1 (a .f .now))))) (a .image .now) (a .out .now) _ _ (sym (c .before .before .before .before .before .add-sized .ensures) ∙ not-true _ (c .before .before .before .before .if1 .taken)) (c .before .before .malformed .ensures .0) (c .before .before .malformed .ensures .1)
 
 add-requires : tie.Need-add-requires
 add-requires c κs = sized (c .before .before .before .before .before .before .args .f .now) (sym (c .before .before .add-sized .ensures) ∙ not-false _ (c .before .if1 .left))
@@ -40,7 +40,7 @@ same-length-3 c = search needs
 
 returns-2 : tie.Need-returns-2
 unfolding added
-returns-2 c = let a = c .before .before .before .before .before .before .before .before .before .before .before .before .before .before .args in answered-edit (addSized (a .f .now)) (edited (a .image .now) (Edit.Add (ruleOf (a .f .now)) (two 1 (a .f .now)))) (a .image .now) (a .out .now) _ _ (sym (c .before .before .before .before .before .before .before .before .before .before .add-sized .ensures) ∙ not-false _ (c .before .before .before .before .before .before .before .before .before .if1 .left)) (c .before .before .before .before .before .before .before .add .result) _ (c .before .before .before .before .before .before .before .add .ensures) (c .before .before .reply-line .ensures .0) (c .before .before .reply-line .ensures .1)
+returns-2 c = let a = c .before .before .before .before .before .before .before .before .before .before .before .before .before .before .args in answered-edit (addSized (a .f .now)) (edited (a .image .now) (Edit.Add (addedRule (a .f .now)) (two 1 (a .f .now)))) (a .image .now) (a .out .now) _ _ (sym (c .before .before .before .before .before .before .before .before .before .before .add-sized .ensures) ∙ not-false _ (c .before .before .before .before .before .before .before .before .before .if1 .left)) (c .before .before .before .before .before .before .before .add .result) _ (c .before .before .before .before .before .before .before .add .ensures) (c .before .before .reply-line .ensures .0) (c .before .before .reply-line .ensures .1)
 
 pub add-command-spec : {M : Type 1} → statement M
 add-command-spec =
