@@ -41,12 +41,6 @@ pub fn with_symbol(name: Name, x: u8) -> Name {
     }
 }
 
-fn wide(x: u8) -> usize
-    ensures { λ r. ⌜ r ≤ 255 ⌝ }
-{
-    x as usize
-}
-
 // The first `n` of the symbols more.
 fn with_symbols(name: Name, symbols: &[u8], n: usize) -> Name {
     let mut made = name;
@@ -63,17 +57,17 @@ fn with_symbols(name: Name, symbols: &[u8], n: usize) -> Name {
 
 fn with_left(name: Name, rule: Rule) -> Name {
     let left = rule.left;
-    with_symbols(name, &left, wide(rule.left_len))
+    with_symbols(name, &left, numbers::wide(rule.left_len))
 }
 
 fn with_target(name: Name, rule: Rule) -> Name {
     let target = rule.target;
-    with_symbols(name, &target, wide(rule.target_len))
+    with_symbols(name, &target, numbers::wide(rule.target_len))
 }
 
 fn with_right(name: Name, rule: Rule) -> Name {
     let right = rule.right;
-    with_symbols(name, &right, wide(rule.right_len))
+    with_symbols(name, &right, numbers::wide(rule.right_len))
 }
 
 // The shortest name that ends with a rule's target, after the target of another.
@@ -105,12 +99,12 @@ fn longer_left(p: Rule, q: Rule) -> Name {
 fn width(rule: Rule) -> usize
     ensures { λ r. ⌜ r ≤ 510 ⌝ }
 {
-    wide(rule.target_len) + wide(rule.right_len)
+    numbers::wide(rule.target_len) + numbers::wide(rule.right_len)
 }
 
 // Whether a rule has more symbols than another.
 pub fn is_longer(rule: Rule, other: Rule) -> bool {
-    wide(other.left_len) + width(other) < wide(rule.left_len) + width(rule)
+    numbers::wide(other.left_len) + width(other) < numbers::wide(rule.left_len) + width(rule)
 }
 
 // The shortest name in which two rules could both fit at one position, after its first `before` letters: their contexts and targets, laid

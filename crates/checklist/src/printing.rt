@@ -12,12 +12,8 @@ pub fn print_number(n: usize) {
     io::print_decimal(STDOUT_FILENO, n as u64);
 }
 
-fn wide(x: u16) -> usize {
-    x as usize
-}
-
 pub fn print_rule_number(n: u16) {
-    print_number(wide(n));
+    print_number(numbers::wide16(n));
 }
 
 // How a line of the checklist starts.
@@ -43,7 +39,7 @@ pub fn print_none(tried: usize) {
 // A refusal.
 pub fn print_refused(number: u8, place: usize) {
     print(b"refused ");
-    print_number(number as usize);
+    print_number(numbers::wide(number));
     print(b" at ");
     print_number(place);
 }

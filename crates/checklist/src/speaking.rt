@@ -146,7 +146,7 @@ pub fn ends_silent(image: &[u8], c: Came, numbers: &[u16]) -> bool {
 // How many letters the rule of a number takes.
 fn letters_of(image: &[u8], number: u16) -> usize {
     let rule = ruleset::rule_at(image, ruleset::place_of(image, number));
-    rule.target_len as usize
+    numbers::wide(rule.target_len)
 }
 
 // The number of the rule applied after the first `before` letters; 0 where the reading does not stop there.
