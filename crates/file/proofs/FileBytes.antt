@@ -19,7 +19,8 @@ use Rattle.image.specs.Image.{entriesOf, entryAt, valid, numberedAt, countOf, l
 use Rattle.image.proofs.Entries.{entries-length, entry-slot, slot-shaped}
 use Rattle.file.specs.Layout.{lineSize, headLineSize, longestFrame}
 use Rattle.file.specs.File.{headLine, ruleLine, ruleLines, encode}
-use Rattle.file.specs.Loading.{rulesetIn, wrote, refused, filing, filed, Short}
+use Rattle.file.specs.Loading.{rulesetIn, filing, filed, Short}
+use Rattle.rules.specs.Refusals.{wrote, refused}
 
 -- ---- the lines of the first rules of a list
 

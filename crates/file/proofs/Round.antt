@@ -27,7 +27,8 @@ use Rattle.frames.proofs.Lines.{Bytes}
 use Rattle.file.specs.Layout.{numberedOf}
 use Rattle.file.specs.File.{wellFormed, encode, Read, readFile}
 use Rattle.file.specs.File.Read.{Accepted, Malformed, Broken}
-use Rattle.file.specs.Loading.{ledgerFor, verdict, loaded, rulesetIn, wrote, refused, filing, filed}
+use Rattle.file.specs.Loading.{ledgerFor, verdict, loaded, rulesetIn, filing, filed}
+use Rattle.rules.specs.Refusals.{wrote, refused}
 use Rattle.file.proofs.Bodies.{both, in-range}
 use Rattle.file.proofs.Accepts.{formed-is, accepts, accepted as accepted-was}
 use Rattle.file.proofs.Parts.{view-struct}

@@ -9,14 +9,12 @@ use lib.Dec.{leb}
 use Rattle.rules.specs.Limits.{maxContext, maxTarget, maxPhones}
 use Rattle.rules.specs.Memory.{over}
 use Rattle.rules.specs.Shape.{shape}
-use Rattle.rules.specs.Refusals.{refusalNumber, refusalPlace, Reply, accepted, declined}
+use Rattle.rules.specs.Refusals.{Reply, accepted, declined, Report, wrote, refused}
 use Rattle.rules.specs.declared.Numbered.{Numbered}
 use Rattle.image.specs.State.{Ruleset, Ledger, rulesetOf, entry, noEntry}
 use Rattle.image.specs.Image.{imageSize, ledgerOf, laid, withRule, valid, Edited, outcome}
 use Rattle.frames.specs.Lines.{Parsed}
 use Rattle.frames.specs.Lines.Parsed.{Bad, Good}
-use Rattle.file.specs.declared.Written.{Written}
-use Rattle.file.specs.declared.Written.the-variants.{Bytes, Refused}
 use Rattle.file.specs.declared.heading.Head.{Head}
 use Rattle.file.specs.declared.heading.HeadLine.{HeadLine}
 use Rattle.file.specs.declared.parsing.Ruled.{Ruled}
@@ -58,15 +56,6 @@ loaded file image =
 -- the ruleset that an image holds
 abbrev pub rulesetIn : List ℕ → Ruleset
 rulesetIn image = rulesetOf (ledgerOf image)
-
--- what a writing says: the bytes of the file, or document 01's number with its place
-pub data Report : Type 0 where
-  wrote : ℕ → Report
-  refused : ℕ → ℕ → Report
-
-abbrev pub reportOf : Written → Report
-reportOf (Bytes n) = wrote n
-reportOf (Refused x) = refused (refusalNumber x) (refusalPlace x)
 
 -- the report, and the lent bytes after it
 pub record Filed : Type 0 where

@@ -7,16 +7,11 @@ mod writing;
 
 use rules::Answer;
 use rules::Refusal;
+use rules::Written;
 ghost use mathlib.Core.Path.{_≡_};
-ghost use Rattle.rules.specs.Refusals.{replyOf};
+ghost use Rattle.rules.specs.Refusals.{replyOf, reportOf};
 ghost use Rattle.image.specs.Image.{outcome};
-ghost use Rattle.file.specs.Loading.{loaded, reportOf, filing, filed};
-
-// What a writing gives: the bytes of the file, or a refusal.
-pub enum Written {
-    Bytes(usize),
-    Refused(Refusal),
-}
+ghost use Rattle.file.specs.Loading.{loaded, filing, filed};
 
 // A file read into lent memory, which holds its ruleset afterwards. The whole file is judged before the first byte is stored: refusals 0,
 // 13 and 14 leave the memory as it was.

@@ -8,12 +8,13 @@ use native.Mathlib.Nat.{mod-eq-of-lt}
 use native.Mathlib.Omega.{arith}
 use borrow.Author.Tests.{le-leb}
 use lib.ListN.{length, getD, drop, replicate}
+use Rattle.rules.specs.Memory.{Below, wordBound}
 use Rattle.rules.specs.Refusals.{Reply, accepted}
 use Rattle.image.specs.Image.{imageSize, cleared}
 use Rattle.edits.specs.Ledger.{Edit}
 use Rattle.edits.specs.Ledger.Edit.{Add, Drop, Move}
 use Rattle.edits.specs.Edits.{FilledEdit}
-use Rattle.history.specs.Code.{editWords, codedEdit, codedEdits, wordsOf, wordsAll, wordBound, Below, Bytes, Typed, TypedAll}
+use Rattle.history.specs.Code.{editWords, codedEdit, codedEdits, wordsOf, wordsAll, Bytes, Typed, TypedAll}
 use Rattle.history.specs.Replay.{turns, taken, Replay, through, throughBy, replayed, ReplayedList}
 use Rattle.history.proofs.Runs.{from-empty}
 

@@ -2,18 +2,18 @@
 -- Assumes nothing.
 use Prim.Native.Nat.{ℕ, zero, suc, _+_, _-_, _*_, _≤_, _<_, _%_}
 use mathlib.Core.Path.{_≡_, refl, sym, ap, ap₂, _∙_}
-use mathlib.Core.List.{List, [], _∷_, _++_, map, append-assoc, append-nil, map-append}
+use mathlib.Core.List.{List, [], _∷_, _++_, map, append-assoc, append-nil}
 use mathlib.Core.Bool.{Bool, true, false, cond}
 use native.Mathlib.Omega.{arith}
 use borrow.Author.Tests.{eq-eqb, ne-eqb, le-leb, leb-true}
-use lib.ListN.{length, getD, take, drop, set, length-set, length-drop, length-append, length-map}
+use lib.ListN.{length, getD, take, drop, set, length-set, length-drop, length-append}
 use lib.Seq.{drop-drop, take-all}
 use lib.Dec.{leb, eqb}
 use Rattle.rules.specs.Memory.{over}
 use Rattle.rules.specs.Refusals.{Reply, accepted, declined, replyCode, replyPlace}
 use Rattle.rules.specs.declared.Rule.{Rule}
 use Rattle.rules.proofs.Cases.{byBool}
-use Rattle.rules.proofs.Memory.{over-snoc}
+use Rattle.rules.proofs.Memory.{snoc-by}
 use Rattle.image.specs.State.{Ledger, start, isRuleset}
 use Rattle.image.specs.Image.{imageSize, ledgerOf, laid, valid, Edited, outcome, cleared}
 use Rattle.edits.specs.Ledger.{Edit, afterAll, answersAll, issued}
@@ -79,14 +79,6 @@ going-start code d answers places n =
       numbered = refl;
       placed = refl;
     }
-
--- one answer more
-snoc-by : (f : Reply → ℕ) (replies : List Reply) (a : Reply) (old new : List ℕ) (i v : ℕ) → new ≡ over (map f replies) old → length replies ≡ i
-    → i < length old → v ≡ f a → set new i v ≡ over (map f (replies ++ (a ∷ []))) old
-snoc-by f replies a old new i v e l h q =
-    ap (λ (w : List ℕ). set w i v) e
-    ∙ (over-snoc (map f replies) old i v (length-map replies f ∙ l) h
-    ∙ ap (λ (w : List ℕ). over w old) (ap (λ (x : ℕ). map f replies ++ (x ∷ [])) q ∙ sym (map-append f replies (a ∷ []))))
 
 module _ (code d answers₀ places₀ : List ℕ) (n : ℕ) (img answers places : List ℕ) (i at : ℕ) (g : Going code d answers₀ places₀ n img answers places i at) where
   pub going-on : (a : Reply) (img′ : List ℕ) (v p : ℕ) → i < n → n ≤ turns (length code) (length answers₀) (length places₀) → length img′ ≡ length img

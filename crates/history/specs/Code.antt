@@ -7,6 +7,7 @@ use mathlib.Core.Path.{_≡_}
 use mathlib.Core.List.{List, [], _∷_, _++_}
 use lib.ListN.{length, getD, drop, replicate}
 use lib.Dec.{eqb}
+use Rattle.rules.specs.Memory.{Below, wordBound}
 use Rattle.rules.specs.Limits.{maxContext, maxTarget, maxPhones}
 use Rattle.rules.specs.declared.Rule.{Rule}
 use Rattle.edits.specs.Ledger.{Edit}
@@ -64,10 +65,6 @@ abbrev pub wordsAll : List Edit → List ℕ
 wordsAll [] = []
 wordsAll (e ∷ es) = wordsOf e (wordsAll es)
 
--- numbers that are all below a bound
-abbrev pub Below : ℕ → List ℕ → Type 0
-Below b l = (k : ℕ) → getD l k 0 < b
-
 -- n bytes
 abbrev pub Bytes : ℕ → List ℕ → Type 0
 Bytes n l = (length l ≡ n) × Below 256 l
@@ -82,10 +79,6 @@ pub record TypedRule (r : Rule) : Type 0 where
   pub target : Bytes maxTarget (r .target)
   pub right : Bytes maxContext (r .right)
   pub phones : Bytes maxPhones (r .phones)
-
--- what a word, a usize of 64 bits, is below
-abbrev pub wordBound : ℕ
-wordBound = 18446744073709551616
 
 -- an edit whose arguments are of the functions' types
 abbrev pub Typed : Edit → Type 0

@@ -5,13 +5,13 @@ use mathlib.Core.Path.{_≡_}
 use mathlib.Core.List.{List, map}
 use mathlib.Core.Bool.{true}
 use lib.ListN.{length, getD}
-use Rattle.rules.specs.Memory.{over}
+use Rattle.rules.specs.Memory.{over, Below, wordBound}
 use Rattle.rules.specs.Refusals.{Reply, accepted, declined, replyCode, replyPlace}
 use Rattle.image.specs.State.{start}
 use Rattle.image.specs.Image.{ledgerOf, valid, cleared}
 use Rattle.edits.specs.Ledger.{Edit, afterAll, answersAll, issued}
 use Rattle.edits.specs.Edits.{outAll, imageAll, issuedIn}
-use Rattle.history.specs.Code.{editWords, codedEdits, wordsAll, wordBound, Below}
+use Rattle.history.specs.Code.{editWords, codedEdits, wordsAll}
 
 -- how many edits are taken: as many as are coded and have room for the code and the place of their answer
 abbrev pub turns : ℕ → ℕ → ℕ → ℕ

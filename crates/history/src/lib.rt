@@ -2,7 +2,7 @@
 use rules::Answer;
 use rules::Rule;
 ghost use mathlib.Core.Path.{_≡_};
-ghost use Prim.Native.Nat.{_<_, _≤_, min};
+ghost use Prim.Native.Nat.{_<_, _≤_};
 ghost use lib.ListN.{length, getD};
 ghost use Rattle.rules.specs.Refusals.{replyOf, accepted};
 ghost use Rattle.image.specs.Image.{outcome};
@@ -109,13 +109,6 @@ fn replay_all(image: &mut [u8], code: &[usize], answers: &mut [u8], places: &mut
     }
 }
 
-// The smaller of two lengths.
-fn smaller(a: usize, b: usize) -> usize
-    ensures { λ r. ⌜ r ≡ min a b ⌝ }
-{
-    if a < b { a } else { b }
-}
-
 // The coded edits from the empty ruleset, as many as have room for their answer: its code in `answers`, its place in `places`.
 pub fn replay(image: &mut [u8], code: &[usize], answers: &mut [u8], places: &mut [usize]) -> Answer
     ensures { λ r. ⌜ Replayed (now (image .entry)) (now (code .entry)) (now (answers .entry)) (now (places .entry)) (replaying (replyOf r) (now (image .exit)) (now (answers .exit)) (now (places .exit))) ⌝ }
@@ -124,8 +117,8 @@ pub fn replay(image: &mut [u8], code: &[usize], answers: &mut [u8], places: &mut
     if let Answer::Refused(why) = answer {
         return Answer::Refused(why);
     }
-    let room = smaller(answers.len(), places.len());
-    let n = smaller(code.len() / EDIT_WORDS, room);
+    let room = numbers::smaller(answers.len(), places.len());
+    let n = numbers::smaller(code.len() / EDIT_WORDS, room);
     replay_all(image, code, answers, places, n);
     Answer::Accepted
 }
