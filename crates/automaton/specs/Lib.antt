@@ -1,0 +1,5 @@
+pub mod Automaton
+pub mod Changes
+pub mod Listing
+pub mod Totals
+pub mod Bounds
