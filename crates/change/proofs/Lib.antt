@@ -1,0 +1,13 @@
+pub mod Filled
+pub mod Saving
+pub mod Sweeping
+pub mod Pigeonhole
+pub mod Fewest
+pub mod Crowding
+pub mod Building
+pub mod Groups
+pub mod NameCounts
+pub mod Lists
+pub mod Listed
+pub mod Lent
+pub mod Judgement

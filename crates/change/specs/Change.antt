@@ -1,0 +1,66 @@
+-- Adding, replacing and removing a name (document 02, request 1): the refusals in their order, and the list after the change.
+-- Assumes nothing.
+use mathlib.Core.Path.{_≡_}
+use Prim.Native.Nat.{ℕ}
+use mathlib.Core.Bool.{Bool, true, false, cond, _&&_}
+use mathlib.Core.List.{List, []}
+use lib.Dec.{leb, ltb}
+use lib.ListN.{length, drop}
+use Rattle.rules.specs.Limits.{maxPhone, maxListedPhones}
+use Rattle.rules.specs.Shape.{allFrom}
+use Rattle.rules.specs.Refusals.{Reply, accepted, declined, unless}
+use Rattle.rules.specs.Names.{judgedName}
+use Rattle.automaton.specs.Automaton.{Str, changed}
+use Rattle.automaton.specs.Listing.{none?}
+use Rattle.minimality.specs.Judging.{Decides}
+use Rattle.exceptions.specs.Layout.{listSize, wordsOf, phonesFor}
+use Rattle.exceptions.specs.Judging.{isList, Says}
+
+-- a change: a name gets phones, or loses them
+pub data Change : Type 0 where
+  Add : Str → Str → Change
+  Remove : Str → Change
+
+-- 17 of an entry: a name of no letters, no phones, over 64 of them, or a phone 00
+abbrev pub judgedEntry : Str → Str → Reply
+judgedEntry name p = cond (ltb 0 (length name) && (ltb 0 (length p) && (leb (length p) maxListedPhones && allFrom maxPhone p))) accepted (declined 17 0)
+
+-- 18: what the list says of the name, where that is nothing
+abbrev pub judgedListed : Str → Reply
+judgedListed p = cond (none? p) (declined 18 0) accepted
+
+-- the refusals before the limits, for a list that says m of each name: 2, 1, and 17 of the entry or 18
+abbrev pub judgedChange : (Str → Str) → Change → Reply
+judgedChange m (Add name p) = unless (judgedName name) (judgedEntry name p)
+judgedChange m (Remove name) = unless (judgedName name) (judgedListed (m name))
+
+-- what is said after the change, where it is accepted
+abbrev pub afterChange : (Str → Str) → Change → (Str → Str)
+afterChange m (Add name p) = changed name p m
+afterChange m (Remove name) = changed name [] m
+
+-- a list within the limits says m. Lists that say the same have as many names and states (`same-names`, `same-states`), so that this is so just
+-- where m has at most 1,000 names and its smallest automaton at most 4,096 states.
+pub record Held (m : Str → Str) : Type 0 where
+  pub list : List ℕ
+  pub is : isList list ≡ true
+  pub says : Says list m
+
+-- the answer to a change on a list that says m: what is refused before the limits, and 19, checked last
+pub record Answers (m : Str → Str) (c : Change) (reply : Reply) : Type 0 where
+  -- whether the list after the change is within the limits
+  pub fits : Bool
+  pub limits : judgedChange m c ≡ accepted → Decides (Held (afterChange m c)) fits
+  pub answer : reply ≡ unless (judgedChange m c) (cond fits accepted (declined 19 0))
+
+-- all that a change of lent memory gives; how the states after it are numbered, and what the free words hold, is free
+pub record Changed (c : Change) (before after : List ℕ) (reply : Reply) : Type 0 where
+  -- 17 of the list comes first
+  pub bad : isList before ≡ false → reply ≡ declined 17 0
+  pub good : isList before ≡ true → Answers (phonesFor (wordsOf before)) c reply
+  -- accepted: the memory holds the list after the change, and what lies past its words is kept
+  pub list : reply ≡ accepted → isList after ≡ true
+  pub says : reply ≡ accepted → Says after (afterChange (phonesFor (wordsOf before)) c)
+  pub rest : drop listSize after ≡ drop listSize before
+  -- refused: every word is kept
+  pub kept : (reply ≡ accepted → ⊥) → after ≡ before
