@@ -6,11 +6,11 @@ use crate::printing::print_refused;
 use crate::printing::print_rule_number;
 use crate::printing::print_verdict;
 use crate::ruleset;
-use file::Written;
 use rules::Answer;
 use rules::MAX_NUMBER;
 use rules::Refusal;
 use rules::Rule;
+use rules::Written;
 
 fn is_accepted(answer: Answer) -> bool {
     match answer {

@@ -59,19 +59,25 @@ fn after(s: Search, name: Name, found: bool) -> Search {
 // ---- a name whose last letter is silent
 
 // Whether a name is spoken, and the last rule applied has no phones.
-fn is_silent_at_end(image: &[u8], name: Name) -> bool {
+fn is_silent_at_end(image: &[u8], name: Name) -> bool
+    requires { ⌜ valid (now image) ≡ true ⌝ }
+{
     let mut phones = [0u8; 256];
     let mut numbers = [0u16; 64];
     let came = speaking::read(image, name, &mut phones, &mut numbers);
     speaking::ends_silent(image, came, &numbers)
 }
 
-fn try_silent(image: &[u8], s: Search, name: Name) -> Search {
+fn try_silent(image: &[u8], s: Search, name: Name) -> Search
+    requires { ⌜ valid (now image) ≡ true ⌝ }
+{
     after(s, name, is_silent_at_end(image, name))
 }
 
 // A silent rule at the end of a name: after the target of each rule in turn, then alone.
-fn silent_rule(image: &[u8], s: Search, place: usize) -> Search {
+fn silent_rule(image: &[u8], s: Search, place: usize) -> Search
+    requires { ⌜ valid (now image) ≡ true ⌝ }
+{
     let rule = ruleset::rule_at(image, place);
     if rule.phone_len != 0 || !names::can_end(rule) {
         return s;
@@ -92,7 +98,9 @@ fn silent_rule(image: &[u8], s: Search, place: usize) -> Search {
     try_silent(image, at, names::ending_alone(rule))
 }
 
-pub fn silent(image: &[u8]) -> Search {
+pub fn silent(image: &[u8]) -> Search
+    requires { ⌜ valid (now image) ≡ true ⌝ }
+{
     let n = ruleset::count(image);
     let mut at = begin();
     let mut k: usize = 0;
@@ -109,7 +117,9 @@ pub fn silent(image: &[u8]) -> Search {
 // ---- a name where two rules fit
 
 // Whether a name is spoken and its reading stops after its first `before` letters.
-fn is_reached(image: &[u8], name: Name, before: usize) -> bool {
+fn is_reached(image: &[u8], name: Name, before: usize) -> bool
+    requires { ⌜ valid (now image) ≡ true ⌝ }
+{
     let mut phones = [0u8; 256];
     let mut numbers = [0u16; 64];
     let came = speaking::read(image, name, &mut phones, &mut numbers);
@@ -199,20 +209,26 @@ pub fn two_fitting(image: &[u8]) -> Search
 // ---- a letter that no rule covers
 
 // Whether the name of one letter is refused for want of a rule.
-fn is_uncovered(image: &[u8], name: Name) -> bool {
+fn is_uncovered(image: &[u8], name: Name) -> bool
+    requires { ⌜ valid (now image) ≡ true ⌝ }
+{
     let mut phones = [0u8; 256];
     let mut numbers = [0u16; 64];
     let came = speaking::read(image, name, &mut phones, &mut numbers);
     speaking::is_refused(came, 3, 1)
 }
 
-fn try_letter(image: &[u8], s: Search, x: u8) -> Search {
+fn try_letter(image: &[u8], s: Search, x: u8) -> Search
+    requires { ⌜ valid (now image) ≡ true ⌝ }
+{
     let name = names::with_symbol(names::empty(), x);
     after(s, name, is_uncovered(image, name))
 }
 
 // Once each letter was tried, there is none.
-pub fn uncovered(image: &[u8]) -> Search {
+pub fn uncovered(image: &[u8]) -> Search
+    requires { ⌜ valid (now image) ≡ true ⌝ }
+{
     let mut at = begin();
     let mut x: u8 = 1;
     while x <= MAX_NAME_BYTE {

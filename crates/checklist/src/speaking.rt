@@ -3,6 +3,9 @@ use crate::names;
 use crate::names::Name;
 use crate::ruleset;
 use reading::Speech;
+ghost use mathlib.Core.Path.{_≡_};
+ghost use mathlib.Core.Bool.{true};
+ghost use Rattle.image.specs.Image.{valid};
 
 // What came of a name: SPOKEN with so many phones and rules, or a refusal's number with its place.
 pub struct Came {
@@ -45,9 +48,11 @@ pub fn is_refused(c: Came, code: u8, place: usize) -> bool {
 }
 
 // The plain reading of a name.
-pub fn read(image: &[u8], name: Name, phones: &mut [u8], numbers: &mut [u16]) -> Came {
+pub fn read(image: &[u8], name: Name, phones: &mut [u8], numbers: &mut [u16]) -> Came
+    requires { ⌜ valid (now image) ≡ true ⌝ }
+{
     let letters = name.letters;
-    let speech = reading::read_name(image, names::spelling(&letters, name.len), phones, numbers);
+    let speech = reading::read_valid(image, names::spelling(&letters, name.len), phones, numbers);
     came_of(speech)
 }
 
@@ -59,9 +64,11 @@ fn walk<'a>(
     name: Name,
     phones: &mut [u8],
     numbers: &mut [u16],
-) -> Came {
+) -> Came
+    requires { ⌜ valid (now image) ≡ true ⌝ }
+{
     let letters = name.letters;
-    let answer = compiled::speak_compiled(
+    let answer = compiled::speak_valid(
         image,
         words,
         sets,
@@ -112,7 +119,9 @@ pub fn compare<'a>(
     sets: &'a [u64],
     name: Name,
     numbers: &mut [u16],
-) -> Compared {
+) -> Compared
+    requires { ⌜ valid (now image) ≡ true ⌝ }
+{
     let mut phones = [0u8; 256];
     let walked = walk(image, words, sets, name, &mut phones, numbers);
     let mut plain_phones = [0u8; 256];

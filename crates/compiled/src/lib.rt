@@ -1,13 +1,20 @@
 // A compiled ruleset: the lent tables with their state counts as read from the words. It is what each name is sent through
 // (document 01, "The walk").
-use reading::Speech;
+use reading::delivery;
+use reading::delivery::Listed;
+use rules::Answer;
 use rules::Refusal;
 use walk::WalkAnswer;
 ghost use mathlib.Core.Path.{_≡_};
 ghost use mathlib.Core.Bool.{true};
 ghost use lib.ListN.{getD};
-ghost use Rattle.image.specs.Image.{valid};
-ghost use Rattle.tables.specs.Walk.{walkFor, walkSaid};
+ghost use Rattle.rules.specs.Names.{SoundName};
+ghost use Rattle.exceptions.specs.Layout.{wordsOf, phonesFor};
+ghost use Rattle.exceptions.specs.Judging.{isList, listingOf, noList};
+ghost use Rattle.image.specs.Image.{valid, entriesOf};
+ghost use Rattle.reading.specs.Speech.{listedOr};
+ghost use Rattle.tables.specs.Words.{compiledFrom};
+ghost use Rattle.tables.specs.Walk.{walkThrough, walkedAs, walkSaid};
 ghost use Rattle.walk.specs.Walked.{walkedOf, compiledWith};
 ghost use Rattle.compiled.specs.Compiling.{compiledOf};
 
@@ -43,7 +50,7 @@ pub fn compile<'a>(words: &'a [u16], sets: &'a [u64]) -> Compiled<'a>
     }
 }
 
-// The thin entry: a name is sent through a compiled ruleset, which is taken apart for the covered walk. The image is known valid.
+// The thin entry: a sound name is sent through a compiled ruleset, which is taken apart for the covered walk. The image is known valid.
 pub fn speak<'a>(
     compiled: Compiled<'a>,
     image: &[u8],
@@ -51,8 +58,8 @@ pub fn speak<'a>(
     phones: &mut [u8],
     numbers: &mut [u16],
 ) -> WalkAnswer
-    requires { ⌜ valid (now image) ≡ true ⌝ }
-    ensures { λ r. ⌜ walkedOf r (now (phones .exit)) (now (numbers .exit)) ≡ walkFor (compiledWith (now (compiled .entry .words)) (now (compiled .entry .sets)) (compiled .entry .«left_states») (compiled .entry .«right_states»)) (now (image .entry)) (now (name .entry)) (now (phones .entry)) (now (numbers .entry)) ⌝ }
+    requires { ⌜ (valid (now image) ≡ true) × SoundName (now name) ⌝ }
+    ensures { λ r. ⌜ walkedOf r (now (phones .exit)) (now (numbers .exit)) ≡ walkedAs (walkThrough (compiledWith (now (compiled .entry .words)) (now (compiled .entry .sets)) (compiled .entry .«left_states») (compiled .entry .«right_states»)) (entriesOf (now (image .entry))) (now (name .entry))) (now (phones .entry)) (now (numbers .entry)) ⌝ }
 {
     walk::walk_tables(
         compiled.words,
@@ -66,7 +73,7 @@ pub fn speak<'a>(
     )
 }
 
-// Plain parameters only: the words are compiled, and the name is sent through. The image is known valid.
+// Plain parameters only: the words are compiled, and the sound name is sent through. The image is known valid.
 pub fn speak_words<'a>(
     words: &'a [u16],
     sets: &'a [u64],
@@ -75,15 +82,15 @@ pub fn speak_words<'a>(
     phones: &mut [u8],
     numbers: &mut [u16],
 ) -> WalkAnswer
-    requires { ⌜ valid (now image) ≡ true ⌝ }
-    ensures { λ r. ⌜ walkedOf r (now (phones .exit)) (now (numbers .exit)) ≡ walkSaid (now (image .entry)) (now (words .entry)) (now (sets .entry)) (now (name .entry)) (now (phones .entry)) (now (numbers .entry)) ⌝ }
+    requires { ⌜ (valid (now image) ≡ true) × SoundName (now name) ⌝ }
+    ensures { λ r. ⌜ walkedOf r (now (phones .exit)) (now (numbers .exit)) ≡ walkedAs (walkThrough (compiledFrom (now (words .entry)) (now (sets .entry))) (entriesOf (now (image .entry))) (now (name .entry))) (now (phones .entry)) (now (numbers .entry)) ⌝ }
 {
     let compiled = compile(words, sets);
     speak(compiled, image, name, phones, numbers)
 }
 
-// The walk of a name through the compiled ruleset of lent words, built or not, with an image that may be none.
-pub fn speak_compiled<'a>(
+// The walk of a name, for a caller that knows the image valid and has no list.
+pub fn speak_valid<'a>(
     image: &[u8],
     words: &'a [u16],
     sets: &'a [u64],
@@ -91,13 +98,73 @@ pub fn speak_compiled<'a>(
     phones: &mut [u8],
     numbers: &mut [u16],
 ) -> WalkAnswer
-    ensures { λ r. ⌜ walkedOf r (now (phones .exit)) (now (numbers .exit)) ≡ walkSaid (now (image .entry)) (now (words .entry)) (now (sets .entry)) (now (name .entry)) (now (phones .entry)) (now (numbers .entry)) ⌝ }
+    requires { ⌜ valid (now image) ≡ true ⌝ }
+    ensures { λ r. ⌜ walkedOf r (now (phones .exit)) (now (numbers .exit)) ≡ walkSaid (now (image .entry)) noList (now (words .entry)) (now (sets .entry)) (now (name .entry)) (now (phones .entry)) (now (numbers .entry)) ⌝ }
+{
+    let judged = rules::judge_name(name);
+    match judged {
+        Answer::Refused(x) => walk::at_once(x),
+        Answer::Accepted => speak_words(words, sets, image, name, phones, numbers),
+    }
+}
+
+// The walk of a sound name that may be on the list: what is said from it takes no step.
+fn speak_listed<'a>(
+    image: &[u8],
+    list: &[u32],
+    words: &'a [u16],
+    sets: &'a [u64],
+    name: &[u8],
+    phones: &mut [u8],
+    numbers: &mut [u16],
+) -> WalkAnswer
+    requires { ⌜ (valid (now image) ≡ true) × ((isList (now list) ≡ true) × SoundName (now name)) ⌝ }
+    ensures { λ r. ⌜ walkedOf r (now (phones .exit)) (now (numbers .exit)) ≡ walkedAs (listedOr (phonesFor (wordsOf (now (list .entry)))) (now (name .entry)) (walkThrough (compiledFrom (now (words .entry)) (now (sets .entry))) (entriesOf (now (image .entry))) (now (name .entry)))) (now (phones .entry)) (now (numbers .entry)) ⌝ }
+{
+    let found = delivery::say_listed(list, name, &mut *phones);
+    match found {
+        Listed::Said(speech) => WalkAnswer { steps: 0, speech },
+        Listed::Unlisted => speak_words(words, sets, image, name, phones, numbers),
+    }
+}
+
+// The walk of a name, for a caller that knows the image and the list valid.
+pub fn speak_known<'a>(
+    image: &[u8],
+    list: &[u32],
+    words: &'a [u16],
+    sets: &'a [u64],
+    name: &[u8],
+    phones: &mut [u8],
+    numbers: &mut [u16],
+) -> WalkAnswer
+    requires { ⌜ (valid (now image) ≡ true) × (isList (now list) ≡ true) ⌝ }
+    ensures { λ r. ⌜ walkedOf r (now (phones .exit)) (now (numbers .exit)) ≡ walkSaid (now (image .entry)) (listingOf (now (list .entry))) (now (words .entry)) (now (sets .entry)) (now (name .entry)) (now (phones .entry)) (now (numbers .entry)) ⌝ }
+{
+    let judged = rules::judge_name(name);
+    match judged {
+        Answer::Refused(x) => walk::at_once(x),
+        Answer::Accepted => speak_listed(image, list, words, sets, name, phones, numbers),
+    }
+}
+
+// The walk of a name through the compiled ruleset of lent words, built or not, with an image and a list that may be none.
+pub fn speak_compiled<'a>(
+    image: &[u8],
+    list: &[u32],
+    words: &'a [u16],
+    sets: &'a [u64],
+    name: &[u8],
+    phones: &mut [u8],
+    numbers: &mut [u16],
+) -> WalkAnswer
+    ensures { λ r. ⌜ walkedOf r (now (phones .exit)) (now (numbers .exit)) ≡ walkSaid (now (image .entry)) (listingOf (now (list .entry))) (now (words .entry)) (now (sets .entry)) (now (name .entry)) (now (phones .entry)) (now (numbers .entry)) ⌝ }
 {
     if !image::is_ruleset(image) {
-        return WalkAnswer {
-            steps: 0,
-            speech: Speech::Refused(Refusal::NotRuleset(0)),
-        };
+        return walk::at_once(Refusal::NotRuleset(0));
     }
-    speak_words(words, sets, image, name, phones, numbers)
+    if !exceptions::is_list(list) {
+        return walk::at_once(Refusal::BadList(0));
+    }
+    speak_known(image, list, words, sets, name, phones, numbers)
 }

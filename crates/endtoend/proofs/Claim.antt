@@ -12,6 +12,7 @@ use lib.Seq.{take-at}
 use Rattle.rules.specs.Memory.{over}
 use Rattle.rules.proofs.Cases.{byBool}
 use Rattle.rules.specs.Refusals.{accepted}
+use Rattle.exceptions.specs.Judging.{Listing, listingOf}
 use Rattle.image.specs.State.{Ledger, start, rulesOf}
 use Rattle.image.specs.Image.{ledgerOf, valid, entriesOf}
 use Rattle.edits.specs.Ledger.{afterAll}
@@ -19,12 +20,17 @@ use Rattle.history.specs.Replay.{Replay, FromEmpty, Replayed}
 use Rattle.history.proofs.EveryList.{replay-accepted}
 use Rattle.reading.specs.Fitting.{Str}
 use Rattle.reading.specs.Speech.{Outcome, speaks, declines, phonesOf, numbersOf, delivered, plainOutcome, plainSaid}
+use Rattle.reading.proofs.Listed.{sayingListed, listed-said}
 use Rattle.tables.specs.Words.{wordsFor, setsFor, Built, built}
 use Rattle.tables.specs.Walk.{Walked, walkSaid}
 use Rattle.tables.proofs.Theorem.{table-theorem, steps-theorem}
-use Rattle.endtoend.specs.EndToEnd.{result, Lent, Given, takenEdits, rulesAfter, Enough, Claim, EndToEnd}
+use Rattle.tables.proofs.Steps.{listed-walked}
+use Rattle.endtoend.specs.EndToEnd.{result, fromList, Lent, Given, takenEdits, rulesAfter, Enough, Claim, EndToEnd}
 
 -- ---- what a call tells does not depend on what the lent memory held, but for its length
+
+take-over : (ys xs : List ℕ) → take (length ys) (over ys xs) ≡ ys
+take-over ys xs = take-at ys (drop (length ys) xs) (length ys) refl
 
 delivered-result : (o : Outcome) (ps ns qs ms : List ℕ) → length ps ≡ length qs → length ns ≡ length ms
     → result (delivered o ps ns) ≡ result (delivered o qs ms)
@@ -35,14 +41,15 @@ delivered-result (speaks xs steps) ps ns qs ms e f =
     (λ b. rw (e, f, a, b, take-over (phonesOf xs) ps, take-over (phonesOf xs) qs, take-over (numbersOf xs) ns, take-over (numbersOf xs) ms))
     (λ b. rw (e, f, a, b)))
     (λ a. rw (e, a))
-  where
-    take-over : (ys xs : List ℕ) → take (length ys) (over ys xs) ≡ ys
-    take-over ys xs = take-at ys (drop (length ys) xs) (length ys) refl
 
-plain-result : (image : List ℕ) (name : Str) (ps ns qs ms : List ℕ) → length ps ≡ length qs → length ns ≡ length ms
-    → result (plainSaid image name ps ns) ≡ result (plainSaid image name qs ms)
+plain-result : (image : List ℕ) (l : Listing) (name : Str) (ps ns qs ms : List ℕ) → length ps ≡ length qs → length ns ≡ length ms
+    → result (plainSaid image l name ps ns) ≡ result (plainSaid image l name qs ms)
 unfolding plainSaid
-plain-result image name ps ns qs ms e f = delivered-result (plainOutcome image name) ps ns qs ms e f
+plain-result image l name ps ns qs ms e f = delivered-result (plainOutcome image l name) ps ns qs ms e f
+
+-- what is told of a listed name
+listed-result : (p : Str) (ps ns : List ℕ) → result (sayingListed p ps ns) ≡ fromList p (length ps)
+listed-result p ps ns = byBool (leb (length p) (length ps)) (λ a. rw (a, take-over p ps)) (λ a. rw a)
 
 -- ---- a build of a ruleset in memory that is long enough is accepted
 
@@ -59,8 +66,8 @@ state-rules image g e = ap rulesOf e
 module _ (m : Lent) (g : Given)
     (r : Replayed (m .image) (m .code) (m .answers) (m .places) (g .replay))
     (b : g .build ≡ built (g .replay .image) (m .words) (m .sets))
-    (p : g .plain ≡ plainSaid (g .replay .image) (m .name) (m .«plain-phones») (m .«plain-numbers»))
-    (w : g .walk ≡ walkSaid (g .replay .image) (g .build .words) (g .build .sets) (m .name) (m .«walk-phones») (m .«walk-numbers»)) where
+    (p : g .plain ≡ plainSaid (g .replay .image) (listingOf (m .list)) (m .name) (m .«plain-phones») (m .«plain-numbers»))
+    (w : g .walk ≡ walkSaid (g .replay .image) (listingOf (m .list)) (g .build .words) (g .build .sets) (m .name) (m .«walk-phones») (m .«walk-numbers»)) where
   module _ (e : Enough m) where
     done : FromEmpty (takenEdits m) (m .image) (m .answers) (m .places) (g .replay)
     done = r .claim (ap (λ (x : Replay). x .reply) (r .whole) ∙ replay-accepted (m .image) (m .code) (m .answers) (m .places) (e .image))
@@ -75,10 +82,10 @@ module _ (m : Lent) (g : Given)
         enough-built (g .replay .image) (m .words) (m .sets) (done .kept) x y
 
     walk-is : g .walk
-        ≡ walkSaid (g .replay .image) (built (g .replay .image) (m .words) (m .sets) .words) (built (g .replay .image) (m .words) (m .sets) .sets)
+        ≡ walkSaid (g .replay .image) (listingOf (m .list)) (built (g .replay .image) (m .words) (m .sets) .words) (built (g .replay .image) (m .words) (m .sets) .sets)
         (m .name) (m .«walk-phones») (m .«walk-numbers»)
     walk-is =
-        w ∙ ap (λ (x : Built). walkSaid (g .replay .image) (x .words) (x .sets) (m .name) (m .«walk-phones») (m .«walk-numbers»)) b
+        w ∙ ap (λ (x : Built). walkSaid (g .replay .image) (listingOf (m .list)) (x .words) (x .sets) (m .name) (m .«walk-phones») (m .«walk-numbers»)) b
 
     made : Claim m g
     made = record {
@@ -86,12 +93,17 @@ module _ (m : Lent) (g : Given)
       tables = ap (λ (x : Built). x .reply) b ∙ ready;
       alike =
           ap (λ (x : Walked). result (x .said)) walk-is
-          ∙ (ap result (table-theorem (g .replay .image) (m .words) (m .sets) (m .name) (m .«walk-phones») (m .«walk-numbers») ready)
-          ∙ (plain-result (g .replay .image) (m .name) (m .«walk-phones») (m .«walk-numbers») (m .«plain-phones») (m .«plain-numbers») (e .phones) (e .numbers)
+          ∙ (ap result (table-theorem (g .replay .image) (listingOf (m .list)) (m .words) (m .sets) (m .name) (m .«walk-phones») (m .«walk-numbers») ready)
+          ∙ (plain-result (g .replay .image) (listingOf (m .list)) (m .name) (m .«walk-phones») (m .«walk-numbers») (m .«plain-phones») (m .«plain-numbers») (e .phones) (e .numbers)
           ∙ ap result (sym p)));
-      steps = λ n.
+      steps = λ n u.
           ap (λ (x : Walked). x .steps) walk-is
-          ∙ steps-theorem (g .replay .image) (m .words) (m .sets) (m .name) (m .«walk-phones») (m .«walk-numbers») ready n;
+          ∙ steps-theorem (g .replay .image) (listingOf (m .list)) (m .words) (m .sets) (m .name) (m .«walk-phones») (m .«walk-numbers») ready n u;
+      listed = λ n q u. (
+        ap result (p ∙ listed-said (g .replay .image) (listingOf (m .list)) (m .name) q (m .«plain-phones») (m .«plain-numbers») (done .kept) n u)
+            ∙ listed-result q (m .«plain-phones») (m .«plain-numbers»),
+        ap (λ (x : Walked). x .steps) (w ∙ listed-walked _ (g .replay .image) (listingOf (m .list)) (m .name) q (m .«walk-phones») (m .«walk-numbers») (done .kept) n u),
+      );
     }
 
   -- the four calls, one after the other, make the claim

@@ -1,18 +1,22 @@
 -- Demand 3 of document 01, as one claim: a list of edits from the empty ruleset, the tables built after it in memory that held anything,
--- and a name, read plainly and walked through those tables.
+-- and a name, read plainly and walked through those tables, with a lent exceptions list (document 02, request 1).
 -- Assumes nothing.
 use Prim.Native.Nat.{ℕ, _+_, _*_, _≤_}
 use mathlib.Core.Path.{_≡_}
-use mathlib.Core.List.{List}
+use mathlib.Core.Bool.{cond}
+use mathlib.Core.List.{List, []}
+use lib.Dec.{leb}
 use lib.ListN.{length, take}
+use Rattle.rules.specs.Names.{SoundName}
 use Rattle.rules.specs.Shape.{Entry}
 use Rattle.rules.specs.Refusals.{accepted}
+use Rattle.exceptions.specs.Judging.{listingOf}
 use Rattle.image.specs.State.{start, rulesOf}
 use Rattle.image.specs.Image.{imageSize}
 use Rattle.edits.specs.Ledger.{Edit, afterAll}
 use Rattle.history.specs.Replay.{taken, Replay, FromEmpty, Replayed}
 use Rattle.reading.specs.Fitting.{Str}
-use Rattle.reading.specs.Speech.{Told, spoken, refused, SoundName, Said, plainSaid}
+use Rattle.reading.specs.Speech.{Told, spoken, refused, Unlisted, ListedAs, Said, plainSaid}
 use Rattle.tables.specs.Words.{wordsFor, setsFor, Built, built}
 use Rattle.tables.specs.Walk.{Walked, walkSaid}
 
@@ -28,9 +32,14 @@ resultAs (refused n p) ps ns = refusal n p
 abbrev pub result : Said → Result
 result s = resultAs (s .told) (s .phones) (s .numbers)
 
+-- what is told of a name that the list gives the phones p: them and no number, or 4 where there is no room for them
+abbrev pub fromList : Str → ℕ → Result
+fromList p room = cond (leb (length p) room) (phones p []) (refusal 4 (length p))
+
 -- all lent memory as it was, in the order of the function's parameters
 pub record Lent : Type 0 where
   pub image : List ℕ
+  pub list : List ℕ
   pub code : List ℕ
   pub answers : List ℕ
   pub places : List ℕ
@@ -42,10 +51,11 @@ pub record Lent : Type 0 where
   pub «walk-phones» : List ℕ
   pub «walk-numbers» : List ℕ
 
-abbrev pub lent : List ℕ → List ℕ → List ℕ → List ℕ → List ℕ → List ℕ → Str → List ℕ → List ℕ → List ℕ → List ℕ → Lent
-lent image code answers places words sets name pp pn wp wn =
+abbrev pub lent : List ℕ → List ℕ → List ℕ → List ℕ → List ℕ → List ℕ → List ℕ → Str → List ℕ → List ℕ → List ℕ → List ℕ → Lent
+lent image list code answers places words sets name pp pn wp wn =
     record {
       image = image;
+      list = list;
       code = code;
       answers = answers;
       places = places;
@@ -88,15 +98,18 @@ pub record Claim (m : Lent) (g : Given) : Type 0 where
   pub edits : FromEmpty (takenEdits m) (m .image) (m .answers) (m .places) (g .replay)
   -- the tables were built
   pub tables : g .build .reply ≡ accepted
-  -- walk and plain reading are alike
+  -- walk and plain reading are alike, of listed names and all others, and where the lent list is none
   pub alike : result (g .walk .said) ≡ result (g .plain)
-  -- the steps counted are 2n + 2
-  pub steps : SoundName (m .name) → g .walk .steps ≡ 2 * length (m .name) + 2
+  -- the steps counted for a name that is not on the list are 2n + 2
+  pub steps : SoundName (m .name) → Unlisted (listingOf (m .list)) (m .name) → g .walk .steps ≡ 2 * length (m .name) + 2
+  -- a name on the list is said from it, with no steps
+  pub listed : SoundName (m .name) → (p : Str) → ListedAs (listingOf (m .list)) (m .name) p
+      → (result (g .plain) ≡ fromList p (length (m .«plain-phones»))) × (g .walk .steps ≡ 0)
 
 pub record EndToEnd (m : Lent) (g : Given) : Type 0 where
   -- each call got the ruleset, and the walk the tables, as the calls before left them
   pub replayed : Replayed (m .image) (m .code) (m .answers) (m .places) (g .replay)
   pub built-after : g .build ≡ built (g .replay .image) (m .words) (m .sets)
-  pub read : g .plain ≡ plainSaid (g .replay .image) (m .name) (m .«plain-phones») (m .«plain-numbers»)
-  pub walked : g .walk ≡ walkSaid (g .replay .image) (g .build .words) (g .build .sets) (m .name) (m .«walk-phones») (m .«walk-numbers»)
+  pub read : g .plain ≡ plainSaid (g .replay .image) (listingOf (m .list)) (m .name) (m .«plain-phones») (m .«plain-numbers»)
+  pub walked : g .walk ≡ walkSaid (g .replay .image) (listingOf (m .list)) (g .build .words) (g .build .sets) (m .name) (m .«walk-phones») (m .«walk-numbers»)
   pub claim : Enough m → Claim m g

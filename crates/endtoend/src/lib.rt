@@ -1,5 +1,5 @@
 // Demand 3 of document 01 as the contract of a function that calls the real ones: a list of edits from the empty ruleset, the tables built
-// after it, and a name read plainly and walked through those tables.
+// after it, and a name read plainly and walked through those tables, with a lent exceptions list.
 use reading::Speech;
 use rules::Answer;
 use walk::WalkAnswer;
@@ -21,6 +21,7 @@ pub struct Answers {
 // The four calls, one after the other, each on the memory that the ones before left.
 pub fn run<'a>(
     image: &mut [u8],
+    list: &[u32],
     code: &[usize],
     answers: &mut [u8],
     places: &mut [usize],
@@ -32,12 +33,12 @@ pub fn run<'a>(
     walk_phones: &mut [u8],
     walk_numbers: &mut [u16],
 ) -> Answers
-    ensures { λ r. ⌜ EndToEnd (lent (now (image .entry)) (now (code .entry)) (now (answers .entry)) (now (places .entry)) (now (words .entry)) (now (sets .entry)) (now (name .entry)) (now («plain_phones» .entry)) (now («plain_numbers» .entry)) (now («walk_phones» .entry)) (now («walk_numbers» .entry))) (given (replaying (replyOf (r .replay)) (now (image .exit)) (now (answers .exit)) (now (places .exit))) (building (replyOf (r .build)) (now (words .exit)) (now (sets .exit))) (saying (toldOf (r .plain)) (now («plain_phones» .exit)) (now («plain_numbers» .exit))) (walkedOf (r .walk) (now («walk_phones» .exit)) (now («walk_numbers» .exit)))) ⌝ }
+    ensures { λ r. ⌜ EndToEnd (lent (now (image .entry)) (now (list .entry)) (now (code .entry)) (now (answers .entry)) (now (places .entry)) (now (words .entry)) (now (sets .entry)) (now (name .entry)) (now («plain_phones» .entry)) (now («plain_numbers» .entry)) (now («walk_phones» .entry)) (now («walk_numbers» .entry))) (given (replaying (replyOf (r .replay)) (now (image .exit)) (now (answers .exit)) (now (places .exit))) (building (replyOf (r .build)) (now (words .exit)) (now (sets .exit))) (saying (toldOf (r .plain)) (now («plain_phones» .exit)) (now («plain_numbers» .exit))) (walkedOf (r .walk) (now («walk_phones» .exit)) (now («walk_numbers» .exit)))) ⌝ }
 {
     let replay = history::replay(image, code, answers, places);
     let build = build::build(image, words, sets);
-    let plain = reading::read_name(image, name, plain_phones, plain_numbers);
-    let walk = compiled::speak_compiled(image, words, sets, name, walk_phones, walk_numbers);
+    let plain = reading::read_name(image, list, name, plain_phones, plain_numbers);
+    let walk = compiled::speak_compiled(image, list, words, sets, name, walk_phones, walk_numbers);
     Answers {
         replay,
         build,

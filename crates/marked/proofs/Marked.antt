@@ -2,6 +2,7 @@
 -- Assumes nothing.
 use mathlib.Core.Path.{_≡_, refl}
 use mathlib.Core.List.{map}
+use Rattle.rules.specs.Names.{judgedName}
 use Rattle.reading.specs.Reading.{plain}
 use Rattle.image.specs.Bits.{bit}
 use Rattle.tables.specs.Words.{pack, builtWords, builtSets}
@@ -9,5 +10,5 @@ use Rattle.tables.specs.Walk.{lowest, places, walk, walkThrough}
 use Rattle.marked.specs.Marked.{answer, questions, answers}
 
 pub marked : map answer questions ≡ answers
-unfolding plain bit pack builtWords builtSets lowest places walk walkThrough
+unfolding judgedName plain bit pack builtWords builtSets lowest places walk walkThrough
 marked = refl

@@ -5,9 +5,10 @@ use Prim.Native.Nat.{ℕ, _+_, _*_}
 use mathlib.Core.List.{List, [], _∷_, map}
 use lib.ListN.{getD}
 use Rattle.rules.specs.Shape.{Entry}
+use Rattle.exceptions.specs.Judging.{noList}
 use Rattle.reading.specs.Fitting.{Str}
 use Rattle.reading.specs.Reading.{plain}
-use Rattle.reading.specs.Speech.{Outcome, speaks, declines, stepsOf, answered, judgedName, phonesOf, numbersOf}
+use Rattle.reading.specs.Speech.{Outcome, speaks, declines, stepsOf, answered, judgedFor, phonesOf, numbersOf}
 use Rattle.tables.specs.States.{states}
 use Rattle.tables.specs.Tables.{rightPattern}
 use Rattle.tables.specs.Words.{setSize, rightSets, Compiled, compiledFrom, rightOf, builtWords, builtSets}
@@ -35,7 +36,7 @@ compiled = compiledFrom (builtWords sixRules) (builtSets sixRules)
 -- ---- what is asked
 
 pub data Question : Type 0 where
-  -- of a name: its plain reading, its walk through the compiled ruleset, and the walk's steps
+  -- of a name, with no list: its plain reading, its walk through the compiled ruleset, and the walk's steps
   spoken : Str → Question
   -- L, R and the right strings in state order
   strings : Question
@@ -60,10 +61,10 @@ resultOf (speaks xs steps) = phones (phonesOf xs) (numbersOf xs)
 resultOf (declines n p steps) = refused n p
 
 abbrev byRules : Str → Outcome
-byRules name = judgedName name (answered (plain sixRules name) 0)
+byRules name = judgedFor noList name (answered (plain sixRules name) 0)
 
 abbrev byTables : Str → Outcome
-byTables name = judgedName name (walkThrough compiled sixRules name)
+byTables name = judgedFor noList name (walkThrough compiled sixRules name)
 
 abbrev pub answer : Question → Answer
 answer (spoken name) = said (resultOf (byRules name)) (resultOf (byTables name)) (stepsOf (byTables name))

@@ -1,46 +1,49 @@
 -- Refusal 3 is given exactly when a reached letter has no fitting rule: of the answer that the plain reading gives, in both directions, for every
--- image, name and lent memory.
+-- image, list, name and lent memory.
 -- Assumes nothing.
-use Prim.Native.Nat.{ℕ, _<_}
-use mathlib.Core.Path.{_≡_, refl, sym, ap, _∙_, subst}
-use mathlib.Core.List.{List, []}
-use mathlib.Core.Bool.{true, false}
+use Prim.Native.Nat.{ℕ}
+use mathlib.Core.Path.{_≡_, sym, ap, _∙_, subst}
+use mathlib.Core.List.{List, [], _∷_}
+use mathlib.Core.Bool.{true, false, _&&_, true≢false}
 use native.Mathlib.Omega.{arith}
 use lib.Dec.{leb}
 use lib.ListN.{length}
 use Rattle.rules.proofs.Cases.{byBool}
+use Rattle.rules.specs.Names.{SoundName}
 use Rattle.rules.specs.Shape.{Entry}
+use Rattle.exceptions.specs.Judging.{Listing}
 use Rattle.image.specs.Image.{valid, entriesOf}
 use Rattle.reading.specs.Fitting.{Str}
-use Rattle.reading.specs.Reading.{Piece, Reading, uncovered, plain}
-use Rattle.reading.specs.Speech.{Outcome, speaks, atOnce, stepsOf, answered, SoundName, judgedName, phonesOf, numbersOf, spoken, refused, saying, delivered, plainSaid}
+use Rattle.reading.specs.Reading.{Piece, listed, Reading, plain}
+use Rattle.reading.specs.Speech.{Outcome, speaks, declines, atOnce, stepsOf, answered, Unlisted, phonesOf, numbersOf, spoken, refused, saying, delivered, plainOutcome, plainSaid}
 use Rattle.reading.specs.Meaning.{Uncovered}
-use Rattle.reading.proofs.Names.{sound-judged, Judgement, sound, refuses, judgement}
+use Rattle.reading.proofs.Call.{call-unlisted, CallCase, refuses, lists, follows, call-case}
 use Rattle.reading.proofs.Search.{Targets, valid-targets}
 use Rattle.reading.proofs.Meaning.{piecesOf, Ending, ended, stuck, plain-ends, is-uncovered}
 
--- reading for want of a rule ends at i: the call is neither refused before it reads, nor is the letter at i covered
-pub record WantsRule (image : List ℕ) (name : Str) (i : ℕ) : Type 0 where
+-- reading for want of a rule ends at i: the call is not refused before it reads, the name is not on the list, and no rule covers the letter at i
+pub record WantsRule (image : List ℕ) (l : Listing) (name : Str) (i : ℕ) : Type 0 where
   pub is-valid : valid image ≡ true
   pub is-sound : SoundName name
+  pub unlisted : Unlisted l name
   pub bare : Uncovered (entriesOf image) name i
 
--- what is said of a sound name with a valid ruleset
-pub plain-delivered : (image : List ℕ) (name : Str) (phones numbers : List ℕ) → valid image ≡ true → SoundName name
-    → plainSaid image name phones numbers ≡ delivered (answered (plain (entriesOf image) name) 0) phones numbers
+-- what is said of a sound name that is not on the list, with a valid ruleset
+pub plain-delivered : (image : List ℕ) (l : Listing) (name : Str) (phones numbers : List ℕ) → valid image ≡ true → SoundName name → Unlisted l name
+    → plainSaid image l name phones numbers ≡ delivered (answered (plain (entriesOf image) name) 0) phones numbers
 unfolding plainSaid
-plain-delivered image name phones numbers ok s =
-    rw ok (ap (λ (o : Outcome). delivered o phones numbers) (sound-judged name s (answered (plain (entriesOf image) name) 0)))
+plain-delivered image l name phones numbers ok s u =
+    ap (λ (o : Outcome). delivered o phones numbers) (call-unlisted image name (answered (plain (entriesOf image) name) 0) ok l s u)
 
-pub wants-refused : (image : List ℕ) (name : Str) (phones numbers : List ℕ) (i : ℕ) → WantsRule image name i
-    → plainSaid image name phones numbers ≡ saying (refused 3 i) phones numbers
-wants-refused image name phones numbers i w =
-    plain-delivered image name phones numbers (w .is-valid) (w .is-sound)
+pub wants-refused : (image : List ℕ) (l : Listing) (name : Str) (phones numbers : List ℕ) (i : ℕ) → WantsRule image l name i
+    → plainSaid image l name phones numbers ≡ saying (refused 3 i) phones numbers
+wants-refused image l name phones numbers i w =
+    plain-delivered image l name phones numbers (w .is-valid) (w .is-sound) (w .unlisted)
     ∙ ap (λ (o : Reading). delivered (answered o 0) phones numbers) (is-uncovered (entriesOf image) name (valid-targets image (w .is-valid)) i (w .bare))
 
 -- other refusals have other numbers
-other : {n p i : ℕ} → n < 3 → refused n p ≡ refused 3 i → ⊥
-other h e = let z : _≡_ {A = ℕ} 3 3 = refl in omega (arith, number e)
+other : {n p i : ℕ} → (leb 3 n && leb n 5) ≡ false → refused n p ≡ refused 3 i → ⊥
+other h e = true≢false (sym (ap (λ (k : ℕ). leb 3 k && leb k 5) (number e)) ∙ h)
   where
     number : {n p m q : ℕ} → refused n p ≡ refused m q → n ≡ m
     number e = cc
@@ -60,33 +63,30 @@ room-refused xs phones numbers i e =
     five : {p i : ℕ} → refused 5 p ≡ refused 3 i → ⊥
     five e = let z : _≡_ {A = ℕ} 5 3 = cc in omega arith
 
-pub refused-wants : (image : List ℕ) (name : Str) (phones numbers : List ℕ) (i : ℕ) → plainSaid image name phones numbers .told ≡ refused 3 i
-    → WantsRule image name i
+pub refused-wants : (image : List ℕ) (l : Listing) (name : Str) (phones numbers : List ℕ) (i : ℕ) → plainSaid image l name phones numbers .told ≡ refused 3 i
+    → WantsRule image l name i
 unfolding plainSaid
-refused-wants image name phones numbers i e = byBool (valid image) (λ v. judged v (judgement name)) (λ v. absurd (other (omega arith) (invalid v)))
+refused-wants image l name phones numbers i e = by (call-case image l name)
   where
-    invalid : valid image ≡ false → refused 0 0 ≡ refused 3 i
-    invalid v = rw v at e
+    reading : Outcome
+    reading = answered (plain (entriesOf image) name) 0
 
-    outright : valid image ≡ true → (n p : ℕ) → ((o : Outcome) → judgedName name o ≡ atOnce n p) → refused n p ≡ refused 3 i
-    outright v n p h = rw (v, h (answered (plain (entriesOf image) name) 0)) at e
+    comes-to : (o : Outcome) → plainOutcome image l name ≡ o → delivered o phones numbers .told ≡ refused 3 i
+    comes-to o q = ap (λ (x : Outcome). delivered x phones numbers .told) (sym q) ∙ e
 
-    uncovered-at : (j : ℕ) → plain (entriesOf image) name ≡ uncovered j → valid image ≡ true → SoundName name → j ≡ i
-    uncovered-at j q v s =
-        let t : refused 3 j ≡ refused 3 i =
-        sym (ap (λ x. x .told) (plain-delivered image name phones numbers v s ∙ ap (λ (o : Reading). delivered (answered o 0) phones numbers) q)) ∙ e in
-        cc
+    read : valid image ≡ true → SoundName name → Unlisted l name → plainOutcome image l name ≡ reading
+        → Ending (entriesOf image) name [] (plain (entriesOf image) name) → WantsRule image l name i
+    read v s u q (ended rs f d) =
+        absurd (room-refused (piecesOf rs) phones numbers i (comes-to (speaks (piecesOf rs) 0) (q ∙ ap (λ (x : Reading). answered x 0) f)))
+    read v s u q (stuck j f d) =
+        let t : refused 3 j ≡ refused 3 i = comes-to (declines 3 j 0) (q ∙ ap (λ (x : Reading). answered x 0) f) in
+        let z : j ≡ i = cc in
+        record { is-valid = v; is-sound = s; unlisted = u; bare = subst (Uncovered (entriesOf image) name) z d }
 
-    read : valid image ≡ true → SoundName name → Ending (entriesOf image) name [] (plain (entriesOf image) name) → WantsRule image name i
-    read v s (ended l q d) =
-        absurd (room-refused (piecesOf l) phones numbers i
-        (sym (ap (λ x. x .told) (plain-delivered image name phones numbers v s ∙ ap (λ (o : Reading). delivered (answered o 0) phones numbers) q)) ∙ e))
-    read v s (stuck j q d) =
-        record { is-valid = v; is-sound = s; bare = subst (Uncovered (entriesOf image) name) (uncovered-at j q v s) d }
-
-    judged : valid image ≡ true → Judgement name → WantsRule image name i
-    judged v (sound s) = read v s (plain-ends (entriesOf image) name (valid-targets image v))
-    judged v (refuses n p h r) = absurd (other h (outright v n p r))
+    by : CallCase image l name → WantsRule image l name i
+    by (refuses n p h r) = absurd (other h (comes-to (atOnce n p) (r reading)))
+    by (lists p u r) = absurd (room-refused (listed p ∷ []) phones numbers i (comes-to (speaks (listed p ∷ []) 0) (r reading)))
+    by (follows v s u r) = read v s u (r reading) (plain-ends (entriesOf image) name (valid-targets image v))
 
 -- a plain reading carries its steps to the answer: it is never ended by tables
 pub plain-steps : (rules : List Entry) (name : Str) → Targets rules → (steps : ℕ) → stepsOf (answered (plain rules name) steps) ≡ steps

@@ -1,6 +1,8 @@
 // The plain reading of a name: at each reached letter the first rule in order that fits (document 01, "Letters, rules, fitting").
 pub mod delivery;
 
+use delivery::Listed;
+use rules::Answer;
 use rules::Refusal;
 ghost use mathlib.Core.Path.{_≡_};
 ghost use mathlib.Core.Bool.{true};
@@ -8,11 +10,14 @@ ghost use Prim.Native.Nat.{_+_, _-_, _<_, _≤_};
 ghost use lib.ListN.{length, take, drop};
 ghost use Rattle.rules.specs.Memory.{over};
 ghost use Rattle.rules.specs.Limits.{maxName, maxTarget};
+ghost use Rattle.rules.specs.Names.{SoundName};
+ghost use Rattle.exceptions.specs.Layout.{wordsOf, phonesFor};
+ghost use Rattle.exceptions.specs.Judging.{isList, listingOf, noList};
 ghost use Rattle.image.specs.Image.{countOf, entriesOf, entryAt, valid};
 ghost use Rattle.reading.specs.Fitting.{same, starts, ends, frame, fits};
 ghost use Rattle.reading.specs.Reading.{firstFit, plain};
-ghost use Rattle.reading.specs.Speech.{toldOf, saying, answered, judgedName, delivered, plainSaid};
-ghost use Rattle.reading.specs.Places.{Judges, FitAt, ReadBy};
+ghost use Rattle.reading.specs.Speech.{toldOf, saying, answered, listedOr, delivered, plainSaid};
+ghost use Rattle.reading.specs.Places.{FitAt, ReadBy};
 
 // Symbols of the longest frame: a boundary before the name and one after it.
 pub const MAX_FRAME: usize = rules::MAX_NAME + 2;
@@ -20,12 +25,6 @@ pub const MAX_FRAME: usize = rules::MAX_NAME + 2;
 // The answer of a call that speaks a name: how many phones and rule numbers it gave, or why it declined.
 pub enum Speech {
     Spoken { phones: usize, numbers: usize },
-    Refused(Refusal),
-}
-
-// Whether a name is one, or the refusal.
-pub enum Judged {
-    Sound,
     Refused(Refusal),
 }
 
@@ -40,27 +39,6 @@ pub enum Reached {
     Rules(usize),
     Uncovered(usize),
     BadTables,
-}
-
-// A name has at most 64 bytes, each from 01 to 3F.
-pub fn judge_name(name: &[u8]) -> Judged
-    ensures { λ r. ⌜ Judges (now (name .entry)) r ⌝ }
-{
-    if rules::MAX_NAME < name.len() {
-        return Judged::Refused(Refusal::NameLength(0));
-    }
-    let mut i = 0;
-    while i < name.len() {
-        let b = name[i];
-        if b < 1 {
-            return Judged::Refused(Refusal::NameByte(i));
-        }
-        if rules::MAX_NAME_BYTE < b {
-            return Judged::Refused(Refusal::NameByte(i));
-        }
-        i += 1;
-    }
-    Judged::Sound
 }
 
 // The frame of a name is laid at the start of `f`: # at 0 and after its last letter.
@@ -186,24 +164,69 @@ fn read_sound(image: &[u8], name: &[u8], phones: &mut [u8], numbers: &mut [u16])
     delivery::answer(image, reached, &places, phones, numbers)
 }
 
-// The plain reading of a name, for a caller that knows the image to be a ruleset.
+// The plain reading of a name, for a caller that knows the image to be a ruleset and has no list.
 pub fn read_valid(image: &[u8], name: &[u8], phones: &mut [u8], numbers: &mut [u16]) -> Speech
     requires { ⌜ valid (now image) ≡ true ⌝ }
-    ensures { λ r. ⌜ saying (toldOf r) (now (phones .exit)) (now (numbers .exit)) ≡ delivered (judgedName (now (name .entry)) (answered (plain (entriesOf (now (image .entry))) (now (name .entry))) 0)) (now (phones .entry)) (now (numbers .entry)) ⌝ }
+    ensures { λ r. ⌜ saying (toldOf r) (now (phones .exit)) (now (numbers .exit)) ≡ plainSaid (now (image .entry)) noList (now (name .entry)) (now (phones .entry)) (now (numbers .entry)) ⌝ }
 {
-    let judged = judge_name(name);
+    let judged = rules::judge_name(name);
     match judged {
-        Judged::Refused(x) => Speech::Refused(x),
-        Judged::Sound => read_sound(image, name, phones, numbers),
+        Answer::Refused(x) => Speech::Refused(x),
+        Answer::Accepted => read_sound(image, name, phones, numbers),
     }
 }
 
-// The plain reading of a name: its phones and the numbers of the rules applied, in lent memory.
-pub fn read_name(image: &[u8], name: &[u8], phones: &mut [u8], numbers: &mut [u16]) -> Speech
-    ensures { λ r. ⌜ saying (toldOf r) (now (phones .exit)) (now (numbers .exit)) ≡ plainSaid (now (image .entry)) (now (name .entry)) (now (phones .entry)) (now (numbers .entry)) ⌝ }
+// The plain reading of a sound name that may be on the list.
+fn read_listed(
+    image: &[u8],
+    list: &[u32],
+    name: &[u8],
+    phones: &mut [u8],
+    numbers: &mut [u16],
+) -> Speech
+    requires { ⌜ (valid (now image) ≡ true) × ((isList (now list) ≡ true) × SoundName (now name)) ⌝ }
+    ensures { λ r. ⌜ saying (toldOf r) (now (phones .exit)) (now (numbers .exit)) ≡ delivered (listedOr (phonesFor (wordsOf (now (list .entry)))) (now (name .entry)) (answered (plain (entriesOf (now (image .entry))) (now (name .entry))) 0)) (now (phones .entry)) (now (numbers .entry)) ⌝ }
+{
+    let found = delivery::say_listed(list, name, &mut *phones);
+    match found {
+        Listed::Said(speech) => speech,
+        Listed::Unlisted => read_sound(image, name, phones, numbers),
+    }
+}
+
+// The plain reading of a name, for a caller that knows the image to be a ruleset and the list to be one.
+pub fn read_known(
+    image: &[u8],
+    list: &[u32],
+    name: &[u8],
+    phones: &mut [u8],
+    numbers: &mut [u16],
+) -> Speech
+    requires { ⌜ (valid (now image) ≡ true) × (isList (now list) ≡ true) ⌝ }
+    ensures { λ r. ⌜ saying (toldOf r) (now (phones .exit)) (now (numbers .exit)) ≡ plainSaid (now (image .entry)) (listingOf (now (list .entry))) (now (name .entry)) (now (phones .entry)) (now (numbers .entry)) ⌝ }
+{
+    let judged = rules::judge_name(name);
+    match judged {
+        Answer::Refused(x) => Speech::Refused(x),
+        Answer::Accepted => read_listed(image, list, name, phones, numbers),
+    }
+}
+
+// The plain reading of a name: its phones, from the list or by the rules, and the numbers of the rules applied, in lent memory.
+pub fn read_name(
+    image: &[u8],
+    list: &[u32],
+    name: &[u8],
+    phones: &mut [u8],
+    numbers: &mut [u16],
+) -> Speech
+    ensures { λ r. ⌜ saying (toldOf r) (now (phones .exit)) (now (numbers .exit)) ≡ plainSaid (now (image .entry)) (listingOf (now (list .entry))) (now (name .entry)) (now (phones .entry)) (now (numbers .entry)) ⌝ }
 {
     if !image::is_ruleset(image) {
         return Speech::Refused(Refusal::NotRuleset(0));
     }
-    read_valid(image, name, phones, numbers)
+    if !exceptions::is_list(list) {
+        return Speech::Refused(Refusal::BadList(0));
+    }
+    read_known(image, list, name, phones, numbers)
 }

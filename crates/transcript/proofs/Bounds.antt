@@ -8,6 +8,7 @@ use native.Mathlib.Omega.{arith}
 use lib.Dec.{eqb}
 use lib.ListN.{length, take, drop, length-drop}
 use Rattle.rules.proofs.Cases.{byBool}
+use Rattle.exceptions.specs.Judging.{noList}
 use Rattle.frames.specs.Lines.{pastLine, lineAfter, soundLine}
 use Rattle.reading.specs.Speech.{Told, spoken, refused}
 use Rattle.tables.specs.Walk.{walkSaid}
@@ -45,8 +46,8 @@ module _ (image words sets : List ℕ) where
   nameLine-short : (letters : List ℕ) → length (nameLine image words sets letters) ≤ longestLine
   unfolding nameLine lentPhones lentNumbers
   nameLine-short letters =
-      let w = walkSaid image words sets letters lentPhones lentNumbers in
-      told-short (w .said .told) (w .steps) (w .said .phones) (w .said .numbers) (walk-within image words sets letters lentPhones lentNumbers)
+      let w = walkSaid image noList words sets letters lentPhones lentNumbers in
+      told-short (w .said .told) (w .steps) (w .said .phones) (w .said .numbers) (walk-within image noList words sets letters lentPhones lentNumbers)
 
   asked-short : (a : Asked) → length (answerTo image words sets a) ≤ longestLine
   asked-short unsound = omega (arith, length-printed (refusedBody 13 0))

@@ -2,7 +2,7 @@
 -- Assumes nothing.
 use Prim.Native.Nat.{ℕ, _-_, _≤_, _<_}
 use mathlib.Core.Path.{_≡_, refl, sym, ap, _∙_, subst}
-use mathlib.Core.List.{List}
+use mathlib.Core.List.{List, []}
 use mathlib.Core.Bool.{Bool, true, false, cond}
 use native.Mathlib.Omega.{arith}
 use borrow.Author.Tests.{leb-true, leb-false, lt-leb, ne-eqb}
@@ -10,14 +10,17 @@ use lib.Dec.{leb}
 use lib.ListN.{length, take, drop}
 use lib.Seq.{take-all, length-take-le}
 use Rattle.rules.proofs.Cases.{byBool}
+use Rattle.rules.proofs.Names.{name-long}
 use Rattle.rules.specs.Limits.{maxName}
 use Rattle.rules.specs.Refusals.{refusalNumber, refusalPlace}
 use Rattle.rules.specs.declared.Refusal.{Refusal}
+use Rattle.exceptions.specs.Judging.{Listing, noList}
 use Rattle.image.specs.Image.{valid, entriesOf}
 use Rattle.frames.specs.Lines.{soundLine}
 use Rattle.reading.specs.Speech.{Outcome, speaks, declines, atOnce, judgedCall, Told, toldOf, saying, phonesOf, numbersOf, delivered}
 use Rattle.reading.specs.declared.Speech.{Speech}
 use Rattle.reading.specs.declared.Speech.the-variants.{Spoken, Refused}
+use Rattle.reading.proofs.Call.{call-refused}
 use Rattle.tables.specs.Words.{compiledFrom}
 use Rattle.tables.specs.Walk.{Walked, walkedAs, walkThrough, walkFor, walkSaid}
 use Rattle.transcript.specs.Answers.{spokenBody, refusedBody, printed, refusalLine, toldBody, walkedLine}
@@ -31,25 +34,26 @@ delivered-within (speaks xs steps) phones numbers =
     (λ e. rw e (byBool (leb (length (numbersOf xs)) (length numbers)) (λ f. rw f (leb-true _ _ e, leb-true _ _ f)) (λ f. rw f tt)))
     (λ e. rw e tt)
 
-module _ (image words sets : List ℕ) where
-  pub walk-within : (letters phones numbers : List ℕ) → ToldWithin (walkSaid image words sets letters phones numbers .said .told) (length phones) (length numbers)
-  unfolding walkFor
-  walk-within letters phones numbers =
-      delivered-within (judgedCall image letters (walkThrough (compiledFrom words sets) (entriesOf image) letters)) phones numbers
+pub walk-within : (image : List ℕ) (l : Listing) (words sets letters phones numbers : List ℕ)
+    → ToldWithin (walkSaid image l words sets letters phones numbers .said .told) (length phones) (length numbers)
+unfolding walkFor
+walk-within image l words sets letters phones numbers =
+    delivered-within (judgedCall image l letters (walkThrough (compiledFrom words sets) (entriesOf image) letters)) phones numbers
 
+module _ (image words sets : List ℕ) where
   -- the answer to a name over 64 letters
   overlong : (letters phones numbers : List ℕ) → valid image ≡ true → leb (length letters) maxName ≡ false
-      → walkSaid image words sets letters phones numbers ≡ walkedAs (atOnce 2 0) phones numbers
+      → walkSaid image noList words sets letters phones numbers ≡ walkedAs (atOnce 2 0) phones numbers
   unfolding walkFor
   overlong letters phones numbers v e =
-      let j : judgedCall image letters (walkThrough (compiledFrom words sets) (entriesOf image) letters) ≡ atOnce 2 0 = rw (v, e) in
-      ap (λ (o : Outcome). walkedAs o phones numbers) j
+      ap (λ (o : Outcome). walkedAs o phones numbers)
+      (call-refused image letters (walkThrough (compiledFrom words sets) (entriesOf image) letters) v noList (λ w. []) refl 2 0 (name-long letters (leb-false (length letters) maxName e)))
 
   cut-line : (letters : List ℕ) → valid image ≡ true → nameLine image words sets (take 65 letters) ≡ nameLine image words sets letters
   unfolding nameLine
   cut-line letters v =
       byBool (leb (length letters) maxName)
-      (λ e. let l = leb-true (length letters) maxName e in ap (λ (w : List ℕ). walkedLine (walkSaid image words sets w lentPhones lentNumbers)) (take-all 65 letters (omega arith)))
+      (λ e. let l = leb-true (length letters) maxName e in ap (λ (w : List ℕ). walkedLine (walkSaid image noList words sets w lentPhones lentNumbers)) (take-all 65 letters (omega arith)))
       (λ e.
       let l = leb-false (length letters) maxName e in
       let k = length-take-le 65 letters (omega arith) in
@@ -76,14 +80,14 @@ length-refusal x = length-printed (refusedBody (refusalNumber x) (refusalPlace x
 
 -- a walk whose answer is given with its lent memory
 module _ (image words sets letters : List ℕ) (told : Told) (steps : ℕ) (phones numbers : List ℕ)
-    (e : record { said = saying told phones numbers; steps = steps } ≡ walkSaid image words sets letters lentPhones lentNumbers) where
+    (e : record { said = saying told phones numbers; steps = steps } ≡ walkSaid image noList words sets letters lentPhones lentNumbers) where
   pub nameLine-is : printed (toldBody told steps phones numbers) ≡ nameLine image words sets letters
   unfolding nameLine
   nameLine-is = ap walkedLine e
 
   pub told-within : (a b : ℕ) → a ≡ 256 → b ≡ 64 → ToldWithin told a b
   unfolding lentPhones lentNumbers
-  told-within a b p q = rw (p, q) (subst (λ (w : Walked). ToldWithin (w .said .told) 256 64) (sym e) (walk-within image words sets letters lentPhones lentNumbers))
+  told-within a b p q = rw (p, q) (subst (λ (w : Walked). ToldWithin (w .said .told) 256 64) (sym e) (walk-within image noList words sets letters lentPhones lentNumbers))
 
 -- ---- what was found in a line, answered
 

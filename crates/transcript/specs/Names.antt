@@ -5,6 +5,7 @@ use Prim.Native.Nat.{ℕ, _-_, _≤_}
 use mathlib.Core.List.{List}
 use lib.Dec.{eqb}
 use lib.ListN.{length, getD, take, drop, replicate}
+use Rattle.exceptions.specs.Judging.{noList}
 use Rattle.frames.specs.Lines.{Parsed, soundLine}
 use Rattle.frames.specs.Lines.Parsed.{Bad, Good}
 use Rattle.reading.specs.Speech.{Told, spoken, refused}
@@ -32,9 +33,9 @@ lentPhones = replicate 256 0
 unfoldable pub lentNumbers : List ℕ
 lentNumbers = replicate 64 0
 
--- the line of a name's walk
+-- the line of a name's walk; `say` has no list
 unfoldable pub nameLine : List ℕ → List ℕ → List ℕ → List ℕ → List ℕ
-nameLine image words sets letters = walkedLine (walkSaid image words sets letters lentPhones lentNumbers)
+nameLine image words sets letters = walkedLine (walkSaid image noList words sets letters lentPhones lentNumbers)
 
 abbrev pub answerTo : List ℕ → List ℕ → List ℕ → Asked → List ℕ
 answerTo image words sets unsound = printed (refusedBody 13 0)

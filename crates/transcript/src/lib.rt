@@ -10,7 +10,6 @@ ghost use lib.ListN.{length, drop};
 ghost use Rattle.rules.specs.Memory.{over, overAt};
 ghost use Rattle.frames.specs.Lines.{soundLine, lineAfter};
 ghost use Rattle.reading.specs.Speech.{toldOf};
-ghost use Rattle.rules.specs.Refusals.{replyOf, accepted};
 ghost use Rattle.image.specs.Image.{valid};
 ghost use Rattle.transcript.specs.Answers.{longestLine, bytes2, twos, spokenFront, spokenBody, printed, refusalLine, toldBody};
 ghost use Rattle.transcript.specs.Names.{asked, nameLine, nameAnswer, cut, nameIn, ToldWithin};
@@ -138,7 +137,7 @@ pub fn answer_line(answer: WalkAnswer, phones: &[u8], numbers: &[u16], out: &mut
 
 // ---- names
 
-// A name is walked, and its answer's line printed.
+// A name is walked, with no list, and its answer's line printed.
 fn speak<'a>(image: &[u8], words: &'a [u16], sets: &'a [u64], name: &[u8], out: &mut [u8]) -> usize
     requires { ⌜ (valid (now image) ≡ true) × (longestLine ≤ length (now out)) ⌝ }
     ensures len { λ r. ⌜ r ≡ length (nameLine (now (image .entry)) (now (words .entry)) (now (sets .entry)) (now (name .entry))) ⌝ }
@@ -146,7 +145,7 @@ fn speak<'a>(image: &[u8], words: &'a [u16], sets: &'a [u64], name: &[u8], out: 
 {
     let mut phones = [0u8; 256];
     let mut numbers = [0u16; 64];
-    let answer = compiled::speak_words(words, sets, image, name, &mut phones, &mut numbers);
+    let answer = compiled::speak_valid(image, words, sets, name, &mut phones, &mut numbers);
     answer_line(answer, &phones, &numbers, out)
 }
 

@@ -1,6 +1,6 @@
 -- The parts of a walk put together: both passes, reading by the remembered states, and the answer with its steps.
 -- Assumes nothing.
-use Prim.Native.Nat.{ℕ, zero, suc, _+_, _-_, _*_, _≤_, _<_}
+use Prim.Native.Nat.{ℕ, zero, suc, _+_, _-_, _*_, _≤_}
 use native.Mathlib.Omega.{arith}
 use mathlib.Core.Path.{_≡_, refl, sym, ap, ap₂, _∙_, subst}
 use mathlib.Core.Bool.{Bool, true, false, cond, _&&_}
@@ -9,23 +9,23 @@ use lib.Dec.{ltb, leb}
 use lib.ListN.{length, getD, take, drop}
 use borrow.Author.Tests.{ltb-false, ltb-true, leb-true, le-leb, lt-ltb}
 use Rattle.rules.proofs.Cases.{byBool, and-l, and-r}
-use Rattle.rules.specs.Limits.{maxName, maxNameByte}
+use Rattle.rules.specs.Limits.{maxNameByte}
+use Rattle.rules.specs.Names.{SoundName}
 use Rattle.rules.specs.Shape.{Entry, allFrom}
 use Rattle.rules.specs.Refusals.{refusalNumber, refusalPlace}
 use Rattle.rules.specs.declared.Refusal.{Refusal}
-use Rattle.image.specs.Image.{entriesOf, valid}
+use Rattle.image.specs.Image.{entriesOf}
 use Rattle.reading.specs.Fitting.{Str, frame, fits}
 use Rattle.reading.specs.Reading.{Choice, chosen, nothing, unusable, applied, Reading, cons, past, onward, readFrom}
-use Rattle.reading.specs.Speech.{Outcome, atOnce, stepsOf, answered, judgedName, Said, delivered, saying, toldOf}
+use Rattle.reading.specs.Speech.{atOnce, stepsOf, answered, Said, delivered, saying, toldOf}
 use Rattle.reading.specs.Places.{readingOf, ReadBy}
 use Rattle.reading.specs.declared.Speech.the-variants.{Refused}
 use Rattle.reading.specs.declared.Reached.{Reached}
 use Rattle.reading.specs.declared.Reached.the-variants.{Rules, Uncovered, BadTables}
 use Rattle.reading.proofs.Strings.{frame-long}
-use Rattle.reading.proofs.Names.{name-few, name-bytes}
 use Rattle.tables.specs.Tables.{Table}
 use Rattle.tables.specs.Words.{headWords, setSize, rightRows, rightSets, neededWords, neededSets, tableAt, Compiled, leftOf, rightOf}
-use Rattle.tables.specs.Walk.{Step as State, step, pass, from, allBelow, lookup, lowest, places, leftAt, rightAt, walkUsable, walkChoice, walkSteps, walk, lengthsFit, walkThrough, Walked, walkedAs, walkFor}
+use Rattle.tables.specs.Walk.{Step as State, step, pass, from, allBelow, lookup, lowest, places, leftAt, rightAt, walkUsable, walkChoice, walkSteps, walk, lengthsFit, walkThrough, Walked, walkedAs}
 use Rattle.tables.proofs.Truth.{clash}
 use Rattle.tables.proofs.Sets.{choice-tables}
 use Rattle.tables.proofs.Theorem.{delivered-steps}
@@ -182,8 +182,8 @@ bytes-symbols [] e k l = absurd (omega arith)
 bytes-symbols (c ∷ w) e zero l = omega (arith, leb-true c maxNameByte (and-l (leb c maxNameByte) _ (and-r (leb 1 c) _ e)))
 bytes-symbols (c ∷ w) e (suc k) l = bytes-symbols w (and-r (leb c maxNameByte) _ (and-r (leb 1 c) _ e)) k (omega arith)
 
-pub sound-only : (name : Str) → ((o : Outcome) → judgedName name o ≡ o) → (length name ≤ maxName) × Symbols name
-sound-only name j = (name-few name j, bytes-symbols name (name-bytes name j))
+pub sound-symbols : (name : Str) → SoundName name → Symbols name
+sound-symbols name s = bytes-symbols name (s .bytes)
 
 -- ---- the lengths
 
@@ -207,26 +207,15 @@ module _ (ws ss : List ℕ) (l r : ℕ) where
   fits-so f =
       rw (le-leb headWords (length ws) (omega (arith, f .rows)), lt-ltb 0 l (f .left), lt-ltb 0 r (f .right), le-leb (neededWords l r) (length ws) (f .rows), le-leb (neededSets l r) (length ss) (f .sets-room))
 
--- ---- the walk of a name, case by case
+-- ---- the walk of a sound name, case by case
 
-module _ (c : Compiled) (image : List ℕ) (ok : valid image ≡ true) (name : Str) (phones numbers : List ℕ) where
-  for-outcome : (o : Outcome) → judgedName name (walkThrough c (entriesOf image) name) ≡ o → walkedAs o phones numbers ≡ walkFor c image name phones numbers
-  unfolding walkFor
-  for-outcome o e = rw ok (ap (λ (x : Outcome). walkedAs x phones numbers) (sym e))
+module _ (c : Compiled) (image : List ℕ) (name : Str) (phones numbers : List ℕ) where
+  pub through-lengths : (x : Refusal) → refusalNumber x ≡ 16 → refusalPlace x ≡ 0 → lengthsFit c ≡ false → (a : WalkAnswer)
+      → a ≡ record { steps = 0; speech = Refused x } → walkedOf a phones numbers ≡ walkedAs (walkThrough c (entriesOf image) name) phones numbers
+  unfolding walkThrough
+  through-lengths x n p f a e = rw (e, f, n, p)
 
-  pub for-refused : (x : Refusal) → ((o : Outcome) → judgedName name o ≡ atOnce (refusalNumber x) (refusalPlace x)) → (a : WalkAnswer)
-      → a ≡ record { steps = 0; speech = Refused x } → walkedOf a phones numbers ≡ walkFor c image name phones numbers
-  for-refused x j a e = ap (λ (y : WalkAnswer). walkedOf y phones numbers) e ∙ for-outcome (atOnce (refusalNumber x) (refusalPlace x)) (j (walkThrough c (entriesOf image) name))
-
-  module _ (j : (o : Outcome) → judgedName name o ≡ o) where
-    pub for-lengths : (x : Refusal) → refusalNumber x ≡ 16 → refusalPlace x ≡ 0 → lengthsFit c ≡ false → (a : WalkAnswer)
-        → a ≡ record { steps = 0; speech = Refused x } → walkedOf a phones numbers ≡ walkFor c image name phones numbers
-    unfolding walkThrough
-    for-lengths x n p f a e =
-        ap (λ (y : WalkAnswer). walkedOf y phones numbers) e
-        ∙ for-outcome (atOnce (refusalNumber x) (refusalPlace x)) (j (walkThrough c (entriesOf image) name) ∙ rw (f, n, p))
-
-    pub for-walk : lengthsFit c ≡ true → (y : Walked)
-        → y ≡ walkedAs (walk (leftOf c) (rightOf c) (frame name) (length name) (entriesOf image)) phones numbers → y ≡ walkFor c image name phones numbers
-    unfolding walkThrough
-    for-walk f y g = g ∙ for-outcome (walk (leftOf c) (rightOf c) (frame name) (length name) (entriesOf image)) (j (walkThrough c (entriesOf image) name) ∙ rw f)
+  pub through-walk : lengthsFit c ≡ true → (y : Walked)
+      → y ≡ walkedAs (walk (leftOf c) (rightOf c) (frame name) (length name) (entriesOf image)) phones numbers → y ≡ walkedAs (walkThrough c (entriesOf image) name) phones numbers
+  unfolding walkThrough
+  through-walk f y g = rw f g

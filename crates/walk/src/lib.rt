@@ -3,7 +3,6 @@
 mod letters;
 mod passes;
 
-use reading::Judged;
 use reading::Reached;
 use reading::Speech;
 use rules::Refusal;
@@ -12,10 +11,11 @@ ghost use mathlib.Core.Bool.{true, false};
 ghost use Prim.Native.Nat.{_+_, _-_, _≤_};
 ghost use lib.ListN.{length};
 ghost use Rattle.rules.specs.Limits.{maxName};
+ghost use Rattle.rules.specs.Names.{SoundName};
 ghost use Rattle.image.specs.Image.{valid, entriesOf};
 ghost use Rattle.reading.specs.Fitting.{frame as framed};
 ghost use Rattle.tables.specs.Words.{leftOf, rightOf};
-ghost use Rattle.tables.specs.Walk.{walk as walkBy, lengthsFit, walkedAs, walkFor};
+ghost use Rattle.tables.specs.Walk.{walk as walkBy, lengthsFit, walkThrough, walkedAs};
 ghost use Rattle.walk.specs.Passes.{Symbols};
 ghost use Rattle.walk.specs.Letters.{frameSize};
 ghost use Rattle.walk.specs.Walked.{walkedOf, compiledWith, stepsWith, Fit};
@@ -27,7 +27,7 @@ pub struct WalkAnswer {
 }
 
 // An answer before the tables are stepped through.
-fn at_once(x: Refusal) -> WalkAnswer
+pub fn at_once(x: Refusal) -> WalkAnswer
     ensures { λ r. ⌜ r ≡ record { steps = 0; speech = Speech.Refused x } ⌝ }
 {
     let speech = Speech::Refused(x);
@@ -151,8 +151,8 @@ fn lengths_fit<'a>(
     true
 }
 
-// The walk of a name through lent tables with their state counts, for a caller that knows the image valid; nothing in it grows with the
-// number of rules.
+// The walk of a sound name through lent tables with their state counts, for a caller that knows the image valid; nothing in it grows with
+// the number of rules.
 pub fn walk_tables<'a>(
     words: &'a [u16],
     sets: &'a [u64],
@@ -163,13 +163,9 @@ pub fn walk_tables<'a>(
     phones: &mut [u8],
     numbers: &mut [u16],
 ) -> WalkAnswer
-    requires { ⌜ valid (now image) ≡ true ⌝ }
-    ensures { λ r. ⌜ walkedOf r (now (phones .exit)) (now (numbers .exit)) ≡ walkFor (compiledWith (now (words .entry)) (now (sets .entry)) «left_states» «right_states») (now (image .entry)) (now (name .entry)) (now (phones .entry)) (now (numbers .entry)) ⌝ }
+    requires { ⌜ (valid (now image) ≡ true) × SoundName (now name) ⌝ }
+    ensures { λ r. ⌜ walkedOf r (now (phones .exit)) (now (numbers .exit)) ≡ walkedAs (walkThrough (compiledWith (now (words .entry)) (now (sets .entry)) «left_states» «right_states») (entriesOf (now (image .entry))) (now (name .entry))) (now (phones .entry)) (now (numbers .entry)) ⌝ }
 {
-    let judged = reading::judge_name(name);
-    if let Judged::Refused(x) = judged {
-        return at_once(x);
-    }
     if !lengths_fit(words, sets, left_states, right_states) {
         return at_once(Refusal::BadTables(0));
     }

@@ -43,8 +43,9 @@ use denote.Triple.Table.{entered, cited}
 use denote.Triple.Walked.{says, needs, Stays, stay-none, stay-none-slice, gave-slice, walkOf, goes-none, goes-none-slice, goes-gave-slice, Walks, ends-at, walked, walk-meets}
 use denote.Exit.{yes}
 use denote.Triple.Clauses.{Lasts, ensured, lasts}
-use Rattle.image.specs.Image.{valid}
-use Rattle.tables.specs.Walk.{walkFor}
+use Rattle.rules.specs.Names.{SoundName}
+use Rattle.image.specs.Image.{valid, entriesOf}
+use Rattle.tables.specs.Walk.{walkThrough, walkedAs}
 use Rattle.walk.specs.Walked.{walkedOf, compiledWith}
 use Rattle.compiled.specs.declared.Compiled.{Compiled}
 use Rattle.walk.specs.declared.WalkAnswer.{WalkAnswer}
@@ -92,8 +93,12 @@ module _ {M : Type 1} (𝓤 : URA M) (H : Heap 𝓤) (A : Atoms 𝓤) (W : Given
   abbrev vals : Vals speak.signature κs
   vals = (dv ∷ [], (slice g ∷ [], (slice n ∷ [], (slice p ∷ [], (slice m ∷ [], tt)))))
 
+  -- what is asked of the image and the name
+  abbrev Asked : Type 0
+  Asked = (valid (now g) ≡ true) × SoundName (now n)
+
   abbrev Says : WalkAnswer → List ℕ → List ℕ → Type 0
-  Says r ps ms = walkedOf r ps ms ≡ walkFor (compiledWith (now (d .words)) (now (d .sets)) (d .«left_states») (d .«right_states»)) (now g) (now n) (now p) (now m)
+  Says r ps ms = walkedOf r ps ms ≡ walkedAs (walkThrough (compiledWith (now (d .words)) (now (d .sets)) (d .«left_states») (d .«right_states»)) (entriesOf (now g)) (now n)) (now p) (now m)
 
   abbrev Post : Val → SProp 𝓤
   Post = walkOf 𝓤 H A speak.ended stayed (speak.clauses 𝓤 H A mem run) .post ((κs, qs, tt, a, vals), tt)
@@ -126,11 +131,11 @@ module _ {M : Type 1} (𝓤 : URA M) (H : Heap 𝓤) (A : Atoms 𝓤) (W : Given
   abbrev asks : List RattleType
   asks = ShrSlice (named 0) (κs .0) u16 ∷ ShrSlice (named 0) (κs .0) u64 ∷ usize ∷ usize ∷ ShrSlice (named 1) (κs .1 .0) u8 ∷ ShrSlice (named 2) (κs .1 .1 .0) u8 ∷ MutSlice (named 3) (κs .1 .1 .1 .0) u8 ∷ MutSlice (named 4) (κs .1 .1 .1 .1 .0) u16 ∷ []
 
-  asked : valid (now g) ≡ true → ent 𝓤 (sep 𝓤 Toks (sem 𝓤 H A (owns asks b passed))) (Inner 𝓤 H A mem run .pre to)
+  asked : Asked → ent 𝓤 (sep 𝓤 Toks (sem 𝓤 H A (owns asks b passed))) (Inner 𝓤 H A mem run .pre to)
   asked v = qed W (raw Toks ∷ ‵ (owns asks b passed) ∷ []) ∵ says ! v $ frame ! $ done !
 
   -- what the parameters own gives what the callee asks, and what is Copy is kept
-  apart : valid (now g) ≡ true → ent 𝓤 (onEntry 𝓤 H A speak.signature κs qs a vals) (sep 𝓤 (Inner 𝓤 H A mem run .pre to) (sep 𝓤 (sem 𝓤 H A OwnD) (sep 𝓤 (sem 𝓤 H A OwnG) (sem 𝓤 H A OwnN))))
+  apart : Asked → ent 𝓤 (onEntry 𝓤 H A speak.signature κs qs a vals) (sep 𝓤 (Inner 𝓤 H A mem run .pre to) (sep 𝓤 (sem 𝓤 H A OwnD) (sep 𝓤 (sem 𝓤 H A OwnG) (sem 𝓤 H A OwnN))))
   apart v =
       qed W (raw Toks ∷ ‵ (owns (B κs ∷ ShrSlice (named 1) (κs .1 .0) u8 ∷ ShrSlice (named 2) (κs .1 .1 .0) u8 ∷ MutSlice (named 3) (κs .1 .1 .1 .0) u8 ∷ MutSlice (named 4) (κs .1 .1 .1 .1 .0) u16 ∷ []) a vals) ∷ []) ∵
       move ! (1 ∷ []) $ fsplit ! $ use1 W (‵ OwnD ⊛ ‵ OwnD) (LL.copy (D κs) (T′.the-copy (namedLft 5 0 tt κs)) 𝓤 H A W .twice d (dv ∷ [])) $ split ! $
@@ -157,7 +162,7 @@ module _ {M : Type 1} (𝓤 : URA M) (H : Heap 𝓤) (A : Atoms 𝓤) (W : Given
       frame ! $ done !
 
   module _ (C : Calls 𝓤 H) (Λ : Loops 𝓤 H) (fm : FmC 𝓤 H (W .laws) C) (known : Triple 𝓤 (C #walk·walk-tables) (Inner 𝓤 H A mem run)) where
-    walk : valid (now g) ≡ true → Holds (hasTy (T′.mir (named 0)) dv) × WT dv → Is (ShrSlice (named 1) (κs .1 .0) u8) g (slice g ∷ []) → Is (ShrSlice (named 2) (κs .1 .1 .0) u8) n (slice n ∷ []) → Room u8 (length (p .now)) → Room u16 (length (m .now))
+    walk : Asked → Holds (hasTy (T′.mir (named 0)) dv) × WT dv → Is (ShrSlice (named 1) (κs .1 .0) u8) g (slice g ∷ []) → Is (ShrSlice (named 2) (κs .1 .1 .0) u8) n (slice n ∷ []) → Room u8 (length (p .now)) → Room u16 (length (m .now))
         → ent 𝓤 (onEntry 𝓤 H A speak.signature κs qs a vals) (WpFn 𝓤 H C Λ code.function (dv ∷ slice g ∷ slice n ∷ slice p ∷ slice m ∷ []) Post)
     walk v wt wg wn room-p room-m =
         qed W (raw (onEntry 𝓤 H A speak.signature κs qs a vals) ∷ []) ∵ enter ! C Λ code.function (dv ∷ slice g ∷ slice n ∷ slice p ∷ slice m ∷ []) _ $
@@ -198,7 +203,7 @@ module _ {M : Type 1} (𝓤 : URA M) (H : Heap 𝓤) (A : Atoms 𝓤) (W : Given
   speak-walks C Λ fm known = walked 𝓤 H A speak.ended stayed (speak.clauses 𝓤 H A mem run) (WpFn 𝓤 H C Λ code.function)
       (λ κs. (LL.vals (D κs) (L κs), (slice-vals, (slice-vals, (slice-vals, (slice-vals, tt))))))
       (λ κs. (LL.tells (D κs) (L κs), (shr-slice-tells (named 1) (κs .1 .0) u8, (shr-slice-tells (named 2) (κs .1 .1 .0) u8, (mut-slice-tells (named 3) (κs .1 .1 .1 .0) u8, (mut-slice-tells (named 4) (κs .1 .1 .1 .1 .0) u16, tt))))))
-      (λ κs qs bounds a g are. needs 𝓤 (valid (now (a .1 .0)) ≡ true) _ (λ v. walk 𝓤 H A W mem run κs qs (a .0) (a .1 .0) (a .1 .1 .0) (a .1 .1 .1 .0) (a .1 .1 .1 .1 .0) C Λ fm known v
+      (λ κs qs bounds a g are. needs 𝓤 ((valid (now (a .1 .0)) ≡ true) × SoundName (now (a .1 .1 .0))) _ (λ v. walk 𝓤 H A W mem run κs qs (a .0) (a .1 .0) (a .1 .1 .0) (a .1 .1 .1 .0) (a .1 .1 .1 .1 .0) C Λ fm known v
       (LL.lawful (D κs) (L κs) 𝓤 H A W .typed (a .0) _ (are .0) .0) (are .1 .0) (are .1 .1 .0) (are .1 .1 .1 .0 .0 .1) (are .1 .1 .1 .1 .0 .0 .1)))
 
 speak-meets : {M : Type 1} (𝓤 : URA M) (H : Heap 𝓤) (A : Atoms 𝓤) (W : Given 𝓤 H A) (mem : Memory → SProp 𝓤) (run : Routine → Fun 𝓤) (𝓣 : Tables 𝓤 H)

@@ -1,7 +1,7 @@
 -- `compiled::speak_words` meets its contract: a walk of its MIR, by hand. The struct that `compile` returns is held in a local and passed to `speak`. All that the proof knows of the two is that each meets its contract.
 -- `compile` has the first lifetime alone, so its token is taken from the five and put back. What is Copy is had twice, and the two `&mut` slices are given up for good.
 -- Assumes nothing.
-use mathlib.Core.Path.{_≡_, refl, _∙_}
+use mathlib.Core.Path.{_≡_, refl}
 use Prim.Native.Nat.{ℕ}
 use mathlib.Core.Bool.{true}
 use mathlib.Core.List.{List, [], _∷_}
@@ -38,8 +38,10 @@ use denote.Triple.Table.{entered, cited}
 use denote.Triple.Walked.{says, needs, Stays, stay-none-slice, gave-slice, walkOf, goes-none-slice, goes-gave-slice, Walks, ends-at, walked, walk-meets}
 use denote.Exit.{yes}
 use denote.Triple.Clauses.{Lasts, ensured, lasts}
-use Rattle.image.specs.Image.{valid}
-use Rattle.tables.specs.Walk.{walkSaid}
+use Rattle.rules.specs.Names.{SoundName}
+use Rattle.image.specs.Image.{valid, entriesOf}
+use Rattle.tables.specs.Words.{compiledFrom}
+use Rattle.tables.specs.Walk.{walkThrough, walkedAs}
 use Rattle.walk.specs.Walked.{walkedOf}
 use Rattle.compiled.specs.Compiling.{compiledOf}
 use Rattle.compiled.specs.declared.Compiled.{Compiled}
@@ -76,7 +78,7 @@ module _ {M : Type 1} (𝓤 : URA M) (H : Heap 𝓤) (A : Atoms 𝓤) (mem : Mem
   abbrev Speak : Contract 𝓤
   Speak = tripleOf 𝓤 H A speak.signature (speak.spec 𝓤 H A mem run)
 
-module _ {M : Type 1} (𝓤 : URA M) (H : Heap 𝓤) (A : Atoms 𝓤) (W : Given 𝓤 H A) (mem : Memory → SProp 𝓤) (run : Routine → Fun 𝓤) (κs : Lfts 5) (qs : Shares 5) (w s g n p m : RefT (List ℕ)) (v : valid (now g) ≡ true) where
+module _ {M : Type 1} (𝓤 : URA M) (H : Heap 𝓤) (A : Atoms 𝓤) (W : Given 𝓤 H A) (mem : Memory → SProp 𝓤) (run : Routine → Fun 𝓤) (κs : Lfts 5) (qs : Shares 5) (w s g n p m : RefT (List ℕ)) (v : (valid (now g) ≡ true) × SoundName (now n)) where
   -- the machine values of the parameters
   abbrev slice : RefT (List ℕ) → Val
   slice x = sliceVal (x .ptr) (length (x .now))
@@ -96,7 +98,7 @@ module _ {M : Type 1} (𝓤 : URA M) (H : Heap 𝓤) (A : Atoms 𝓤) (W : Given
 
   -- what `speak` says of its result, with the counts of the struct, and what is to be said
   abbrev Says : WalkAnswer → List ℕ → List ℕ → Type 0
-  Says r ps ms = walkedOf r ps ms ≡ walkSaid (now g) (now w) (now s) (now n) (now p) (now m)
+  Says r ps ms = walkedOf r ps ms ≡ walkedAs (walkThrough (compiledFrom (now w) (now s)) (entriesOf (now g)) (now n)) (now p) (now m)
 
   abbrev Post : Val → SProp 𝓤
   Post = walkOf 𝓤 H A this.ended stayed (this.clauses 𝓤 H A mem run) .post ((κs, qs, tt, a, vals), tt)
@@ -229,7 +231,7 @@ module _ {M : Type 1} (𝓤 : URA M) (H : Heap 𝓤) (A : Atoms 𝓤) (W : Given
   this-walks C Λ fm known-new known-speak = walked 𝓤 H A this.ended stayed (this.clauses 𝓤 H A mem run) (WpFn 𝓤 H C Λ code.function)
       (λ κs. (slice-vals, (slice-vals, (slice-vals, (slice-vals, (slice-vals, (slice-vals, tt)))))))
       (λ κs. (shr-slice-tells (named 0) (κs .0) u16, (shr-slice-tells (named 0) (κs .0) u64, (shr-slice-tells (named 1) (κs .1 .0) u8, (shr-slice-tells (named 2) (κs .1 .1 .0) u8, (mut-slice-tells (named 3) (κs .1 .1 .1 .0) u8, (mut-slice-tells (named 4) (κs .1 .1 .1 .1 .0) u16, tt)))))))
-      (λ κs qs bounds a g are. needs 𝓤 (valid (now (a .1 .1 .0)) ≡ true) _ (λ v. walk 𝓤 H A W mem run κs qs (a .0) (a .1 .0) (a .1 .1 .0) (a .1 .1 .1 .0) (a .1 .1 .1 .1 .0) (a .1 .1 .1 .1 .1 .0) v C Λ fm known-new known-speak
+      (λ κs qs bounds a g are. needs 𝓤 ((valid (now (a .1 .1 .0)) ≡ true) × SoundName (now (a .1 .1 .1 .0))) _ (λ v. walk 𝓤 H A W mem run κs qs (a .0) (a .1 .0) (a .1 .1 .0) (a .1 .1 .1 .0) (a .1 .1 .1 .1 .0) (a .1 .1 .1 .1 .1 .0) v C Λ fm known-new known-speak
       (are .0) (are .1 .0) (are .1 .1 .0) (are .1 .1 .1 .0) (are .1 .1 .1 .1 .0 .0 .1) (are .1 .1 .1 .1 .1 .0 .0 .1)))
 
 this-meets : {M : Type 1} (𝓤 : URA M) (H : Heap 𝓤) (A : Atoms 𝓤) (W : Given 𝓤 H A) (mem : Memory → SProp 𝓤) (run : Routine → Fun 𝓤) (𝓣 : Tables 𝓤 H)
