@@ -29,14 +29,14 @@ abbrev Other : ℕ → Type 0
 Other k =
     ((((((((((((((((Unit {0} × (k ≡ 16 → ⊥)) × (k ≡ 17 → ⊥)) × (k ≡ 18 → ⊥)) × (k ≡ 19 → ⊥)) × (k ≡ 20 → ⊥)) × (k ≡ 21 → ⊥)) × (k ≡ 22 → ⊥)) × (k ≡ 23 → ⊥)) × (k ≡ 24 → ⊥)) × (k ≡ 25 → ⊥)) × (k ≡ 26 → ⊥)) × (k ≡ 27 → ⊥)) × (k ≡ 28 → ⊥)) × (k ≡ 29 → ⊥)) × (k ≡ 30 → ⊥)) × (k ≡ 31 → ⊥))
 
-module _ (f file image words sets phones numbers : List ℕ) (len : ℕ) (out out′ : List ℕ) where
+module _ (f file list image words sets phones numbers : List ℕ) (len : ℕ) (out out′ : List ℕ) where
   abbrev before : State
   before = holding image words sets phones numbers
 
   -- the command's kind decides
-  at : (k : ℕ) (s : State) → getD f 0 0 ≡ k → Given (byKind k f file before) s len out out′ → Given (answerTo f file before) s len out out′
+  at : (k : ℕ) (s : State) → getD f 0 0 ≡ k → Given (byKind k f file list before) s len out out′ → Given (answerTo f file list before) s len out out′
   unfolding answerTo
-  at k s e g = subst (λ (i : ℕ). Given (byKind i f file before) s len out out′) (sym e) g
+  at k s e g = subst (λ (i : ℕ). Given (byKind i f file list before) s len out out′) (sym e) g
 
   same-after : (line : List ℕ) → Gives line len out out′ → Given (shows before line) before len out out′
   same-after line g = given (shows before line) before len out out′ refl (g .0) (g .1)
@@ -62,67 +62,67 @@ module _ (f file image words sets phones numbers : List ℕ) (len : ℕ) (out ou
       (ap (λ (x : List ℕ). holding image words sets x ys) (w .left) ∙ ap (λ (y : List ℕ). holding image words sets (e .first) y) (w .right))
       (w .many) (w .bytes)
 
-  pub by-add : (xs : List ℕ) → getD f 0 0 ≡ 16 → Answered (added f image) xs len out out′ → Given (answerTo f file before) (holding xs words sets phones numbers) len out out′
+  pub by-add : (xs : List ℕ) → getD f 0 0 ≡ 16 → Answered (added f image) xs len out out′ → Given (answerTo f file list before) (holding xs words sets phones numbers) len out out′
   unfolding byKind
   by-add xs e w = at 16 _ e (image-after (added f image) xs w)
 
-  pub by-drop : (xs : List ℕ) → getD f 0 0 ≡ 17 → Answered (dropped f image) xs len out out′ → Given (answerTo f file before) (holding xs words sets phones numbers) len out out′
+  pub by-drop : (xs : List ℕ) → getD f 0 0 ≡ 17 → Answered (dropped f image) xs len out out′ → Given (answerTo f file list before) (holding xs words sets phones numbers) len out out′
   unfolding byKind
   by-drop xs e w = at 17 _ e (image-after (dropped f image) xs w)
 
-  pub by-move : (xs : List ℕ) → getD f 0 0 ≡ 18 → Answered (moved f image) xs len out out′ → Given (answerTo f file before) (holding xs words sets phones numbers) len out out′
+  pub by-move : (xs : List ℕ) → getD f 0 0 ≡ 18 → Answered (moved f image) xs len out out′ → Given (answerTo f file list before) (holding xs words sets phones numbers) len out out′
   unfolding byKind
   by-move xs e w = at 18 _ e (image-after (moved f image) xs w)
 
-  pub by-read : (xs : List ℕ) → getD f 0 0 ≡ 19 → Answered (loadedBy f file image) xs len out out′ → Given (answerTo f file before) (holding xs words sets phones numbers) len out out′
+  pub by-read : (xs : List ℕ) → getD f 0 0 ≡ 19 → Answered (loadedBy f file image) xs len out out′ → Given (answerTo f file list before) (holding xs words sets phones numbers) len out out′
   unfolding byKind
   by-read xs e w = at 19 _ e (image-after (loadedBy f file image) xs w)
 
-  pub by-write : getD f 0 0 ≡ 20 → Gives (writeLine f image) len out out′ → Given (answerTo f file before) before len out out′
+  pub by-write : getD f 0 0 ≡ 20 → Gives (writeLine f image) len out out′ → Given (answerTo f file list before) before len out out′
   unfolding byKind
   by-write e g = at 20 _ e (same-after (writeLine f image) g)
 
-  pub by-build : (xs ys : List ℕ) → getD f 0 0 ≡ 21 → BothAnswered (builtBy f image words sets) xs ys len out out′ → Given (answerTo f file before) (holding image xs ys phones numbers) len out out′
+  pub by-build : (xs ys : List ℕ) → getD f 0 0 ≡ 21 → BothAnswered (builtBy f image words sets) xs ys len out out′ → Given (answerTo f file list before) (holding image xs ys phones numbers) len out out′
   unfolding byKind
   by-build xs ys e w = at 21 _ e (tables-after (builtBy f image words sets) xs ys w)
 
-  pub by-walk : (xs ys : List ℕ) → getD f 0 0 ≡ 22 → BothAnswered (walkedBy f image words sets phones numbers) xs ys len out out′ → Given (answerTo f file before) (holding image words sets xs ys) len out out′
+  pub by-walk : (xs ys : List ℕ) → getD f 0 0 ≡ 22 → BothAnswered (walkedBy f image list words sets phones numbers) xs ys len out out′ → Given (answerTo f file list before) (holding image words sets xs ys) len out out′
   unfolding byKind
-  by-walk xs ys e w = at 22 _ e (speech-after (walkedBy f image words sets phones numbers) xs ys w)
+  by-walk xs ys e w = at 22 _ e (speech-after (walkedBy f image list words sets phones numbers) xs ys w)
 
-  pub by-plain : (xs ys : List ℕ) → getD f 0 0 ≡ 23 → BothAnswered (plainBy f image phones numbers) xs ys len out out′ → Given (answerTo f file before) (holding image words sets xs ys) len out out′
+  pub by-plain : (xs ys : List ℕ) → getD f 0 0 ≡ 23 → BothAnswered (plainBy f image list phones numbers) xs ys len out out′ → Given (answerTo f file list before) (holding image words sets xs ys) len out out′
   unfolding byKind
-  by-plain xs ys e w = at 23 _ e (speech-after (plainBy f image phones numbers) xs ys w)
+  by-plain xs ys e w = at 23 _ e (speech-after (plainBy f image list phones numbers) xs ys w)
 
-  pub by-store-word : (xs : List ℕ) → getD f 0 0 ≡ 24 → Answered (storedWord f words) xs len out out′ → Given (answerTo f file before) (holding image xs sets phones numbers) len out out′
+  pub by-store-word : (xs : List ℕ) → getD f 0 0 ≡ 24 → Answered (storedWord f words) xs len out out′ → Given (answerTo f file list before) (holding image xs sets phones numbers) len out out′
   unfolding byKind
   by-store-word xs e w = at 24 _ e (words-after (storedWord f words) xs w)
 
-  pub by-store-set : (xs : List ℕ) → getD f 0 0 ≡ 25 → Answered (storedSet f sets) xs len out out′ → Given (answerTo f file before) (holding image words xs phones numbers) len out out′
+  pub by-store-set : (xs : List ℕ) → getD f 0 0 ≡ 25 → Answered (storedSet f sets) xs len out out′ → Given (answerTo f file list before) (holding image words xs phones numbers) len out out′
   unfolding byKind
   by-store-set xs e w = at 25 _ e (sets-after (storedSet f sets) xs w)
 
-  pub by-show-words : getD f 0 0 ≡ 26 → Gives (shownWords f words) len out out′ → Given (answerTo f file before) before len out out′
+  pub by-show-words : getD f 0 0 ≡ 26 → Gives (shownWords f words) len out out′ → Given (answerTo f file list before) before len out out′
   unfolding byKind
   by-show-words e g = at 26 _ e (same-after (shownWords f words) g)
 
-  pub by-show-sets : getD f 0 0 ≡ 27 → Gives (shownSets f sets) len out out′ → Given (answerTo f file before) before len out out′
+  pub by-show-sets : getD f 0 0 ≡ 27 → Gives (shownSets f sets) len out out′ → Given (answerTo f file list before) before len out out′
   unfolding byKind
   by-show-sets e g = at 27 _ e (same-after (shownSets f sets) g)
 
-  pub by-show-phones : getD f 0 0 ≡ 28 → Gives (shownPhones f phones) len out out′ → Given (answerTo f file before) before len out out′
+  pub by-show-phones : getD f 0 0 ≡ 28 → Gives (shownPhones f phones) len out out′ → Given (answerTo f file list before) before len out out′
   unfolding byKind
   by-show-phones e g = at 28 _ e (same-after (shownPhones f phones) g)
 
-  pub by-show-numbers : getD f 0 0 ≡ 29 → Gives (shownNumbers f numbers) len out out′ → Given (answerTo f file before) before len out out′
+  pub by-show-numbers : getD f 0 0 ≡ 29 → Gives (shownNumbers f numbers) len out out′ → Given (answerTo f file list before) before len out out′
   unfolding byKind
   by-show-numbers e g = at 29 _ e (same-after (shownNumbers f numbers) g)
 
-  pub by-force : (xs : List ℕ) → getD f 0 0 ≡ 30 → Answered (forcedBy f image) xs len out out′ → Given (answerTo f file before) (holding xs words sets phones numbers) len out out′
+  pub by-force : (xs : List ℕ) → getD f 0 0 ≡ 30 → Answered (forcedBy f image) xs len out out′ → Given (answerTo f file list before) (holding xs words sets phones numbers) len out out′
   unfolding byKind
   by-force xs e w = at 30 _ e (image-after (forcedBy f image) xs w)
 
-  pub by-clear : (xs : List ℕ) → getD f 0 0 ≡ 31 → Answered (clearedBy f image) xs len out out′ → Given (answerTo f file before) (holding xs words sets phones numbers) len out out′
+  pub by-clear : (xs : List ℕ) → getD f 0 0 ≡ 31 → Answered (clearedBy f image) xs len out out′ → Given (answerTo f file list before) (holding xs words sets phones numbers) len out out′
   unfolding byKind
   by-clear xs e w = at 31 _ e (image-after (clearedBy f image) xs w)
 
@@ -131,13 +131,13 @@ module _ (f file image words sets phones numbers : List ℕ) (len : ℕ) (out ou
     none = same-after malformedLine (l ∙ sym (length-printed (refusedBody 13 0)), h)
 
     -- a frame of no bytes
-    pub by-none : length f ≡ 0 → Given (answerTo f file before) before len out out′
+    pub by-none : length f ≡ 0 → Given (answerTo f file list before) before len out out′
     unfolding byKind
     by-none e = at 0 _ (List·getD-eq-default f 0 (omega arith)) none
 
-    other : (k : ℕ) → Other k → byKind k f file before ≡ shows before malformedLine
+    other : (k : ℕ) → Other k → byKind k f file list before ≡ shows before malformedLine
     unfolding byKind
     other k n = rw (ne-eqb k 16 (n .0 .0 .0 .0 .0 .0 .0 .0 .0 .0 .0 .0 .0 .0 .0 .1), ne-eqb k 17 (n .0 .0 .0 .0 .0 .0 .0 .0 .0 .0 .0 .0 .0 .0 .1), ne-eqb k 18 (n .0 .0 .0 .0 .0 .0 .0 .0 .0 .0 .0 .0 .0 .1), ne-eqb k 19 (n .0 .0 .0 .0 .0 .0 .0 .0 .0 .0 .0 .0 .1), ne-eqb k 20 (n .0 .0 .0 .0 .0 .0 .0 .0 .0 .0 .0 .1), ne-eqb k 21 (n .0 .0 .0 .0 .0 .0 .0 .0 .0 .0 .1), ne-eqb k 22 (n .0 .0 .0 .0 .0 .0 .0 .0 .0 .1), ne-eqb k 23 (n .0 .0 .0 .0 .0 .0 .0 .0 .1), ne-eqb k 24 (n .0 .0 .0 .0 .0 .0 .0 .1), ne-eqb k 25 (n .0 .0 .0 .0 .0 .0 .1), ne-eqb k 26 (n .0 .0 .0 .0 .0 .1), ne-eqb k 27 (n .0 .0 .0 .0 .1), ne-eqb k 28 (n .0 .0 .0 .1), ne-eqb k 29 (n .0 .0 .1), ne-eqb k 30 (n .0 .1), ne-eqb k 31 (n .1))
 
-    pub by-other : Other (getD f 0 0) → Given (answerTo f file before) before len out out′
+    pub by-other : Other (getD f 0 0) → Given (answerTo f file list before) before len out out′
     by-other n = at (getD f 0 0) _ refl (subst (λ (o : Response). Given o before len out out′) (sym (other (getD f 0 0) n)) none)

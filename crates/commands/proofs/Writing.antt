@@ -14,9 +14,10 @@ use Rattle.rules.specs.Refusals.{refusalNumber, refusalPlace}
 use Rattle.rules.specs.declared.Refusal.{Refusal}
 use Rattle.image.specs.Image.{valid}
 use Rattle.file.specs.File.{encode}
-use Rattle.file.specs.Loading.{Report, wrote, refused, reportOf, Filed, filing, filed, rulesetIn}
-use Rattle.file.specs.declared.Written.{Written}
-use Rattle.file.specs.declared.Written.the-variants.{Bytes, Refused}
+use Rattle.file.specs.Loading.{Filed, filing, filed, rulesetIn}
+use Rattle.rules.specs.Refusals.{Report, wrote, refused, reportOf}
+use Rattle.rules.specs.declared.Written.{Written}
+use Rattle.rules.specs.declared.Written.the-variants.{Bytes, Refused}
 use Rattle.transcript.specs.Answers.{refusedBody, refusalLine}
 use Rattle.transcript.proofs.Printed.{length-printed}
 use Rattle.commands.specs.Fields.{four}

@@ -7,7 +7,8 @@ use lib.ListN.{length, take, replicate}
 use lib.Dec.{leb, eqb}
 use Rattle.rules.specs.Refusals.{declined}
 use Rattle.image.specs.Image.{Edited, outcome}
-use Rattle.file.specs.Loading.{loaded, Report, wrote, refused, Filed, filing, filed, rulesetIn}
+use Rattle.file.specs.Loading.{loaded, Filed, filing, filed, rulesetIn}
+use Rattle.rules.specs.Refusals.{Report, wrote, refused}
 use Rattle.file.specs.File.{encode}
 use Rattle.loader.specs.Prepared.{maxInput}
 use Rattle.transcript.specs.Answers.{printed, refusedBody}

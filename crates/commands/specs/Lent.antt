@@ -5,6 +5,7 @@ use mathlib.Core.List.{List, _++_}
 use lib.Dec.{leb, eqb}
 use lib.ListN.{length, take, drop}
 use Rattle.numbers.specs.Numbers.{two}
+use Rattle.exceptions.specs.Judging.{listingOf}
 use Rattle.reading.specs.Speech.{Told, spoken, refused, Said, saying, plainSaid}
 use Rattle.tables.specs.Words.{leftCount, rightCount, Built, building, built}
 use Rattle.tables.specs.Walk.{Walked, walkSaid}
@@ -31,16 +32,16 @@ builtIn n m image ws ss = builtBack n m ws ss (built image (take n ws) (take m s
 abbrev pub saidBack : ℕ → ℕ → List ℕ → List ℕ → Said → Said
 saidBack n m phones numbers s = saying (s .told) (back n (s .phones) phones) (back m (s .numbers) numbers)
 
--- the plain reading, with the first n phones and the first m numbers lent
-unfoldable pub plainIn : ℕ → ℕ → List ℕ → List ℕ → List ℕ → List ℕ → Said
-plainIn n m image name phones numbers = saidBack n m phones numbers (plainSaid image name (take n phones) (take m numbers))
+-- the plain reading with a lent list, and the first n phones and the first m numbers lent
+unfoldable pub plainIn : ℕ → ℕ → List ℕ → List ℕ → List ℕ → List ℕ → List ℕ → Said
+plainIn n m image list name phones numbers = saidBack n m phones numbers (plainSaid image (listingOf list) name (take n phones) (take m numbers))
 
 abbrev pub walkedBack : ℕ → ℕ → List ℕ → List ℕ → Walked → Walked
 walkedBack n m phones numbers w = record { said = saidBack n m phones numbers (w .said); steps = w .steps }
 
 -- the walk, likewise
-unfoldable pub walkIn : ℕ → ℕ → List ℕ → List ℕ → List ℕ → List ℕ → List ℕ → List ℕ → Walked
-walkIn n m image ws ss name phones numbers = walkedBack n m phones numbers (walkSaid image ws ss name (take n phones) (take m numbers))
+unfoldable pub walkIn : ℕ → ℕ → List ℕ → List ℕ → List ℕ → List ℕ → List ℕ → List ℕ → List ℕ → Walked
+walkIn n m image list ws ss name phones numbers = walkedBack n m phones numbers (walkSaid image (listingOf list) ws ss name (take n phones) (take m numbers))
 
 -- ---- the commands
 
@@ -67,10 +68,10 @@ abbrev pub walkEffects : Walked → Effects
 walkEffects w = leavingBoth (walkLine (w .said .told) (w .steps) (w .said .phones) (w .said .numbers)) (w .said .phones) (w .said .numbers)
 
 -- 16, lent words (4), lent set words (4), lent phones (2), lent numbers (2), letters: walk, over the first so many of each
-unfoldable pub walkedBy : List ℕ → List ℕ → List ℕ → List ℕ → List ℕ → List ℕ → Effects
-walkedBy f image words sets phones numbers =
+unfoldable pub walkedBy : List ℕ → List ℕ → List ℕ → List ℕ → List ℕ → List ℕ → List ℕ → Effects
+walkedBy f image list words sets phones numbers =
     bothSized (leb 13 (length f))
-    (walkEffects (walkIn (lentOf (two 9 f) (length phones)) (lentOf (two 11 f) (length numbers)) image (take (lentOf (four 1 f) (length words)) words) (take (lentOf (four 5 f) (length sets)) sets) (drop 13 f) phones numbers))
+    (walkEffects (walkIn (lentOf (two 9 f) (length phones)) (lentOf (two 11 f) (length numbers)) image list (take (lentOf (four 1 f) (length words)) words) (take (lentOf (four 5 f) (length sets)) sets) (drop 13 f) phones numbers))
     phones numbers
 
 -- what a plain reading answers: 04 with steps 0, or 05
@@ -81,7 +82,7 @@ abbrev pub plainEffects : Said → Effects
 plainEffects s = leavingBoth (plainLine (s .told) (s .phones) (s .numbers)) (s .phones) (s .numbers)
 
 -- 17, lent phones (2), lent numbers (2), letters: plain reading
-unfoldable pub plainBy : List ℕ → List ℕ → List ℕ → List ℕ → Effects
-plainBy f image phones numbers =
+unfoldable pub plainBy : List ℕ → List ℕ → List ℕ → List ℕ → List ℕ → Effects
+plainBy f image list phones numbers =
     bothSized (leb 5 (length f))
-    (plainEffects (plainIn (lentOf (two 1 f) (length phones)) (lentOf (two 3 f) (length numbers)) image (drop 5 f) phones numbers)) phones numbers
+    (plainEffects (plainIn (lentOf (two 1 f) (length phones)) (lentOf (two 3 f) (length numbers)) image list (drop 5 f) phones numbers)) phones numbers

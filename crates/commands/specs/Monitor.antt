@@ -59,17 +59,17 @@ onSpeech s e = record { line = e .line; state = holding (s .image) (s .words) (s
 abbrev pub shows : State → List ℕ → Response
 shows s line = record { line = line; state = s }
 
--- 10 to 1F; `file` is what rules.hex holds
-unfoldable pub byKind : ℕ → List ℕ → List ℕ → State → Response
-byKind kind f file s =
+-- 10 to 1F; `file` is what rules.hex holds, and `list` the lent list, which none of them changes
+unfoldable pub byKind : ℕ → List ℕ → List ℕ → List ℕ → State → Response
+byKind kind f file list s =
     cond (eqb kind 16) (onImage s (added f (s .image)))
     (cond (eqb kind 17) (onImage s (dropped f (s .image)))
     (cond (eqb kind 18) (onImage s (moved f (s .image)))
     (cond (eqb kind 19) (onImage s (loadedBy f file (s .image)))
     (cond (eqb kind 20) (shows s (writeLine f (s .image)))
     (cond (eqb kind 21) (onTables s (builtBy f (s .image) (s .words) (s .sets)))
-    (cond (eqb kind 22) (onSpeech s (walkedBy f (s .image) (s .words) (s .sets) (s .phones) (s .numbers)))
-    (cond (eqb kind 23) (onSpeech s (plainBy f (s .image) (s .phones) (s .numbers)))
+    (cond (eqb kind 22) (onSpeech s (walkedBy f (s .image) list (s .words) (s .sets) (s .phones) (s .numbers)))
+    (cond (eqb kind 23) (onSpeech s (plainBy f (s .image) list (s .phones) (s .numbers)))
     (cond (eqb kind 24) (onWords s (storedWord f (s .words)))
     (cond (eqb kind 25) (onSets s (storedSet f (s .sets)))
     (cond (eqb kind 26) (shows s (shownWords f (s .words)))
@@ -81,8 +81,8 @@ byKind kind f file s =
     (shows s malformedLine))))))))))))))))
 
 -- the answer to a command; a frame of no bytes is none
-unfoldable pub answerTo : List ℕ → List ℕ → State → Response
-answerTo f file s = byKind (getD f 0 0) f file s
+unfoldable pub answerTo : List ℕ → List ℕ → List ℕ → State → Response
+answerTo f file list s = byKind (getD f 0 0) f file list s
 
 -- an answer that was given: what is held after it, and its line at the front of the lent bytes
 pub record Replied (o : Response) (held : State) (len : ℕ) (out out′ : List ℕ) : Type 0 where

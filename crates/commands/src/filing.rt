@@ -2,16 +2,17 @@
 use crate::answers;
 use crate::fields;
 use crate::speaking;
-use file::Written;
 use rules::Answer;
 use rules::Refusal;
+use rules::Written;
 ghost use mathlib.Core.Path.{_≡_};
 ghost use Prim.Native.Nat.{_≤_};
 ghost use lib.ListN.{length};
 ghost use Rattle.rules.specs.Memory.{over};
 ghost use Rattle.rules.specs.Refusals.{replyOf};
 ghost use Rattle.image.specs.Image.{imageSize, outcome};
-ghost use Rattle.file.specs.Loading.{reportOf, filing};
+ghost use Rattle.file.specs.Loading.{filing};
+ghost use Rattle.rules.specs.Refusals.{reportOf};
 ghost use Rattle.commands.specs.Answers.{longestFile, Answered};
 ghost use Rattle.commands.specs.Filing.{loadedFrom, loadedBy, filedIn, writeLine};
 

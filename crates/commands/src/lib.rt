@@ -1,10 +1,10 @@
 // The commands of the monitor, one function each: a command's bytes without their checksum in, the answer's lines out.
-mod answers;
+pub mod answers;
 mod editing;
-mod fields;
+pub mod fields;
 mod filing;
-mod memory;
-mod speaking;
+pub mod memory;
+pub mod speaking;
 
 use file::layout;
 ghost use mathlib.Core.Path.{_≡_};
@@ -49,11 +49,13 @@ pub fn asks_for_file(f: &[u8]) -> bool
     f[0] == 0x13
 }
 
-// The answer to a command, at the front of `out`, and its length; `file` holds the bytes of rules.hex where the command reads it.
+// The answer to a command, at the front of `out`, and its length; `file` holds the bytes of rules.hex where the command reads it, and `list` is
+// the lent list that names are looked up in.
 pub fn answer(
     f: &[u8],
     file: &[u8],
     image: &mut [u8],
+    list: &[u32],
     words: &mut [u16],
     sets: &mut [u64],
     phones: &mut [u8],
@@ -61,7 +63,7 @@ pub fn answer(
     out: &mut [u8],
 ) -> usize
     requires { ⌜ Held (length (now image)) (length (now phones)) (length (now numbers)) (length (now out)) ⌝ }
-    ensures replied { λ r. ⌜ Replied (answerTo (now (f .entry)) (now (file .entry)) (holding (now (image .entry)) (now (words .entry)) (now (sets .entry)) (now (phones .entry)) (now (numbers .entry)))) (holding (now (image .exit)) (now (words .exit)) (now (sets .exit)) (now (phones .exit)) (now (numbers .exit))) r (now (out .entry)) (now (out .exit)) ⌝ }
+    ensures replied { λ r. ⌜ Replied (answerTo (now (f .entry)) (now (file .entry)) (now (list .entry)) (holding (now (image .entry)) (now (words .entry)) (now (sets .entry)) (now (phones .entry)) (now (numbers .entry)))) (holding (now (image .exit)) (now (words .exit)) (now (sets .exit)) (now (phones .exit)) (now (numbers .exit))) r (now (out .entry)) (now (out .exit)) ⌝ }
     ensures within { λ r. ⌜ r ≤ length (now (out .exit)) ⌝ }
 {
     if f.len() == 0 {
@@ -75,8 +77,8 @@ pub fn answer(
         0x13 => filing::read_command(f, file, image, out),
         0x14 => filing::write_command(f, image, out),
         0x15 => speaking::build_command(f, image, words, sets, out),
-        0x16 => speaking::walk_command(f, image, words, sets, phones, numbers, out),
-        0x17 => speaking::plain_command(f, image, phones, numbers, out),
+        0x16 => speaking::walk_command(f, image, list, words, sets, phones, numbers, out),
+        0x17 => speaking::plain_command(f, image, list, phones, numbers, out),
         0x18 => memory::store_word(f, words, out),
         0x19 => memory::store_set(f, sets, out),
         0x1A => memory::show_words(f, words, out),

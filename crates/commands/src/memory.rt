@@ -54,7 +54,7 @@ fn words_line(words: &[u16], out: &mut [u8]) -> usize
 }
 
 // Index (4), count (1): whether so many elements from there on are all among `n`.
-fn is_inside(f: &[u8], n: usize) -> bool
+pub fn is_inside(f: &[u8], n: usize) -> bool
     ensures { λ r. ⌜ r ≡ inside (now (f .entry)) n ⌝ }
 {
     if f.len() != 6 {

@@ -72,6 +72,7 @@ pub fn build_command(
 // A name read plainly, with the first so many phones and numbers lent.
 fn plain_in(
     image: &[u8],
+    list: &[u32],
     name: &[u8],
     phones: &mut [u8],
     n: usize,
@@ -79,25 +80,32 @@ fn plain_in(
     m: usize,
 ) -> Speech
     requires { ⌜ (n ≤ length (now phones)) × (m ≤ length (now numbers)) ⌝ }
-    ensures { λ r. ⌜ saying (toldOf r) (now (phones .exit)) (now (numbers .exit)) ≡ plainIn n m (now (image .entry)) (now (name .entry)) (now (phones .entry)) (now (numbers .entry)) ⌝ }
+    ensures { λ r. ⌜ saying (toldOf r) (now (phones .exit)) (now (numbers .exit)) ≡ plainIn n m (now (image .entry)) (now (list .entry)) (now (name .entry)) (now (phones .entry)) (now (numbers .entry)) ⌝ }
 {
-    reading::read_name(image, name, &mut phones[..n], &mut numbers[..m])
+    reading::read_name(image, list, name, &mut phones[..n], &mut numbers[..m])
 }
 
 // 17, lent phones (2), lent numbers (2), letters.
-pub fn plain_lent(f: &[u8], image: &[u8], phones: &mut [u8], numbers: &mut [u16]) -> Speech
+pub fn plain_lent(
+    f: &[u8],
+    image: &[u8],
+    list: &[u32],
+    phones: &mut [u8],
+    numbers: &mut [u16],
+) -> Speech
     requires { ⌜ 5 ≤ length (now f) ⌝ }
-    ensures said { λ r. ⌜ saying (toldOf r) (now (phones .exit)) (now (numbers .exit)) ≡ plainIn (lentOf (two 1 (now (f .entry))) (length (now (phones .entry)))) (lentOf (two 3 (now (f .entry))) (length (now (numbers .entry)))) (now (image .entry)) (drop 5 (now (f .entry))) (now (phones .entry)) (now (numbers .entry)) ⌝ }
+    ensures said { λ r. ⌜ saying (toldOf r) (now (phones .exit)) (now (numbers .exit)) ≡ plainIn (lentOf (two 1 (now (f .entry))) (length (now (phones .entry)))) (lentOf (two 3 (now (f .entry))) (length (now (numbers .entry)))) (now (image .entry)) (now (list .entry)) (drop 5 (now (f .entry))) (now (phones .entry)) (now (numbers .entry)) ⌝ }
     ensures within { λ r. ⌜ ToldWithin (toldOf r) (length (now (phones .entry))) (length (now (numbers .entry))) ⌝ }
 {
     let n = lent(fields::two_at(f, 1), phones.len());
     let m = lent(fields::two_at(f, 3), numbers.len());
-    plain_in(image, &f[5..], phones, n, numbers, m)
+    plain_in(image, list, &f[5..], phones, n, numbers, m)
 }
 
 // A name walked through the first so many words and set words, with the first so many phones and numbers lent.
 fn walk_in<'a>(
     image: &[u8],
+    list: &[u32],
     words: &'a [u16],
     sets: &'a [u64],
     name: &[u8],
@@ -107,10 +115,11 @@ fn walk_in<'a>(
     m: usize,
 ) -> WalkAnswer
     requires { ⌜ (n ≤ length (now phones)) × (m ≤ length (now numbers)) ⌝ }
-    ensures { λ r. ⌜ walkedOf r (now (phones .exit)) (now (numbers .exit)) ≡ walkIn n m (now (image .entry)) (now (words .entry)) (now (sets .entry)) (now (name .entry)) (now (phones .entry)) (now (numbers .entry)) ⌝ }
+    ensures { λ r. ⌜ walkedOf r (now (phones .exit)) (now (numbers .exit)) ≡ walkIn n m (now (image .entry)) (now (list .entry)) (now (words .entry)) (now (sets .entry)) (now (name .entry)) (now (phones .entry)) (now (numbers .entry)) ⌝ }
 {
     compiled::speak_compiled(
         image,
+        list,
         words,
         sets,
         name,
@@ -123,13 +132,14 @@ fn walk_in<'a>(
 pub fn walk_lent<'a>(
     f: &[u8],
     image: &[u8],
+    list: &[u32],
     words: &'a [u16],
     sets: &'a [u64],
     phones: &mut [u8],
     numbers: &mut [u16],
 ) -> WalkAnswer
     requires { ⌜ 13 ≤ length (now f) ⌝ }
-    ensures walked { λ r. ⌜ walkedOf r (now (phones .exit)) (now (numbers .exit)) ≡ walkIn (lentOf (two 9 (now (f .entry))) (length (now (phones .entry)))) (lentOf (two 11 (now (f .entry))) (length (now (numbers .entry)))) (now (image .entry)) (take (lentOf (four 1 (now (f .entry))) (length (now (words .entry)))) (now (words .entry))) (take (lentOf (four 5 (now (f .entry))) (length (now (sets .entry)))) (now (sets .entry))) (drop 13 (now (f .entry))) (now (phones .entry)) (now (numbers .entry)) ⌝ }
+    ensures walked { λ r. ⌜ walkedOf r (now (phones .exit)) (now (numbers .exit)) ≡ walkIn (lentOf (two 9 (now (f .entry))) (length (now (phones .entry)))) (lentOf (two 11 (now (f .entry))) (length (now (numbers .entry)))) (now (image .entry)) (now (list .entry)) (take (lentOf (four 1 (now (f .entry))) (length (now (words .entry)))) (now (words .entry))) (take (lentOf (four 5 (now (f .entry))) (length (now (sets .entry)))) (now (sets .entry))) (drop 13 (now (f .entry))) (now (phones .entry)) (now (numbers .entry)) ⌝ }
     ensures within { λ r. ⌜ ToldWithin (toldOf (r .speech)) (length (now (phones .entry))) (length (now (numbers .entry))) ⌝ }
 {
     let a = lent(fields::four_at(f, 1), words.len());
@@ -138,6 +148,7 @@ pub fn walk_lent<'a>(
     let m = lent(fields::two_at(f, 11), numbers.len());
     walk_in(
         image,
+        list,
         &words[..a],
         &sets[..b],
         &f[13..],
@@ -162,17 +173,18 @@ fn plain_line(speech: Speech, phones: &[u8], numbers: &[u16], out: &mut [u8]) ->
 pub fn plain_command(
     f: &[u8],
     image: &[u8],
+    list: &[u32],
     phones: &mut [u8],
     numbers: &mut [u16],
     out: &mut [u8],
 ) -> usize
     requires { ⌜ (length (now phones) ≤ 256) × ((length (now numbers) ≤ 64) × (longestLine ≤ length (now out))) ⌝ }
-    ensures { λ r. ⌜ BothAnswered (plainBy (now (f .entry)) (now (image .entry)) (now (phones .entry)) (now (numbers .entry))) (now (phones .exit)) (now (numbers .exit)) r (now (out .entry)) (now (out .exit)) ⌝ }
+    ensures { λ r. ⌜ BothAnswered (plainBy (now (f .entry)) (now (image .entry)) (now (list .entry)) (now (phones .entry)) (now (numbers .entry))) (now (phones .exit)) (now (numbers .exit)) r (now (out .entry)) (now (out .exit)) ⌝ }
 {
     if f.len() < 5 {
         return answers::malformed(out);
     }
-    let speech = plain_lent(f, image, &mut *phones, &mut *numbers);
+    let speech = plain_lent(f, image, list, &mut *phones, &mut *numbers);
     plain_line(speech, phones, numbers, out)
 }
 
@@ -193,6 +205,7 @@ fn walk_line(answer: WalkAnswer, phones: &[u8], numbers: &[u16], out: &mut [u8])
 pub fn walk_command<'a>(
     f: &[u8],
     image: &[u8],
+    list: &[u32],
     words: &'a [u16],
     sets: &'a [u64],
     phones: &mut [u8],
@@ -200,11 +213,11 @@ pub fn walk_command<'a>(
     out: &mut [u8],
 ) -> usize
     requires { ⌜ (length (now phones) ≤ 256) × ((length (now numbers) ≤ 64) × (longestLine ≤ length (now out))) ⌝ }
-    ensures { λ r. ⌜ BothAnswered (walkedBy (now (f .entry)) (now (image .entry)) (now (words .entry)) (now (sets .entry)) (now (phones .entry)) (now (numbers .entry))) (now (phones .exit)) (now (numbers .exit)) r (now (out .entry)) (now (out .exit)) ⌝ }
+    ensures { λ r. ⌜ BothAnswered (walkedBy (now (f .entry)) (now (image .entry)) (now (list .entry)) (now (words .entry)) (now (sets .entry)) (now (phones .entry)) (now (numbers .entry))) (now (phones .exit)) (now (numbers .exit)) r (now (out .entry)) (now (out .exit)) ⌝ }
 {
     if f.len() < 13 {
         return answers::malformed(out);
     }
-    let answer = walk_lent(f, image, words, sets, &mut *phones, &mut *numbers);
+    let answer = walk_lent(f, image, list, words, sets, &mut *phones, &mut *numbers);
     walk_line(answer, phones, numbers, out)
 }

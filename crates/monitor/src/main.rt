@@ -4,6 +4,7 @@ mod lines;
 use libc::STDOUT_FILENO;
 use lines::MAX_LINE;
 use lines::Next;
+use list_commands::Reply;
 ghost use Prim.Native.Nat.{ℕ, _≤_};
 ghost use lib.ListN.{length};
 ghost use Rattle.io.specs.Counts.{Counts};
@@ -34,13 +35,50 @@ fn command_in(text: &[u8], frame: &mut [u8], file: &mut [u8]) -> Command
     Command { len, file: size }
 }
 
-// Each line is answered in turn, until the input ends or an answer cannot be written. As in `lines::next_line`, the turns are counted down.
+// The answer to a command, and how many units of the list are lent from then on.
+fn answer(
+    command: &[u8],
+    file: &[u8],
+    image: &mut [u8],
+    list: &mut [u32],
+    lent: usize,
+    text: &mut [u8],
+    words: &mut [u16],
+    sets: &mut [u64],
+    phones: &mut [u8],
+    numbers: &mut [u16],
+    out: &mut [u8],
+) -> Reply
+    requires { ⌜ (lent ≤ length (now list)) × Held (length (now image)) (length (now phones)) (length (now numbers)) (length (now out)) ⌝ }
+    ensures { λ r. ⌜ (r .len ≤ length (now (out .exit))) × (r .lent ≤ length (now (list .exit))) ⌝ }
+{
+    if list_commands::is_list_command(command) {
+        return list_commands::answer(command, list, lent, text, out);
+    }
+    let len = commands::answer(
+        command,
+        file,
+        image,
+        &list[..lent],
+        words,
+        sets,
+        phones,
+        numbers,
+        out,
+    );
+    Reply { len, lent }
+}
+
+// Each line is answered in turn, until the input ends or an answer cannot be written; all units of the list are lent at first. As in
+// `lines::next_line`, the turns are counted down.
 fn converse(
     piece: &mut [u8],
     line: &mut [u8],
     frame: &mut [u8],
     file: &mut [u8],
     image: &mut [u8],
+    list: &mut [u32],
+    text: &mut [u8],
     words: &mut [u16],
     sets: &mut [u64],
     phones: &mut [u8],
@@ -50,6 +88,7 @@ fn converse(
     requires { ⌜ Held (length (now image)) (length (now phones)) (length (now numbers)) (length (now out)) ⌝ }
 {
     let mut input = lines::empty(false);
+    let mut lent = list.len();
     let mut turns = u64::MAX;
     while turns > 0 {
         let read = lines::next_line(input, piece, line);
@@ -61,20 +100,25 @@ fn converse(
         let command = command_in(&line[..end], frame, file);
         let len = command.len;
         let size = command.file;
-        let n = commands::answer(
+        let reply = answer(
             &frame[..len],
             &file[..size],
             image,
+            list,
+            lent,
+            text,
             words,
             sets,
             phones,
             numbers,
             out,
         );
+        let n = reply.len;
         if !io::write_all(STDOUT_FILENO, &out[..n]) {
             return;
         }
         input = read.input;
+        lent = reply.lent;
         turns -= 1;
     }
 }
@@ -85,6 +129,9 @@ fn main() {
     let mut frame = [0u8; MAX_LINE / 2];
     let mut file = [0u8; loader::MAX_INPUT + 1];
     let mut image = [0u8; image::SIZE];
+    let mut list = [0u32; exceptions::SIZE];
+    exceptions::clear(&mut list);
+    let mut text = [238u8; 130000];
     let mut words = [65535u16; 524418];
     let mut sets = [18446744073709551615u64; 65552];
     let mut phones = [238u8; 256];
@@ -96,6 +143,8 @@ fn main() {
         &mut frame,
         &mut file,
         &mut image,
+        &mut list,
+        &mut text,
         &mut words,
         &mut sets,
         &mut phones,

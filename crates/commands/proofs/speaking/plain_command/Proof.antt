@@ -22,15 +22,15 @@ same-length c = search needs
 returns : tie.Need-returns
 unfolding plainBy
 returns c =
-    let a = c .before .before .before .before .before .before .before .before .before .before .args in
-    both-not (leb 5 (length (a .f .now))) (plainEffects (plainIn (lentOf (two 1 (a .f .now)) (length (a .phones .now))) (lentOf (two 3 (a .f .now)) (length (a .numbers .now))) (a .image .now) (drop 5 (a .f .now)) (a .phones .now) (a .numbers .now))) (a .phones .now) (a .numbers .now) (a .out .now) _ _
+    let a = c .before .before .before .before .before .before .before .before .before .before .before .args in
+    both-not (leb 5 (length (a .f .now))) (plainEffects (plainIn (lentOf (two 1 (a .f .now)) (length (a .phones .now))) (lentOf (two 3 (a .f .now)) (length (a .numbers .now))) (a .image .now) (a .list .now) (drop 5 (a .f .now)) (a .phones .now) (a .numbers .now))) (a .phones .now) (a .numbers .now) (a .out .now) _ _
     (lt-leb 5 (length (a .f .now)) (c .before .before .before .before .if1 .taken)) (c .before .before .malformed .ensures .0) (c .before .before .malformed .ensures .1)
 
 plain-lent-requires : tie.Need-plain-lent-requires
 plain-lent-requires c κs = search needs
 
 plain-line-requires : tie.Need-plain-line-requires
-plain-line-requires c κs = let p = c .before .before .before .before .before .before .before .plain-lent in (omega arith, (omega arith, (omega arith, same-room (toldOf (p .result)) _ _ _ _ (p .kept .1 .1 .0) (p .kept .1 .1 .1 .0) (p .ensures .1))))
+plain-line-requires c κs = let p = c .before .before .before .before .before .before .before .plain-lent in (omega arith, (omega arith, (omega arith, same-room (toldOf (p .result)) _ _ _ _ (p .kept .1 .1 .1 .0) (p .kept .1 .1 .1 .1 .0) (p .ensures .1))))
 
 same-length-2 : tie.Need-same-length-2
 same-length-2 c = search needs
@@ -44,9 +44,9 @@ same-length-4 c = search needs
 returns-2 : tie.Need-returns-2
 unfolding plainBy
 returns-2 c =
-    let a = c .before .before .before .before .before .before .before .before .before .before .before .before .before .before .before .before .before .before .before .args in
+    let a = c .before .before .before .before .before .before .before .before .before .before .before .before .before .before .before .before .before .before .before .before .args in
     both-read (leb 5 (length (a .f .now))) (a .phones .now) (a .numbers .now) (a .out .now) _ _ (le-leb 5 (length (a .f .now)) (c .before .before .before .before .before .before .before .before .before .before .before .before .before .if1 .left)) _ _
-    (plainIn (lentOf (two 1 (a .f .now)) (length (a .phones .now))) (lentOf (two 3 (a .f .now)) (length (a .numbers .now))) (a .image .now) (drop 5 (a .f .now)) (a .phones .now) (a .numbers .now)) (toldOf (c .before .before .before .before .before .before .before .before .before .before .plain-lent .result))
+    (plainIn (lentOf (two 1 (a .f .now)) (length (a .phones .now))) (lentOf (two 3 (a .f .now)) (length (a .numbers .now))) (a .image .now) (a .list .now) (drop 5 (a .f .now)) (a .phones .now) (a .numbers .now)) (toldOf (c .before .before .before .before .before .before .before .before .before .before .plain-lent .result))
     (c .before .before .before .before .before .before .before .before .before .before .plain-lent .ensures .0) (c .before .before .plain-line .ensures)
 
 pub plain-command-spec : {M : Type 1} → statement M

@@ -38,7 +38,7 @@ same-length-2 : tie.Need-same-length-2
 same-length-2 c = search needs
 
 returns : tie.Need-returns
-returns c = let a = c .before .before .before .before .before .before .before .before .before .before .before .before .before .before .before .before .args in (cc (c .before .before .before .before .plain-in .ensures, c .before .before .before .before .before .before .before .before .before .before .lent .ensures .0, c .before .before .before .before .before .before .before .before .before .before .before .two-at .ensures .0, c .before .before .before .before .before .before .before .before .lent2 .ensures .0, c .before .before .before .before .before .before .before .before .before .two-at2 .ensures .0, tail-is 5 (a .f .now)), plain-told (toldOf (c .before .before .before .before .plain-in .result)) _ _ _ _ (a .phones .now) (a .numbers .now) _ _ (c .before .before .before .before .plain-in .ensures))
+returns c = let a = c .before .before .before .before .before .before .before .before .before .before .before .before .before .before .before .before .before .args in (cc (c .before .before .before .before .plain-in .ensures, c .before .before .before .before .before .before .before .before .before .before .lent .ensures .0, c .before .before .before .before .before .before .before .before .before .before .before .two-at .ensures .0, c .before .before .before .before .before .before .before .before .lent2 .ensures .0, c .before .before .before .before .before .before .before .before .before .two-at2 .ensures .0, tail-is 5 (a .f .now)), plain-told (toldOf (c .before .before .before .before .plain-in .result)) _ _ _ _ _ (a .phones .now) (a .numbers .now) _ _ (c .before .before .before .before .plain-in .ensures))
 
 pub plain-lent-spec : {M : Type 1} → statement M
 plain-lent-spec =

@@ -23,15 +23,15 @@ same-length c = search needs
 returns : tie.Need-returns
 unfolding walkedBy
 returns c =
-    let a = c .before .before .before .before .before .before .before .before .before .before .before .before .args in
-    both-not (leb 13 (length (a .f .now))) (walkEffects (walkIn (lentOf (two 9 (a .f .now)) (length (a .phones .now))) (lentOf (two 11 (a .f .now)) (length (a .numbers .now))) (a .image .now) (take (lentOf (four 1 (a .f .now)) (length (a .words .now))) (a .words .now)) (take (lentOf (four 5 (a .f .now)) (length (a .sets .now))) (a .sets .now)) (drop 13 (a .f .now)) (a .phones .now) (a .numbers .now))) (a .phones .now) (a .numbers .now) (a .out .now) _ _
+    let a = c .before .before .before .before .before .before .before .before .before .before .before .before .before .args in
+    both-not (leb 13 (length (a .f .now))) (walkEffects (walkIn (lentOf (two 9 (a .f .now)) (length (a .phones .now))) (lentOf (two 11 (a .f .now)) (length (a .numbers .now))) (a .image .now) (a .list .now) (take (lentOf (four 1 (a .f .now)) (length (a .words .now))) (a .words .now)) (take (lentOf (four 5 (a .f .now)) (length (a .sets .now))) (a .sets .now)) (drop 13 (a .f .now)) (a .phones .now) (a .numbers .now))) (a .phones .now) (a .numbers .now) (a .out .now) _ _
     (lt-leb 13 (length (a .f .now)) (c .before .before .before .before .if1 .taken)) (c .before .before .malformed .ensures .0) (c .before .before .malformed .ensures .1)
 
 walk-lent-requires : tie.Need-walk-lent-requires
 walk-lent-requires c κs = search needs
 
 walk-line-requires : tie.Need-walk-line-requires
-walk-line-requires c κs = let p = c .before .before .before .before .before .before .before .walk-lent in (omega arith, (omega arith, (omega arith, same-room (toldOf (p .result .speech)) _ _ _ _ (p .kept .1 .1 .1 .1 .0) (p .kept .1 .1 .1 .1 .1 .0) (p .ensures .1))))
+walk-line-requires c κs = let p = c .before .before .before .before .before .before .before .walk-lent in (omega arith, (omega arith, (omega arith, same-room (toldOf (p .result .speech)) _ _ _ _ (p .kept .1 .1 .1 .1 .1 .0) (p .kept .1 .1 .1 .1 .1 .1 .0) (p .ensures .1))))
 
 same-length-2 : tie.Need-same-length-2
 same-length-2 c = search needs
@@ -45,9 +45,9 @@ same-length-4 c = search needs
 returns-2 : tie.Need-returns-2
 unfolding walkedBy
 returns-2 c =
-    let a = c .before .before .before .before .before .before .before .before .before .before .before .before .before .before .before .before .before .before .before .before .before .args in
+    let a = c .before .before .before .before .before .before .before .before .before .before .before .before .before .before .before .before .before .before .before .before .before .before .args in
     both-walked (leb 13 (length (a .f .now))) (a .phones .now) (a .numbers .now) (a .out .now) _ _ (le-leb 13 (length (a .f .now)) (c .before .before .before .before .before .before .before .before .before .before .before .before .before .if1 .left)) _ _
-    (walkIn (lentOf (two 9 (a .f .now)) (length (a .phones .now))) (lentOf (two 11 (a .f .now)) (length (a .numbers .now))) (a .image .now) (take (lentOf (four 1 (a .f .now)) (length (a .words .now))) (a .words .now)) (take (lentOf (four 5 (a .f .now)) (length (a .sets .now))) (a .sets .now)) (drop 13 (a .f .now)) (a .phones .now) (a .numbers .now)) (toldOf (c .before .before .before .before .before .before .before .before .before .before .walk-lent .result .speech)) (c .before .before .before .before .before .before .before .before .before .before .walk-lent .result .steps)
+    (walkIn (lentOf (two 9 (a .f .now)) (length (a .phones .now))) (lentOf (two 11 (a .f .now)) (length (a .numbers .now))) (a .image .now) (a .list .now) (take (lentOf (four 1 (a .f .now)) (length (a .words .now))) (a .words .now)) (take (lentOf (four 5 (a .f .now)) (length (a .sets .now))) (a .sets .now)) (drop 13 (a .f .now)) (a .phones .now) (a .numbers .now)) (toldOf (c .before .before .before .before .before .before .before .before .before .before .walk-lent .result .speech)) (c .before .before .before .before .before .before .before .before .before .before .walk-lent .result .steps)
     (c .before .before .before .before .before .before .before .before .before .before .walk-lent .ensures .0) (c .before .before .walk-line .ensures)
 
 pub walk-command-spec : {M : Type 1} → statement M

@@ -34,10 +34,10 @@ lent-requires-4 : tie.Need-lent-requires-4
 lent-requires-4 c κs = search needs
 
 slice-aggregate-walk-in : tie.Need-slice-aggregate-walk-in
-slice-aggregate-walk-in c = sym (length-take-le (c .before .before .before .before .before .before .before .lent .result) (c .before .before .before .before .before .before .before .before .before .before .before .before .before .before .before .args .words .now) (c .before .before .before .before .before .before .before .lent .ensures .1 .1))
+slice-aggregate-walk-in c = sym (length-take-le (c .before .before .before .before .before .before .before .lent .result) (c .before .before .before .before .before .before .before .before .before .before .before .before .before .before .before .before .args .words .now) (c .before .before .before .before .before .before .before .lent .ensures .1 .1))
 
 slice-aggregate-walk-in-2 : tie.Need-slice-aggregate-walk-in-2
-slice-aggregate-walk-in-2 c = sym (length-take-le (c .before .before .before .before .before .before .lent2 .result) (c .before .before .before .before .before .before .before .before .before .before .before .before .before .before .before .before .args .sets .now) (c .before .before .before .before .before .before .lent2 .ensures .1 .1))
+slice-aggregate-walk-in-2 c = sym (length-take-le (c .before .before .before .before .before .before .lent2 .result) (c .before .before .before .before .before .before .before .before .before .before .before .before .before .before .before .before .before .args .sets .now) (c .before .before .before .before .before .before .lent2 .ensures .1 .1))
 
 sub-walk-in : tie.Need-sub-walk-in
 sub-walk-in c = search needs
@@ -58,7 +58,7 @@ same-length-2 : tie.Need-same-length-2
 same-length-2 c = search needs
 
 returns : tie.Need-returns
-returns c = let a = c .before .before .before .before .before .before .before .before .before .before .before .before .before .before .before .before .before .before .before .before .before .before .before .before .args in (walk-by _ (a .f .now) (a .image .now) (a .words .now) (a .sets .now) (a .phones .now) (a .numbers .now) _ _ _ _ _ _ _ _ _ (c .before .before .before .before .before .before .before .before .before .before .before .before .before .before .before .before .lent .ensures .0) (c .before .before .before .before .before .before .before .before .before .before .before .before .before .before .before .before .before .four-at .ensures .0) (c .before .before .before .before .before .before .before .before .before .before .before .before .before .before .lent2 .ensures .0) (c .before .before .before .before .before .before .before .before .before .before .before .before .before .before .before .four-at2 .ensures .0) (c .before .before .before .before .before .before .before .before .before .before .before .before .lent3 .ensures .0) (c .before .before .before .before .before .before .before .before .before .before .before .before .before .two-at .ensures .0) (c .before .before .before .before .before .before .before .before .before .before .lent4 .ensures .0) (c .before .before .before .before .before .before .before .before .before .before .before .two-at2 .ensures .0) (tail-is 13 (a .f .now)) (c .before .before .before .before .walk-in .ensures), walk-told (toldOf (c .before .before .before .before .walk-in .result .speech)) _ _ _ _ _ _ _ (a .phones .now) (a .numbers .now) _ _ (c .before .before .before .before .walk-in .ensures))
+returns c = let a = c .before .before .before .before .before .before .before .before .before .before .before .before .before .before .before .before .before .before .before .before .before .before .before .before .before .args in (walk-by _ (a .f .now) (a .image .now) (a .list .now) (a .words .now) (a .sets .now) (a .phones .now) (a .numbers .now) _ _ _ _ _ _ _ _ _ (c .before .before .before .before .before .before .before .before .before .before .before .before .before .before .before .before .lent .ensures .0) (c .before .before .before .before .before .before .before .before .before .before .before .before .before .before .before .before .before .four-at .ensures .0) (c .before .before .before .before .before .before .before .before .before .before .before .before .before .before .lent2 .ensures .0) (c .before .before .before .before .before .before .before .before .before .before .before .before .before .before .before .four-at2 .ensures .0) (c .before .before .before .before .before .before .before .before .before .before .before .before .lent3 .ensures .0) (c .before .before .before .before .before .before .before .before .before .before .before .before .before .two-at .ensures .0) (c .before .before .before .before .before .before .before .before .before .before .lent4 .ensures .0) (c .before .before .before .before .before .before .before .before .before .before .before .two-at2 .ensures .0) (tail-is 13 (a .f .now)) (c .before .before .before .before .walk-in .ensures), walk-told (toldOf (c .before .before .before .before .walk-in .result .speech)) _ _ _ _ _ _ _ _ (a .phones .now) (a .numbers .now) _ _ (c .before .before .before .before .walk-in .ensures))
 
 pub walk-lent-spec : {M : Type 1} → statement M
 walk-lent-spec =
