@@ -15,9 +15,10 @@ enum { NAMES = 2000, ROUNDS = 40 };
 static uint8_t image[PIRROZKETA_IMAGE], back[PIRROZKETA_IMAGE], file[PIRROZKETA_FILE], other[PIRROZKETA_FILE];
 static uint16_t words[PIRROZKETA_WORDS], base_words[BASE_WORDS];
 static uint64_t sets[PIRROZKETA_SETS], base_sets[BASE_SETS];
+static uint32_t list[PIRROZKETA_LIST];
 static struct base_ruleset rs, again;
 static struct base_spoken spoken[NAMES];
-static uint8_t names[NAMES * 13], phones[NAMES * 48];
+static uint8_t names[NAMES * 13], phones[NAMES * 64];
 static uint16_t numbers[NAMES * 12];
 static size_t replies[NAMES * PIRROZKETA_REPLY], starts[NAMES], bytes, place, count;
 
@@ -103,8 +104,8 @@ static void check_ruleset(void) { accept(pirrozketa_check(image, sizeof image), 
 
 static void many(size_t length)
 {
-    accept(pirrozketa_speak_many(image, sizeof image, words, PIRROZKETA_WORDS, sets, PIRROZKETA_SETS, names, length,
-           phones, sizeof phones, numbers, sizeof numbers / 2, replies, sizeof replies / sizeof *replies, &count),
+    accept(pirrozketa_speak_many(image, sizeof image, list, PIRROZKETA_LIST, words, PIRROZKETA_WORDS, sets, PIRROZKETA_SETS,
+           names, length, phones, sizeof phones, numbers, sizeof numbers / 2, replies, sizeof replies / sizeof *replies, &count),
            "no ruleset");
     must(count == NAMES, "names are not all answered");
 }
@@ -129,6 +130,66 @@ static void compare(void)
     }
 }
 
+/* ---- the exceptions list */
+
+static uint8_t listed[1000][9], listed_length[1000], read_out[PIRROZKETA_READ_OUT];
+static uint8_t said_so[PIRROZKETA_LISTED_PHONES + 9];
+
+static void add(const uint8_t *name, size_t length, size_t from, size_t phone_count)
+{
+    accept(pirrozketa_list_add(list, PIRROZKETA_LIST, name, length, said_so + from, phone_count, &place), "a name is not listed");
+}
+
+static void remove_name(const uint8_t *name, size_t length)
+{
+    accept(pirrozketa_list_remove(list, PIRROZKETA_LIST, name, length, &place), "a name is not removed");
+}
+
+static void check_list(void) { accept(pirrozketa_list_check(list, PIRROZKETA_LIST), "no list"); }
+
+/* n names of 5 to 9 letters out of 26, each with so many phones; `names` then has NAMES of them, drawn anew. */
+static size_t fill_list(int n, size_t phone_count)
+{
+    size_t at = 0;
+    accept(pirrozketa_list_clear(list, PIRROZKETA_LIST), "no empty list");
+    for (size_t k = 0; k < sizeof said_so; k++)
+        said_so[k] = (uint8_t)(65 + k % 16);
+    for (int k = 0; k < n; k++) {
+        listed_length[k] = 5 + draw(5);
+        for (int i = 0; i < listed_length[k]; i++)
+            listed[k][i] = 1 + draw(26);
+        add(listed[k], listed_length[k], k % 9, phone_count);
+    }
+    for (int k = 0; k < NAMES; k++) {
+        int of = draw(n);
+        starts[k] = at;
+        names[at] = listed_length[of];
+        memcpy(names + at + 1, listed[of], listed_length[of]);
+        at += 1 + names[at];
+    }
+    return at;
+}
+
+/* The best time of a statement in microseconds, over `per` pieces of work. */
+#define BEST(per, work) ({ double best_ = 1e18; for (int round = 0; round < 12; round++) TIME(best_, per, work) best_ / 1e3; })
+
+static void list_rows(int n, size_t phone_count)
+{
+    static uint8_t longest[PIRROZKETA_NAME];
+    size_t length = fill_list(n, phone_count);
+    double checks = BEST(1, check_list(); check_ruleset());
+    double judged = BEST(1, check_list());
+    double looked = (BEST(1, many(length)) - checks) * 1e3;
+    double changed = BEST(n, for (int k = 0; k < n; k++) add(listed[k], listed_length[k], (k + 1) % 9, phone_count));
+    for (int i = 0; i < PIRROZKETA_NAME; i++)
+        longest[i] = 1 + draw(62);
+    double added = BEST(2, add(longest, PIRROZKETA_NAME, 0, phone_count); remove_name(longest, PIRROZKETA_NAME));
+    double text = BEST(1, accept(pirrozketa_list_read_out(list, PIRROZKETA_LIST, read_out, sizeof read_out, &bytes), "no read-out"));
+    printf("| %u names of 5 to 9 letters, %zu phones each: %u states | %.0f ns, %.1f a letter | %.0f µs | %.0f µs | %.0f µs | %.0f µs |\n",
+           (unsigned)pirrozketa_list_names(list, PIRROZKETA_LIST), phone_count, (unsigned)pirrozketa_list_states(list, PIRROZKETA_LIST),
+           looked / NAMES, looked / (double)(length - NAMES), judged, changed - judged, added - judged, text - judged);
+}
+
 static void row(const char *what, double mine, double base)
 {
     printf("| %s | %.0f ns | %.0f ns | %.2f |\n", what, mine, base, mine / base);
@@ -141,6 +202,7 @@ int main(void)
     size_t given, applied, steps;
     double mine, base, check, none;
 
+    accept(pirrozketa_list_clear(list, PIRROZKETA_LIST), "no empty list");
     printf("| work | library | baseline | ratio |\n|---|---|---|---|\n");
     srand(7);
     rules(320, 0);
@@ -165,8 +227,8 @@ int main(void)
 
     PAIR(mine, base, NAMES,
          for (int k = 0; k < NAMES; k++)
-             accept(pirrozketa_read_name(image, sizeof image, names + starts[k] + 1, names[starts[k]], said,
-                    sizeof said, by, PIRROZKETA_NUMBERS, &given, &applied), "a name is refused"),
+             accept(pirrozketa_read_name(image, sizeof image, list, PIRROZKETA_LIST, names + starts[k] + 1, names[starts[k]],
+                    said, sizeof said, by, PIRROZKETA_NUMBERS, &given, &applied), "a name is refused"),
          for (int k = 0; k < NAMES; k++) base_plain(&rs, names + starts[k] + 1, names[starts[k]], &spoken[k]));
     PAIR(check, none, NAMES, for (int k = 0; k < NAMES; k++) check_ruleset(), (void)0);
     row("(d) plain reading, 320 rules, the check of the ruleset taken off", mine - check, base);
@@ -178,7 +240,7 @@ int main(void)
     base_build(&rs, base_words, base_sets);
     PAIR(mine, base, NAMES,
          for (int k = 0; k < NAMES; k++)
-             accept(pirrozketa_speak(image, sizeof image, words, PIRROZKETA_WORDS, sets, PIRROZKETA_SETS,
+             accept(pirrozketa_speak(image, sizeof image, list, PIRROZKETA_LIST, words, PIRROZKETA_WORDS, sets, PIRROZKETA_SETS,
                     names + starts[k] + 1, names[starts[k]], said, sizeof said, by, PIRROZKETA_NUMBERS, &given,
                     &applied, &steps), "a name is refused"),
          base_many());
@@ -210,5 +272,12 @@ int main(void)
         PAIR(mine, base, NAMES, many(length), base_many());
         row(what, mine, base);
     }
+
+    printf("\n| the exceptions list | a listed name, many at once | judged (17) | a name replaced | a name of 64 letters added or removed | read out |\n");
+    printf("|---|---|---|---|---|---|\n");
+    list_rows(10, 8);
+    list_rows(100, 8);
+    list_rows(950, 8);
+    list_rows(950, PIRROZKETA_LISTED_PHONES);
     return 0;
 }

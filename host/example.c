@@ -1,6 +1,6 @@
 /*
- * A small host: it reads a rule file, adds a rule, writes the file back, builds the tables and speaks
- * names, one at a time and many at once. Built and run by host/build, or by hand:
+ * A small host: it reads a rule file, adds a rule, writes the file back, builds the tables, lists exceptions and
+ * speaks names, one at a time and many at once. Built and run by host/build, or by hand:
  *
  *     rt staticlib host
  *     gcc -O2 -Wall -Ihost host/example.c target/staticlib/libhost.a -o target/example
@@ -19,6 +19,7 @@ enum {
 
 /* All that is lent for long. A firmware would place it where it likes; the tables may be smaller. */
 static uint8_t image[PIRROZKETA_IMAGE];
+static uint32_t list[PIRROZKETA_LIST];
 static uint16_t words[PIRROZKETA_WORDS];
 static uint64_t sets[PIRROZKETA_SETS];
 
@@ -130,6 +131,36 @@ static void build_tables(void)
     judge("build", code, place);
 }
 
+/* Two names that follow no rule, one of them the beginning of the other; a third is listed and removed again. */
+static void list_exceptions(void)
+{
+    static const struct { const char *typed; uint8_t phones[3]; size_t count; } exceptions[] = {
+        { "queen", { 0x6B, 0x77, 0x69 }, 3 }, { "que", { 0x6B }, 1 }, { "keen", { 0x71 }, 1 }
+    };
+    static uint8_t out[PIRROZKETA_READ_OUT];
+    uint8_t name[LONGEST];
+    size_t length, place, bytes;
+    uint8_t code = pirrozketa_list_clear(list, PIRROZKETA_LIST);
+    judge("the empty list", code, 0);
+    for (size_t k = 0; k < sizeof exceptions / sizeof *exceptions; k++) {
+        if (!letters(exceptions[k].typed, name, &length))
+            continue;
+        code = pirrozketa_list_add(list, PIRROZKETA_LIST, name, length, exceptions[k].phones, exceptions[k].count, &place);
+        judge("list", code, place);
+    }
+    /* the last is removed: "keen" goes by the rules */
+    code = pirrozketa_list_remove(list, PIRROZKETA_LIST, name, length, &place);
+    judge("remove", code, place);
+    printf("%u names are listed, in %u states\n", (unsigned)pirrozketa_list_names(list, PIRROZKETA_LIST),
+           (unsigned)pirrozketa_list_states(list, PIRROZKETA_LIST));
+    code = pirrozketa_list_read_out(list, PIRROZKETA_LIST, out, sizeof out, &bytes);
+    judge("read out", code, bytes);
+    printf("read out:");
+    for (size_t i = 0; i < bytes; i++)
+        printf(" %02X", (unsigned)out[i]);
+    printf("\n");
+}
+
 /* One name by the tables and by the rules, which agree where the tables were built. */
 static void speak_one(const char *typed)
 {
@@ -139,10 +170,10 @@ static void speak_one(const char *typed)
     uint8_t code, read_code;
     if (!letters(typed, name, &length))
         return;
-    code = pirrozketa_speak(image, sizeof image, words, PIRROZKETA_WORDS, sets, PIRROZKETA_SETS, name, length, phones,
-                            PIRROZKETA_PHONES, numbers, PIRROZKETA_NUMBERS, &given, &applied, &steps);
-    read_code = pirrozketa_read_name(image, sizeof image, name, length, read_phones, PIRROZKETA_PHONES, read_numbers,
-                                     PIRROZKETA_NUMBERS, &read_given, &read_applied);
+    code = pirrozketa_speak(image, sizeof image, list, PIRROZKETA_LIST, words, PIRROZKETA_WORDS, sets, PIRROZKETA_SETS, name,
+                            length, phones, PIRROZKETA_PHONES, numbers, PIRROZKETA_NUMBERS, &given, &applied, &steps);
+    read_code = pirrozketa_read_name(image, sizeof image, list, PIRROZKETA_LIST, name, length, read_phones,
+                                     PIRROZKETA_PHONES, read_numbers, PIRROZKETA_NUMBERS, &read_given, &read_applied);
     if (read_code != code || read_given != given || read_applied != applied
         || (PIRROZKETA_OK(code) && (memcmp(phones, read_phones, given)
                                     || memcmp(numbers, read_numbers, applied * sizeof *numbers))))
@@ -157,8 +188,8 @@ static void speak_lot(struct lot *lot)
     static uint16_t numbers[LOT * PIRROZKETA_NUMBERS];
     static size_t replies[LOT * PIRROZKETA_REPLY];
     size_t count, phone = 0, number = 0;
-    uint8_t code = pirrozketa_speak_many(image, sizeof image, words, PIRROZKETA_WORDS, sets, PIRROZKETA_SETS,
-                                         lot->names, lot->used, phones, LOT * PIRROZKETA_PHONES, numbers,
+    uint8_t code = pirrozketa_speak_many(image, sizeof image, list, PIRROZKETA_LIST, words, PIRROZKETA_WORDS, sets,
+                                         PIRROZKETA_SETS, lot->names, lot->used, phones, LOT * PIRROZKETA_PHONES, numbers,
                                          LOT * PIRROZKETA_NUMBERS, replies, LOT * PIRROZKETA_REPLY, &count);
     judge("speak many", code, 0);
     if (count != lot->count)
@@ -196,6 +227,7 @@ int main(int argc, char **argv)
     add_rule();
     write_rules();
     build_tables();
+    list_exceptions();
     printf("one at a time:\n");
     for (int i = 2; i < argc; i++)
         speak_one(argv[i]);

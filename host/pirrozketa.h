@@ -1,7 +1,9 @@
 /*
- * Pirrozketa: a ruleset that turns typed names into phones, in memory that the host lends.
+ * Pirrozketa: a ruleset that turns typed names into phones, and a list of names that follow no rule, in
+ * memory that the host lends.
  *
- * ANSWERS. Every call but pirrozketa_count and pirrozketa_last answers with a code: PIRROZKETA_ACCEPTED,
+ * ANSWERS. Every call but those that count (pirrozketa_count, pirrozketa_last, pirrozketa_list_names,
+ * pirrozketa_list_states) answers with a code: PIRROZKETA_ACCEPTED,
  * which is 255, or the number of the refusal, which may be 0. So test it by PIRROZKETA_OK(code), never as a
  * truth value; compilers warn where it is not looked at. A refusal has a place, and leaves all lent memory
  * as it was (pirrozketa_speak_many writes its replies all the same). The numbers that a call gives through
@@ -14,8 +16,12 @@
  * [a] 61 and [x] 58 are built, rule 1 is dropped and [a]x 62 added at place 0. Not built again, "ax" is
  * spoken 61 58; by the rules it is 62 58. pirrozketa_read_name uses no tables, so it is right at once.
  *
+ * LIST. A name on the exceptions list is said from it, by pirrozketa_speak, pirrozketa_speak_many and
+ * pirrozketa_read_name alike, with no rule numbers and 0 steps, whatever the rules and tables; any other name
+ * goes by the rules. A host without exceptions lends an empty list. A change of the list needs no build.
+ *
  * MEMORY. Whatever the lent memory holds, every call ends and stays inside it: memory that is no ruleset is
- * refusal 0; tables that lead to a state or rule that is none, or to a rule that does not fit, are refusal
+ * refusal 0, and memory that is no list is 17; tables that lead to a state or rule that is none, or to a rule that does not fit, are refusal
  * 16. The host sees to this:
  *   - A slice is a pointer and its length in items. The pointer is aligned for its items and NOT NULL, also
  *     where the length is 0: to lend nothing, lend any array of the type with length 0.
@@ -36,10 +42,11 @@
 
 /*
  * The version of this interface. MAJOR rises where a host has to change: a call is withdrawn or means
- * something else. MINOR rises where something is added. 2.0 withdrew pirrozketa_load of 1.0, which could
+ * something else. MINOR rises where something is added. 3.0 lends the exceptions list to pirrozketa_read_name,
+ * pirrozketa_speak and pirrozketa_speak_many, after the ruleset. 2.0 withdrew pirrozketa_load of 1.0, which could
  * refuse after it had replaced the ruleset: call pirrozketa_read_file, look at its code, then pirrozketa_build.
  */
-#define PIRROZKETA_VERSION_MAJOR 2
+#define PIRROZKETA_VERSION_MAJOR 3
 #define PIRROZKETA_VERSION_MINOR 0
 
 /* The library is compiled for x86-64, and its lengths are numbers of 8 bytes. */
@@ -66,7 +73,7 @@ _Static_assert(sizeof(size_t) == 8, "the Pirrozketa library has lengths of 8 byt
 extern "C" {
 #endif
 
-/* The refusals, in the order of document 01. A call gives only those named with it. */
+/* The refusals, in the order of documents 01 and 02. A call gives only those named with it. */
 enum {
     PIRROZKETA_NOT_RULESET = 0,   /* the memory is none: under 13,316 bytes, over 512 rules, a broken rule, numbers
                                      that are equal or not from 1 to `last`; place 0 */
@@ -84,13 +91,20 @@ enum {
     PIRROZKETA_SETS_ROOM = 12,    /* too few set words lent; place: set words needed */
     PIRROZKETA_BAD_LINE = 13,     /* a line of the file is missing, not ended, no sound frame; place: its start */
     PIRROZKETA_BAD_TEXT = 14,     /* a sound line that breaks the file's rules, or bytes after the last; place: its start */
-    PIRROZKETA_FILE_ROOM = 15,    /* too few bytes lent for the file; place: bytes needed */
+    PIRROZKETA_FILE_ROOM = 15,    /* too few bytes lent for the file or the read-out; place: bytes needed */
     PIRROZKETA_BAD_TABLES = 16,   /* words and set words are no usable tables; place 0 */
+    PIRROZKETA_BAD_LIST = 17,     /* the memory is no list; or the added name has no letters, or its phones are none,
+                                     over 64, or one of them 00; place 0 */
+    PIRROZKETA_NOT_LISTED = 18,   /* the name to remove is not listed; place 0 */
+    PIRROZKETA_LIST_FULL = 19,    /* over 1,000 names or 4,096 states after the change; place 0 */
     PIRROZKETA_ACCEPTED = 255
 };
 
-/* The least to lend: bytes of a ruleset. More may be lent, and is not looked at. */
-enum { PIRROZKETA_IMAGE = 13316 };
+/* The least to lend. More may be lent, and is not looked at. */
+enum {
+    PIRROZKETA_IMAGE = 13316,       /* bytes of a ruleset */
+    PIRROZKETA_LIST = 35886         /* words of 32 bits of a list: 143,544 bytes, for the largest */
+};
 
 /* Exact sizes. */
 enum {
@@ -105,14 +119,17 @@ enum {
     PIRROZKETA_NAME = 64,           /* letters of a name; a longer one is refusal 2 */
     PIRROZKETA_PHONES = 256,        /* phones that one name can give */
     PIRROZKETA_NUMBERS = 64,        /* rules that one name can apply */
-    PIRROZKETA_FILE = 29199         /* bytes of the longest rule file */
+    PIRROZKETA_FILE = 29199,        /* bytes of the longest rule file */
+    PIRROZKETA_LISTED_PHONES = 64,  /* phones of a listed name */
+    PIRROZKETA_READ_OUT = 130000    /* bytes of the longest read-out */
 };
 
 /*
  * Stack: no call uses more than 32,768 bytes, to which host/build holds what host/stack.c measures with 512
- * rules and a name of 64 letters. In bytes: clear, count, last none to speak of; check 8,216; drop 8,248;
- * move 8,312; write_file 8,344; add 8,376; speak 8,408; speak_many 8,456; read_name 8,552; read_file 8,588;
- * build 13,976.
+ * rules, a name of 64 letters and lists of long names. In bytes: clear, count, last, list_clear none to speak of;
+ * check 8,216; drop 8,248; move 8,312; write_file 8,344; add 8,376; read_file 8,588; build 13,976; list_check
+ * 16,464; list_states 16,480; list_read_out 16,624; speak 16,720; speak_many 16,752; read_name 16,864; list_names
+ * 24,688; list_remove 31,192; list_add 31,248.
  */
 
 /* ---- the ruleset: `image` is PIRROZKETA_IMAGE bytes or more. Tables built before a change of it are old. */
@@ -163,6 +180,43 @@ uint8_t pirrozketa_read_file(const uint8_t *file, size_t file_len, uint8_t *imag
 PIRROZKETA_MUST_CHECK
 uint8_t pirrozketa_write_file(const uint8_t *image, size_t image_len, uint8_t *out, size_t out_len, size_t *bytes);
 
+/* ---- the exceptions list: `list` is PIRROZKETA_LIST words or more. Up to 1,000 whole names of 1 to 64 letters, each
+   with 1 to 64 phones, kept as the smallest automaton that says them, of at most 4,096 states. */
+
+/*
+ * Its layout is the library's own, and two lists that say the same may differ in their words: compare lists by
+ * their read-out. States share endings, so that a change may need fewer or more of them: 19 can follow any change,
+ * a removal too.
+ */
+
+/* Makes the memory, whatever it holds, the empty list. Refusal 17 where it is too short. */
+PIRROZKETA_MUST_CHECK
+uint8_t pirrozketa_list_clear(uint32_t *list, size_t list_len);
+
+/* Whether the memory is a list: accepted, or refusal 17. Up to a millisecond for the largest. */
+PIRROZKETA_MUST_CHECK
+uint8_t pirrozketa_list_check(const uint32_t *list, size_t list_len);
+
+/* How many names are listed, and how many states they take, the start counted: 1 for the empty list. Both 0
+   where the memory is no list. */
+uint16_t pirrozketa_list_names(const uint32_t *list, size_t list_len);
+uint16_t pirrozketa_list_states(const uint32_t *list, size_t list_len);
+
+/* Adds a name with its phones; a listed name gets these instead of its own. *place: the refusal's place, or 0.
+   Refusals 17 (the list), 2, 1, 17 (the entry), 19. */
+PIRROZKETA_MUST_CHECK
+uint8_t pirrozketa_list_add(uint32_t *list, size_t list_len, const uint8_t *name, size_t name_len,
+                            const uint8_t *phones, size_t phones_len, size_t *place);
+
+/* Removes a listed name. *place as above. Refusals 17, 2, 1, 18, 19. */
+PIRROZKETA_MUST_CHECK
+uint8_t pirrozketa_list_remove(uint32_t *list, size_t list_len, const uint8_t *name, size_t name_len, size_t *place);
+
+/* Writes every listed name once, in letter order, a name before its continuations: its length (1 byte), its
+   letters, its phone count (1 byte), its phones. *bytes: the bytes written, or the refusal's place. Refusals 17, 15. */
+PIRROZKETA_MUST_CHECK
+uint8_t pirrozketa_list_read_out(const uint32_t *list, size_t list_len, uint8_t *out, size_t out_len, size_t *bytes);
+
 /* ---- the tables */
 
 /* Builds the tables of the ruleset as it is now: build again after every edit and every read of a file
@@ -174,33 +228,35 @@ uint8_t pirrozketa_build(const uint8_t *image, size_t image_len, uint16_t *words
 
 /* ---- names: letters from 1, a, to 63; phones from 1 to 255 */
 
-/* Reads a name by trying the rules in order, without tables. *given: the phones given, or the refusal's
-   place; *applied: the rule numbers given, 0 with a refusal. Refusals 0, 2, 1, 3, 4, 5. */
+/* Reads a name from the list, or else by trying the rules in order, without tables. *given: the phones given,
+   or the refusal's place; *applied: the rule numbers given, 0 with a refusal and for a listed name. Refusals 0, 17,
+   2, 1, 3, 4, 5. */
 PIRROZKETA_MUST_CHECK
-uint8_t pirrozketa_read_name(const uint8_t *image, size_t image_len, const uint8_t *name, size_t name_len,
-                             uint8_t *phones, size_t phones_len, uint16_t *numbers, size_t numbers_len,
-                             size_t *given, size_t *applied);
+uint8_t pirrozketa_read_name(const uint8_t *image, size_t image_len, const uint32_t *list, size_t list_len,
+                             const uint8_t *name, size_t name_len, uint8_t *phones, size_t phones_len,
+                             uint16_t *numbers, size_t numbers_len, size_t *given, size_t *applied);
 
-/* Speaks a name by the tables. *given and *applied as above; *steps: the table entries looked up, 0 with
-   the refusals 0, 1, 2 and 16. Refusals 0, 2, 1, 16, 3, 4, 5. */
+/* Speaks a name from the list, or else by the tables. *given and *applied as above; *steps: the table entries
+   looked up, 0 for a listed name and with the refusals 0, 17, 1, 2 and 16. Refusals 0, 17, 2, 1, 16, 3, 4, 5. */
 PIRROZKETA_MUST_CHECK
-uint8_t pirrozketa_speak(const uint8_t *image, size_t image_len, const uint16_t *words, size_t words_len,
-                         const uint64_t *sets, size_t sets_len, const uint8_t *name, size_t name_len, uint8_t *phones,
-                         size_t phones_len, uint16_t *numbers, size_t numbers_len, size_t *given, size_t *applied,
-                         size_t *steps);
+uint8_t pirrozketa_speak(const uint8_t *image, size_t image_len, const uint32_t *list, size_t list_len,
+                         const uint16_t *words, size_t words_len, const uint64_t *sets, size_t sets_len,
+                         const uint8_t *name, size_t name_len, uint8_t *phones, size_t phones_len, uint16_t *numbers,
+                         size_t numbers_len, size_t *given, size_t *applied, size_t *steps);
 
-/* Speaks many names, with the ruleset checked once. `names` has each name after a byte that says its
+/* Speaks many names, with the ruleset and the list checked once. `names` has each name after a byte that says its
    length, so of 255 bytes at most. The reply to the k-th name stands at replies[4 k]: its code, the phones
    given or the place, the numbers given, the steps, as pirrozketa_speak gives them with the room that the
    names before it left. Its phones and numbers follow those of the names before it; a refused name takes
    none. A reply does not say whose it is: keep the k-th name beside it. *count: how many names were
-   answered, which ends at a name that is cut off or has no room for its reply. Refusal 0 once for all, with
-   *count 0 and nothing written. */
+   answered, which ends at a name that is cut off or has no room for its reply. Refusal 0 or 17 once for all,
+   with *count 0 and nothing written. */
 PIRROZKETA_MUST_CHECK
-uint8_t pirrozketa_speak_many(const uint8_t *image, size_t image_len, const uint16_t *words, size_t words_len,
-                              const uint64_t *sets, size_t sets_len, const uint8_t *names, size_t names_len,
-                              uint8_t *phones, size_t phones_len, uint16_t *numbers, size_t numbers_len,
-                              size_t *replies, size_t replies_len, size_t *count);
+uint8_t pirrozketa_speak_many(const uint8_t *image, size_t image_len, const uint32_t *list, size_t list_len,
+                              const uint16_t *words, size_t words_len, const uint64_t *sets, size_t sets_len,
+                              const uint8_t *names, size_t names_len, uint8_t *phones, size_t phones_len,
+                              uint16_t *numbers, size_t numbers_len, size_t *replies, size_t replies_len,
+                              size_t *count);
 
 #ifdef __cplusplus
 }

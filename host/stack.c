@@ -14,6 +14,8 @@
 enum { LIMIT = 32768, STACK = 1 << 20, PAGE = 4096, PAINT = 0xA5, RULES = 512 };
 
 static uint8_t image[PIRROZKETA_IMAGE], copy[PIRROZKETA_IMAGE], file[PIRROZKETA_FILE];
+static uint32_t list[PIRROZKETA_LIST], full[PIRROZKETA_LIST];
+static uint8_t out[PIRROZKETA_READ_OUT];
 static uint16_t words[PIRROZKETA_WORDS], numbers[PIRROZKETA_NUMBERS];
 static uint64_t sets[PIRROZKETA_SETS];
 static uint8_t names[1 + PIRROZKETA_NAME], *name = names + 1, phones[PIRROZKETA_PHONES];
@@ -41,20 +43,39 @@ static uint8_t build_least(void)
     states = (size_t)words[0] + words[1];
     return pirrozketa_build(image, sizeof image, words, 2 + 64 * states, sets, 8 * states, &place);
 }
+static uint8_t list_clear(void) { return pirrozketa_list_clear(full, PIRROZKETA_LIST); }
+static uint8_t list_check(void) { return pirrozketa_list_check(list, PIRROZKETA_LIST); }
+static uint8_t list_names(void) { return pirrozketa_list_names(list, PIRROZKETA_LIST) ? PIRROZKETA_ACCEPTED : 0; }
+static uint8_t list_states(void) { return pirrozketa_list_states(list, PIRROZKETA_LIST) ? PIRROZKETA_ACCEPTED : 0; }
+static uint8_t list_add(void)
+{
+    return pirrozketa_list_add(list, PIRROZKETA_LIST, name, PIRROZKETA_NAME, phones, PIRROZKETA_LISTED_PHONES, &place);
+}
+static uint8_t list_remove(void)
+{
+    return pirrozketa_list_remove(list, PIRROZKETA_LIST, name, PIRROZKETA_NAME, &place);
+}
+/* One name more than the states have room for: what the change wrote is taken back. */
+static uint8_t list_full(void)
+{
+    uint8_t code = pirrozketa_list_add(full, PIRROZKETA_LIST, name, PIRROZKETA_NAME, phones, PIRROZKETA_LISTED_PHONES, &place);
+    return code == PIRROZKETA_LIST_FULL ? PIRROZKETA_ACCEPTED : 0;
+}
+static uint8_t list_read_out(void) { return pirrozketa_list_read_out(list, PIRROZKETA_LIST, out, sizeof out, &bytes); }
 static uint8_t read_name(void)
 {
-    return pirrozketa_read_name(image, sizeof image, name, PIRROZKETA_NAME, phones, sizeof phones, numbers,
+    return pirrozketa_read_name(image, sizeof image, list, PIRROZKETA_LIST, name, PIRROZKETA_NAME, phones, sizeof phones, numbers,
                                 PIRROZKETA_NUMBERS, &given, &applied);
 }
 static uint8_t speak(void)
 {
-    return pirrozketa_speak(image, sizeof image, words, PIRROZKETA_WORDS, sets, PIRROZKETA_SETS, name, PIRROZKETA_NAME,
-                            phones, sizeof phones, numbers, PIRROZKETA_NUMBERS, &given, &applied, &steps);
+    return pirrozketa_speak(image, sizeof image, list, PIRROZKETA_LIST, words, PIRROZKETA_WORDS, sets, PIRROZKETA_SETS, name,
+                            PIRROZKETA_NAME, phones, sizeof phones, numbers, PIRROZKETA_NUMBERS, &given, &applied, &steps);
 }
 static uint8_t speak_many(void)
 {
-    return pirrozketa_speak_many(image, sizeof image, words, PIRROZKETA_WORDS, sets, PIRROZKETA_SETS, names,
-                                 sizeof names, phones, sizeof phones, numbers, PIRROZKETA_NUMBERS, replies,
+    return pirrozketa_speak_many(image, sizeof image, list, PIRROZKETA_LIST, words, PIRROZKETA_WORDS, sets,
+                                 PIRROZKETA_SETS, names, sizeof names, phones, sizeof phones, numbers, PIRROZKETA_NUMBERS, replies,
                                  PIRROZKETA_REPLY, &count);
 }
 
@@ -62,7 +83,10 @@ static uint8_t speak_many(void)
 static const struct { const char *name; uint8_t (*call)(void); } calls[] = {
     { "clear", clear }, { "check", check }, { "count", count_rules }, { "last", last }, { "drop", drop }, { "add", add },
     { "move", move_rule }, { "write_file", write_file }, { "read_file", read_file }, { "build", build },
-    { "build, least", build_least }, { "read_name", read_name }, { "speak", speak }, { "speak_many", speak_many }
+    { "build, least", build_least }, { "list_check", list_check }, { "list_names", list_names },
+    { "list_states", list_states }, { "list_add", list_add }, { "list_read_out", list_read_out },
+    { "list_remove", list_remove }, { "list_full", list_full }, { "list_clear", list_clear }, { "read_name", read_name },
+    { "speak", speak }, { "speak_many", speak_many }
 };
 
 struct task { uint8_t (*call)(void); uint8_t code; };
@@ -99,6 +123,23 @@ static size_t used(uint8_t (*call)(void), uint8_t *stack)
     return STACK - untouched;
 }
 
+/* Long names, as many as the states have room for. */
+static void prepare_list(uint32_t *filled, size_t most)
+{
+    uint8_t letters[PIRROZKETA_NAME], said[PIRROZKETA_LISTED_PHONES];
+    must(PIRROZKETA_OK(pirrozketa_list_clear(filled, PIRROZKETA_LIST)), "no empty list");
+    memset(said, 9, sizeof said);
+    for (size_t k = 0; k < most; k++) {
+        uint8_t code;
+        for (size_t i = 0; i < sizeof letters; i++)
+            letters[i] = (uint8_t)(1 + rand() % 63);
+        code = pirrozketa_list_add(filled, PIRROZKETA_LIST, letters, sizeof letters, said, sizeof said, &place);
+        if (code == PIRROZKETA_LIST_FULL)
+            return;
+        must(PIRROZKETA_OK(code), "a name is not listed");
+    }
+}
+
 /* 512 long rules; the last fits every a, so that a name of 64 times a applies it 64 times. */
 static void prepare(void)
 {
@@ -114,6 +155,9 @@ static void prepare(void)
     names[0] = PIRROZKETA_NAME;
     memset(name, 1, PIRROZKETA_NAME);
     memcpy(copy, image, sizeof copy);
+    memset(phones, 9, sizeof phones);
+    prepare_list(list, 60);
+    prepare_list(full, 1000);
 }
 
 int main(void)
@@ -129,7 +173,7 @@ int main(void)
             memcpy(copy, image, sizeof copy);
         size_t more = used(calls[k].call, (uint8_t *)stack);
         more = more > none ? more - none : 0;
-        printf("%-12s %6zu bytes of stack\n", calls[k].name, more);
+        printf("%-13s %6zu bytes of stack\n", calls[k].name, more);
         most = more > most ? more : most;
     }
     free(stack);

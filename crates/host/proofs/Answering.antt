@@ -13,6 +13,7 @@ use Rattle.rules.specs.Memory.{over}
 use Rattle.rules.proofs.Memory.{over-length, put-tail, tail-is}
 use Rattle.rules.proofs.Cases.{byBool}
 use Rattle.image.specs.Image.{valid, entriesOf}
+use Rattle.exceptions.specs.Judging.{isList, Listing, listingOf}
 use Rattle.reading.specs.Fitting.{Str}
 use Rattle.reading.specs.Speech.{Outcome, speaks, declines, judgedCall, phonesOf, numbersOf, Said, toldOf, saying, delivered, refused}
 use Rattle.tables.specs.Words.{compiledFrom}
@@ -20,7 +21,7 @@ use Rattle.tables.specs.Walk.{Walked, walkThrough, walkFor, walkSaid}
 use Rattle.walk.specs.Walked.{walkedOf}
 use Rattle.walk.specs.declared.WalkAnswer.{WalkAnswer}
 use Rattle.host.specs.Codes.{phonesGiven, numbersGiven}
-use Rattle.host.specs.Many.{namesIn, replied, Lot, then, each, spokenAll, Many, manyFrom, manySaid, rest, whole, Within, hasNext, nextName, Next}
+use Rattle.host.specs.Many.{namesIn, replied, Lot, then, each, spokenAll, Many, manyFrom, noneAnswered, manySaid, rest, whole, Within, hasNext, nextName, Next}
 use Rattle.host.specs.declared.many.Progress.{Progress}
 use Rattle.host.proofs.Runs.{part-take, part-drop, part-in, part-length, put-over, put-length}
 use Rattle.host.proofs.Names.{next-count, next-whole, names-next, names-end}
@@ -194,36 +195,36 @@ delivered-fit (speaks xs steps) phones numbers =
     (λ b. rw (a, b) (kept 5 (length (numbersOf xs)) phones numbers)))
     (λ a. rw a (kept 4 (length (phonesOf xs)) phones numbers))
 
-pub walk-fits : (image ws ss : List ℕ) → Fits (walkSaid image ws ss)
+pub walk-fits : (image : List ℕ) (l : Listing) (ws ss : List ℕ) → Fits (walkSaid image l ws ss)
 unfolding walkFor
-walk-fits image ws ss n phones numbers = delivered-fit (judgedCall image n (walkThrough (compiledFrom ws ss) (entriesOf image) n)) phones numbers
+walk-fits image l ws ss n phones numbers = delivered-fit (judgedCall image l n (walkThrough (compiledFrom ws ss) (entriesOf image) n)) phones numbers
 
 -- ---- one name, as the code answers it
 
-module _ (image ws ss names ph nu re : List ℕ) (p : Progress) (n : ℕ) (r : WalkAnswer) (zs ys : List ℕ) (here : n ≡ getD names (p .at) 0)
-    (e : walkedOf r zs ys ≡ walkSaid image ws ss (take (p .at + 1 + n - (p .at + 1)) (drop (p .at + 1) names)) (midOf (p .phones) (length ph - p .phones) ph) (midOf (p .numbers) (length nu - p .numbers) nu)) where
-  named : walkedOf r zs ys ≡ nextName (walkSaid image ws ss) names ph nu re p
+module _ (image : List ℕ) (l : Listing) (ws ss names ph nu re : List ℕ) (p : Progress) (n : ℕ) (r : WalkAnswer) (zs ys : List ℕ) (here : n ≡ getD names (p .at) 0)
+    (e : walkedOf r zs ys ≡ walkSaid image l ws ss (take (p .at + 1 + n - (p .at + 1)) (drop (p .at + 1) names)) (midOf (p .phones) (length ph - p .phones) ph) (midOf (p .numbers) (length nu - p .numbers) nu)) where
+  named : walkedOf r zs ys ≡ nextName (walkSaid image l ws ss) names ph nu re p
   named =
       let size : p .at + 1 + n - (p .at + 1) ≡ getD names (p .at) 0 = omega (arith, here) in
-      e ∙ (ap (λ (k : ℕ). walkSaid image ws ss (take k (drop (p .at + 1) names)) (midOf (p .phones) (length ph - p .phones) ph) (midOf (p .numbers) (length nu - p .numbers) nu)) size
-      ∙ ap₂ (walkSaid image ws ss (take (getD names (p .at) 0) (drop (p .at + 1) names))) (tail-is (p .phones) ph) (tail-is (p .numbers) nu))
+      e ∙ (ap (λ (k : ℕ). walkSaid image l ws ss (take k (drop (p .at + 1) names)) (midOf (p .phones) (length ph - p .phones) ph) (midOf (p .numbers) (length nu - p .numbers) nu)) size
+      ∙ ap₂ (walkSaid image l ws ss (take (getD names (p .at) 0) (drop (p .at + 1) names))) (tail-is (p .phones) ph) (tail-is (p .numbers) nu))
 
   -- what the answer gives has room after what was given before
   pub phones-room : (g : ℕ) → g ≡ phonesGiven (toldOf (r .speech)) → p .phones ≤ length ph → p .phones + g ≤ length ph
   phones-room g h k =
-      let a = walk-fits image ws ss (take (getD names (p .at) 0) (drop (p .at + 1) names)) (drop (p .phones) ph) (drop (p .numbers) nu) .phones-fit in
-      let b : phonesGiven (toldOf (r .speech)) ≡ phonesGiven (nextName (walkSaid image ws ss) names ph nu re p .said .told) = ap (λ (x : Walked). phonesGiven (x .said .told)) named in
+      let a = walk-fits image l ws ss (take (getD names (p .at) 0) (drop (p .at + 1) names)) (drop (p .phones) ph) (drop (p .numbers) nu) .phones-fit in
+      let b : phonesGiven (toldOf (r .speech)) ≡ phonesGiven (nextName (walkSaid image l ws ss) names ph nu re p .said .told) = ap (λ (x : Walked). phonesGiven (x .said .told)) named in
       omega (arith, a, b, h, k, length-drop (p .phones) ph)
 
   pub numbers-room : (g : ℕ) → g ≡ numbersGiven (toldOf (r .speech)) → p .numbers ≤ length nu → p .numbers + g ≤ length nu
   numbers-room g h k =
-      let a = walk-fits image ws ss (take (getD names (p .at) 0) (drop (p .at + 1) names)) (drop (p .phones) ph) (drop (p .numbers) nu) .numbers-fit in
-      let b : numbersGiven (toldOf (r .speech)) ≡ numbersGiven (nextName (walkSaid image ws ss) names ph nu re p .said .told) = ap (λ (x : Walked). numbersGiven (x .said .told)) named in
+      let a = walk-fits image l ws ss (take (getD names (p .at) 0) (drop (p .at + 1) names)) (drop (p .phones) ph) (drop (p .numbers) nu) .numbers-fit in
+      let b : numbersGiven (toldOf (r .speech)) ≡ numbersGiven (nextName (walkSaid image l ws ss) names ph nu re p .said .told) = ap (λ (x : Walked). numbersGiven (x .said .told)) named in
       omega (arith, a, b, h, k, length-drop (p .numbers) nu)
 
   pub next-is : (g h : ℕ) → g ≡ phonesGiven (toldOf (r .speech)) → h ≡ numbersGiven (toldOf (r .speech)) → (re′ : List ℕ)
       → re′ ≡ take (4 * p .count) re ++ (replied (walkedOf r zs ys) ++ drop (4 * p .count + 4) re)
-      → Next (walkSaid image ws ss) names ph nu re p (putMid (p .phones) (length ph - p .phones) ph zs) (putMid (p .numbers) (length nu - p .numbers) nu ys) re′
+      → Next (walkSaid image l ws ss) names ph nu re p (putMid (p .phones) (length ph - p .phones) ph zs) (putMid (p .numbers) (length nu - p .numbers) nu ys) re′
       (record { at = p .at + 1 + n; count = p .count + 1; phones = p .phones + g; numbers = p .numbers + h })
   next-is g h eg eh re′ er = record {
     at-next = ap (λ (k : ℕ). p .at + 1 + k) here;
@@ -237,16 +238,21 @@ module _ (image ws ss names ph nu re : List ℕ) (p : Progress) (n : ℕ) (r : W
 
 -- ---- the whole call
 
-module _ (image ws ss names ph nu re : List ℕ) where
-  module _ (v : valid image ≡ true) where
-    pub many-valid : manySaid image ws ss names ph nu re ≡ manyFrom (spokenAll image ws ss names ph nu re) re
-    unfolding manySaid
-    many-valid = ap (λ (t : Bool). cond t (manyFrom (spokenAll image ws ss names ph nu re) re) (record { code = 0; count = 0; replies = re; phones = ph; numbers = nu })) v
+module _ (image list ws ss names ph nu re : List ℕ) where
+  pub many-known : valid image ≡ true → isList list ≡ true
+      → manySaid image (listingOf list) ws ss names ph nu re ≡ manyFrom (spokenAll image (listingOf list) ws ss names ph nu re) re
+  unfolding manySaid listingOf
+  many-known v i = rw (v, i)
 
-  pub many-invalid : valid image ≡ false → manySaid image ws ss names ph nu re ≡ record { code = 0; count = 0; replies = re; phones = ph; numbers = nu }
+  pub many-invalid : valid image ≡ false → manySaid image (listingOf list) ws ss names ph nu re ≡ noneAnswered 0 re ph nu
   unfolding manySaid
-  many-invalid v = ap (λ (t : Bool). cond t (manyFrom (spokenAll image ws ss names ph nu re) re) (record { code = 0; count = 0; replies = re; phones = ph; numbers = nu })) v
+  many-invalid v = rw v
 
-  pub all-is : spokenAll image ws ss names ph nu re ≡ each (walkSaid image ws ss) (namesIn (length re / 4) names) ph nu
-  unfolding spokenAll
-  all-is = refl
+  pub many-unlisted : valid image ≡ true → isList list ≡ false → manySaid image (listingOf list) ws ss names ph nu re ≡ noneAnswered 17 re ph nu
+  unfolding manySaid listingOf
+  many-unlisted v i = rw (v, i)
+
+pub all-is : (image : List ℕ) (l : Listing) (ws ss names ph nu re : List ℕ)
+    → spokenAll image l ws ss names ph nu re ≡ each (walkSaid image l ws ss) (namesIn (length re / 4) names) ph nu
+unfolding spokenAll
+all-is image l ws ss names ph nu re = refl

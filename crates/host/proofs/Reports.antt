@@ -16,7 +16,8 @@ use Rattle.edits.specs.Ledger.{Edit, judged}
 use Rattle.edits.specs.Edits.{edited, outcomeBy}
 use Rattle.reading.specs.Speech.{Told, Said, saying}
 use Rattle.tables.specs.Words.{Built, building}
-use Rattle.file.specs.Loading.{Report, Filed, filing}
+use Rattle.file.specs.Loading.{Filed, filing}
+use Rattle.rules.specs.Refusals.{Report}
 use Rattle.host.specs.Files.{writtenCode, bytesOrPlace}
 use Rattle.host.specs.Codes.{checked, countIn, lastIn, spokenCode, phonesOrPlace, numbersGiven, blankRule, ruleGiven}
 

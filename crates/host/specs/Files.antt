@@ -2,7 +2,7 @@
 -- Assumes nothing.
 use Prim.Native.Nat.{ℕ}
 use Rattle.rules.specs.Refusals.{accepted, replyCode}
-use Rattle.file.specs.Loading.{Report, wrote, refused}
+use Rattle.rules.specs.Refusals.{Report, wrote, refused}
 
 abbrev pub writtenCode : Report → ℕ
 writtenCode (wrote n) = replyCode accepted

@@ -9,6 +9,8 @@ use lib.ListN.{length, getD, take, drop}
 use Rattle.rules.specs.Refusals.{accepted, replyCode}
 use Rattle.rules.specs.Memory.{over}
 use Rattle.image.specs.Image.{valid}
+use mathlib.Core.Option.{none, some}
+use Rattle.exceptions.specs.Judging.{Listing}
 use Rattle.reading.specs.Fitting.{Str}
 use Rattle.tables.specs.Walk.{Walked, walkSaid}
 use Rattle.host.specs.Codes.{spokenCode, phonesOrPlace, phonesGiven, numbersGiven}
@@ -49,8 +51,8 @@ each f (n ∷ ns) phones numbers =
     (drop (numbersGiven (f n phones numbers .said .told)) (f n phones numbers .said .numbers)))
 
 -- every whole name that has room for its reply, four numbers, by the walk
-unfoldable pub spokenAll : List ℕ → List ℕ → List ℕ → List ℕ → List ℕ → List ℕ → List ℕ → Lot
-spokenAll image ws ss names phones numbers replies = each (walkSaid image ws ss) (namesIn (length replies / 4) names) phones numbers
+unfoldable pub spokenAll : List ℕ → Listing → List ℕ → List ℕ → List ℕ → List ℕ → List ℕ → List ℕ → Lot
+spokenAll image l ws ss names phones numbers replies = each (walkSaid image l ws ss) (namesIn (length replies / 4) names) phones numbers
 
 -- all that the call gives
 pub record Many : Type 0 where
@@ -63,11 +65,21 @@ pub record Many : Type 0 where
 abbrev pub manyFrom : Lot → List ℕ → Many
 manyFrom l replies = record { code = replyCode accepted; count = l .count; replies = over (l .replies) replies; phones = l .phones; numbers = l .numbers }
 
--- 0 once, for memory that is no ruleset; else each name has its own reply
-unfoldable pub manySaid : List ℕ → List ℕ → List ℕ → List ℕ → List ℕ → List ℕ → List ℕ → Many
-manySaid image ws ss names phones numbers replies =
-    cond (valid image) (manyFrom (spokenAll image ws ss names phones numbers replies) replies)
-    (record { code = 0; count = 0; replies = replies; phones = phones; numbers = numbers })
+-- nothing is answered
+abbrev pub noneAnswered : ℕ → List ℕ → List ℕ → List ℕ → Many
+noneAnswered n replies phones numbers = record { code = n; count = 0; replies = replies; phones = phones; numbers = numbers }
+
+-- 17, for memory that is no list, or else what follows
+abbrev pub ifList : Listing → Many → Many → Many
+ifList none bad m = bad
+ifList (some s) bad m = m
+
+-- 0 or 17 once, for memory that is no ruleset or no list; else each name has its own reply
+unfoldable pub manySaid : List ℕ → Listing → List ℕ → List ℕ → List ℕ → List ℕ → List ℕ → List ℕ → Many
+manySaid image l ws ss names phones numbers replies =
+    cond (valid image)
+    (ifList l (noneAnswered 17 replies phones numbers) (manyFrom (spokenAll image l ws ss names phones numbers replies) replies))
+    (noneAnswered 0 replies phones numbers)
 
 -- ---- the same from where the answering stands, as the loop has it
 

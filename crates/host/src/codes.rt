@@ -1,10 +1,10 @@
 // What an answer is as numbers: a code, and a place or a count.
-use file::Written;
 use reading::Speech;
+use rules::Written;
 ghost use mathlib.Core.Path.{_≡_};
 ghost use Rattle.reading.specs.Speech.{toldOf};
 ghost use Rattle.host.specs.Codes.{spokenCode, phonesOrPlace, phonesGiven, numbersGiven};
-ghost use Rattle.file.specs.Loading.{reportOf};
+ghost use Rattle.rules.specs.Refusals.{reportOf};
 ghost use Rattle.host.specs.Files.{writtenCode, bytesOrPlace};
 
 pub fn spoken_code(speech: Speech) -> u8

@@ -1,7 +1,8 @@
 // What a firmware links: the library's calls on numbers and lent memory. host/pirrozketa.h says the same to C.
-// A call answers with a code: 255 where it is accepted, else document 01's refusal number.
+// A call answers with a code: 255 where it is accepted, else the refusal's number in documents 01 and 02.
 mod codes;
 mod given;
+pub mod lists;
 mod many;
 
 ghost use mathlib.Core.Path.{_≡_};
@@ -11,6 +12,7 @@ ghost use Rattle.rules.specs.Refusals.{replyCode, replyPlace};
 ghost use Rattle.image.specs.Image.{cleared};
 ghost use Rattle.edits.specs.Ledger.{Edit};
 ghost use Rattle.edits.specs.Edits.{edited};
+ghost use Rattle.exceptions.specs.Judging.{listingOf};
 ghost use Rattle.reading.specs.Speech.{plainSaid};
 ghost use Rattle.tables.specs.Words.{built};
 ghost use Rattle.tables.specs.Walk.{walkSaid};
@@ -149,32 +151,34 @@ pub extern "C" fn pirrozketa_build(
 
 // ---- one name
 
-// The plain reading of a name. `given` is the phones given or the refusal's place, `applied` the numbers given.
+// The plain reading of a name, the list first. `given` is the phones given or the refusal's place, `applied` the numbers given.
 #[no_mangle]
 pub extern "C" fn pirrozketa_read_name(
     image: &[u8],
+    list: &[u32],
     name: &[u8],
     phones: &mut [u8],
     numbers: &mut [u16],
     given: &mut usize,
     applied: &mut usize,
 ) -> u8
-    ensures code { λ r. ⌜ r ≡ spokenCode (plainSaid (now (image .entry)) (now (name .entry)) (now (phones .entry)) (now (numbers .entry)) .told) ⌝ }
-    ensures given { λ _. ⌜ now (given .exit) ≡ phonesOrPlace (plainSaid (now (image .entry)) (now (name .entry)) (now (phones .entry)) (now (numbers .entry)) .told) ⌝ }
-    ensures applied { λ _. ⌜ now (applied .exit) ≡ numbersGiven (plainSaid (now (image .entry)) (now (name .entry)) (now (phones .entry)) (now (numbers .entry)) .told) ⌝ }
-    ensures phones { λ _. ⌜ now (phones .exit) ≡ plainSaid (now (image .entry)) (now (name .entry)) (now (phones .entry)) (now (numbers .entry)) .phones ⌝ }
-    ensures numbers { λ _. ⌜ now (numbers .exit) ≡ plainSaid (now (image .entry)) (now (name .entry)) (now (phones .entry)) (now (numbers .entry)) .numbers ⌝ }
+    ensures code { λ r. ⌜ r ≡ spokenCode (plainSaid (now (image .entry)) (listingOf (now (list .entry))) (now (name .entry)) (now (phones .entry)) (now (numbers .entry)) .told) ⌝ }
+    ensures given { λ _. ⌜ now (given .exit) ≡ phonesOrPlace (plainSaid (now (image .entry)) (listingOf (now (list .entry))) (now (name .entry)) (now (phones .entry)) (now (numbers .entry)) .told) ⌝ }
+    ensures applied { λ _. ⌜ now (applied .exit) ≡ numbersGiven (plainSaid (now (image .entry)) (listingOf (now (list .entry))) (now (name .entry)) (now (phones .entry)) (now (numbers .entry)) .told) ⌝ }
+    ensures phones { λ _. ⌜ now (phones .exit) ≡ plainSaid (now (image .entry)) (listingOf (now (list .entry))) (now (name .entry)) (now (phones .entry)) (now (numbers .entry)) .phones ⌝ }
+    ensures numbers { λ _. ⌜ now (numbers .exit) ≡ plainSaid (now (image .entry)) (listingOf (now (list .entry))) (now (name .entry)) (now (phones .entry)) (now (numbers .entry)) .numbers ⌝ }
 {
-    let speech = reading::read_name(image, name, phones, numbers);
+    let speech = reading::read_name(image, list, name, phones, numbers);
     *given = codes::phones_or_place(speech);
     *applied = codes::numbers_given(speech);
     codes::spoken_code(speech)
 }
 
-// The walk of a name through the compiled ruleset of lent tables, built or not. `steps` is the entries looked up.
+// A name by the list, else by the walk through the compiled ruleset of lent tables, built or not. `steps` is the entries looked up.
 #[no_mangle]
 pub extern "C" fn pirrozketa_speak<'a>(
     image: &[u8],
+    list: &[u32],
     words: &'a [u16],
     sets: &'a [u64],
     name: &[u8],
@@ -184,14 +188,14 @@ pub extern "C" fn pirrozketa_speak<'a>(
     applied: &mut usize,
     steps: &mut usize,
 ) -> u8
-    ensures code { λ r. ⌜ r ≡ spokenCode (walkSaid (now (image .entry)) (now (words .entry)) (now (sets .entry)) (now (name .entry)) (now (phones .entry)) (now (numbers .entry)) .said .told) ⌝ }
-    ensures given { λ _. ⌜ now (given .exit) ≡ phonesOrPlace (walkSaid (now (image .entry)) (now (words .entry)) (now (sets .entry)) (now (name .entry)) (now (phones .entry)) (now (numbers .entry)) .said .told) ⌝ }
-    ensures applied { λ _. ⌜ now (applied .exit) ≡ numbersGiven (walkSaid (now (image .entry)) (now (words .entry)) (now (sets .entry)) (now (name .entry)) (now (phones .entry)) (now (numbers .entry)) .said .told) ⌝ }
-    ensures steps { λ _. ⌜ now (steps .exit) ≡ walkSaid (now (image .entry)) (now (words .entry)) (now (sets .entry)) (now (name .entry)) (now (phones .entry)) (now (numbers .entry)) .steps ⌝ }
-    ensures phones { λ _. ⌜ now (phones .exit) ≡ walkSaid (now (image .entry)) (now (words .entry)) (now (sets .entry)) (now (name .entry)) (now (phones .entry)) (now (numbers .entry)) .said .phones ⌝ }
-    ensures numbers { λ _. ⌜ now (numbers .exit) ≡ walkSaid (now (image .entry)) (now (words .entry)) (now (sets .entry)) (now (name .entry)) (now (phones .entry)) (now (numbers .entry)) .said .numbers ⌝ }
+    ensures code { λ r. ⌜ r ≡ spokenCode (walkSaid (now (image .entry)) (listingOf (now (list .entry))) (now (words .entry)) (now (sets .entry)) (now (name .entry)) (now (phones .entry)) (now (numbers .entry)) .said .told) ⌝ }
+    ensures given { λ _. ⌜ now (given .exit) ≡ phonesOrPlace (walkSaid (now (image .entry)) (listingOf (now (list .entry))) (now (words .entry)) (now (sets .entry)) (now (name .entry)) (now (phones .entry)) (now (numbers .entry)) .said .told) ⌝ }
+    ensures applied { λ _. ⌜ now (applied .exit) ≡ numbersGiven (walkSaid (now (image .entry)) (listingOf (now (list .entry))) (now (words .entry)) (now (sets .entry)) (now (name .entry)) (now (phones .entry)) (now (numbers .entry)) .said .told) ⌝ }
+    ensures steps { λ _. ⌜ now (steps .exit) ≡ walkSaid (now (image .entry)) (listingOf (now (list .entry))) (now (words .entry)) (now (sets .entry)) (now (name .entry)) (now (phones .entry)) (now (numbers .entry)) .steps ⌝ }
+    ensures phones { λ _. ⌜ now (phones .exit) ≡ walkSaid (now (image .entry)) (listingOf (now (list .entry))) (now (words .entry)) (now (sets .entry)) (now (name .entry)) (now (phones .entry)) (now (numbers .entry)) .said .phones ⌝ }
+    ensures numbers { λ _. ⌜ now (numbers .exit) ≡ walkSaid (now (image .entry)) (listingOf (now (list .entry))) (now (words .entry)) (now (sets .entry)) (now (name .entry)) (now (phones .entry)) (now (numbers .entry)) .said .numbers ⌝ }
 {
-    let answer = compiled::speak_compiled(image, words, sets, name, phones, numbers);
+    let answer = compiled::speak_compiled(image, list, words, sets, name, phones, numbers);
     let speech = answer.speech;
     *given = codes::phones_or_place(speech);
     *applied = codes::numbers_given(speech);
@@ -201,11 +205,12 @@ pub extern "C" fn pirrozketa_speak<'a>(
 
 // ---- many names
 
-// The walks of many names, the ruleset checked once. `names` has each name after a byte that says its length; the reply to each is four
+// Many names, the ruleset and the list checked once. `names` has each name after a byte that says its length; the reply to each is four
 // numbers; `count` is how many names were answered.
 #[no_mangle]
 pub extern "C" fn pirrozketa_speak_many<'a>(
     image: &[u8],
+    list: &[u32],
     words: &'a [u16],
     sets: &'a [u64],
     names: &[u8],
@@ -214,16 +219,20 @@ pub extern "C" fn pirrozketa_speak_many<'a>(
     replies: &mut [usize],
     count: &mut usize,
 ) -> u8
-    ensures code { λ r. ⌜ r ≡ manySaid (now (image .entry)) (now (words .entry)) (now (sets .entry)) (now (names .entry)) (now (phones .entry)) (now (numbers .entry)) (now (replies .entry)) .code ⌝ }
-    ensures count { λ _. ⌜ now (count .exit) ≡ manySaid (now (image .entry)) (now (words .entry)) (now (sets .entry)) (now (names .entry)) (now (phones .entry)) (now (numbers .entry)) (now (replies .entry)) .count ⌝ }
-    ensures replies { λ _. ⌜ now (replies .exit) ≡ manySaid (now (image .entry)) (now (words .entry)) (now (sets .entry)) (now (names .entry)) (now (phones .entry)) (now (numbers .entry)) (now (replies .entry)) .replies ⌝ }
-    ensures phones { λ _. ⌜ now (phones .exit) ≡ manySaid (now (image .entry)) (now (words .entry)) (now (sets .entry)) (now (names .entry)) (now (phones .entry)) (now (numbers .entry)) (now (replies .entry)) .phones ⌝ }
-    ensures numbers { λ _. ⌜ now (numbers .exit) ≡ manySaid (now (image .entry)) (now (words .entry)) (now (sets .entry)) (now (names .entry)) (now (phones .entry)) (now (numbers .entry)) (now (replies .entry)) .numbers ⌝ }
+    ensures code { λ r. ⌜ r ≡ manySaid (now (image .entry)) (listingOf (now (list .entry))) (now (words .entry)) (now (sets .entry)) (now (names .entry)) (now (phones .entry)) (now (numbers .entry)) (now (replies .entry)) .code ⌝ }
+    ensures count { λ _. ⌜ now (count .exit) ≡ manySaid (now (image .entry)) (listingOf (now (list .entry))) (now (words .entry)) (now (sets .entry)) (now (names .entry)) (now (phones .entry)) (now (numbers .entry)) (now (replies .entry)) .count ⌝ }
+    ensures replies { λ _. ⌜ now (replies .exit) ≡ manySaid (now (image .entry)) (listingOf (now (list .entry))) (now (words .entry)) (now (sets .entry)) (now (names .entry)) (now (phones .entry)) (now (numbers .entry)) (now (replies .entry)) .replies ⌝ }
+    ensures phones { λ _. ⌜ now (phones .exit) ≡ manySaid (now (image .entry)) (listingOf (now (list .entry))) (now (words .entry)) (now (sets .entry)) (now (names .entry)) (now (phones .entry)) (now (numbers .entry)) (now (replies .entry)) .phones ⌝ }
+    ensures numbers { λ _. ⌜ now (numbers .exit) ≡ manySaid (now (image .entry)) (listingOf (now (list .entry))) (now (words .entry)) (now (sets .entry)) (now (names .entry)) (now (phones .entry)) (now (numbers .entry)) (now (replies .entry)) .numbers ⌝ }
 {
     if !image::is_ruleset(image) {
         *count = 0;
         return 0;
     }
-    *count = many::speak_all(image, words, sets, names, phones, numbers, replies);
+    if !exceptions::is_list(list) {
+        *count = 0;
+        return 17;
+    }
+    *count = many::speak_all(image, list, words, sets, names, phones, numbers, replies);
     rules::ACCEPTED
 }

@@ -1,4 +1,4 @@
-// Many names one after the other, through tables whose ruleset is known to be valid.
+// Many names one after the other, by a ruleset and a list that are known to be valid.
 use super::codes;
 use walk::WalkAnswer;
 ghost use mathlib.Core.Path.{_≡_};
@@ -8,6 +8,7 @@ ghost use Prim.Native.Nat.{_+_, _*_, _/_, _≤_};
 ghost use lib.ListN.{length, getD, take, drop};
 ghost use Rattle.rules.specs.Memory.{over};
 ghost use Rattle.image.specs.Image.{valid};
+ghost use Rattle.exceptions.specs.Judging.{isList, listingOf};
 ghost use Rattle.reading.specs.Speech.{toldOf};
 ghost use Rattle.tables.specs.Walk.{walkSaid};
 ghost use Rattle.host.specs.Codes.{spokenCode, phonesOrPlace, numbersGiven};
@@ -54,6 +55,7 @@ fn put_reply(replies: &mut [usize], at: usize, answer: WalkAnswer)
 // The next name is answered, in the lent memory after the answers before it.
 fn speak_next<'a>(
     image: &[u8],
+    list: &[u32],
     words: &'a [u16],
     sets: &'a [u64],
     names: &[u8],
@@ -62,18 +64,19 @@ fn speak_next<'a>(
     replies: &mut [usize],
     p: Progress,
 ) -> Progress
-    requires { ⌜ (valid (now image) ≡ true) × (p .at + 1 + getD (now names) (p .at) 0 ≤ length (now names)) × (p .phones ≤ length (now phones)) × (p .numbers ≤ length (now numbers)) × (4 * p .count + 4 ≤ length (now replies)) ⌝ }
-    ensures { λ r. ⌜ Next (walkSaid (now (image .entry)) (now (words .entry)) (now (sets .entry))) (now (names .entry)) (now (phones .entry)) (now (numbers .entry)) (now (replies .entry)) p (now (phones .exit)) (now (numbers .exit)) (now (replies .exit)) r ⌝ }
+    requires { ⌜ (valid (now image) ≡ true) × (isList (now list) ≡ true) × (p .at + 1 + getD (now names) (p .at) 0 ≤ length (now names)) × (p .phones ≤ length (now phones)) × (p .numbers ≤ length (now numbers)) × (4 * p .count + 4 ≤ length (now replies)) ⌝ }
+    ensures { λ r. ⌜ Next (walkSaid (now (image .entry)) (listingOf (now (list .entry))) (now (words .entry)) (now (sets .entry))) (now (names .entry)) (now (phones .entry)) (now (numbers .entry)) (now (replies .entry)) p (now (phones .exit)) (now (numbers .exit)) (now (replies .exit)) r ⌝ }
 {
     let at = p.at;
     let start = at + 1;
     let end = start + numbers::wide(names[at]);
     let from = p.phones;
     let to = p.numbers;
-    let answer = compiled::speak_words(
+    let answer = compiled::speak_known(
+        image,
+        list,
         words,
         sets,
-        image,
         &names[start..end],
         &mut phones[from..],
         &mut numbers[to..],
@@ -91,6 +94,7 @@ fn speak_next<'a>(
 // Every whole name that has room for its reply is answered.
 pub fn speak_all<'a>(
     image: &[u8],
+    list: &[u32],
     words: &'a [u16],
     sets: &'a [u64],
     names: &[u8],
@@ -98,11 +102,11 @@ pub fn speak_all<'a>(
     numbers: &mut [u16],
     replies: &mut [usize],
 ) -> usize
-    requires { ⌜ valid (now image) ≡ true ⌝ }
-    ensures count { λ r. ⌜ r ≡ spokenAll (now (image .entry)) (now (words .entry)) (now (sets .entry)) (now (names .entry)) (now (phones .entry)) (now (numbers .entry)) (now (replies .entry)) .count ⌝ }
-    ensures replies { λ _. ⌜ now (replies .exit) ≡ over (spokenAll (now (image .entry)) (now (words .entry)) (now (sets .entry)) (now (names .entry)) (now (phones .entry)) (now (numbers .entry)) (now (replies .entry)) .replies) (now (replies .entry)) ⌝ }
-    ensures phones { λ _. ⌜ now (phones .exit) ≡ spokenAll (now (image .entry)) (now (words .entry)) (now (sets .entry)) (now (names .entry)) (now (phones .entry)) (now (numbers .entry)) (now (replies .entry)) .phones ⌝ }
-    ensures numbers { λ _. ⌜ now (numbers .exit) ≡ spokenAll (now (image .entry)) (now (words .entry)) (now (sets .entry)) (now (names .entry)) (now (phones .entry)) (now (numbers .entry)) (now (replies .entry)) .numbers ⌝ }
+    requires { ⌜ (valid (now image) ≡ true) × (isList (now list) ≡ true) ⌝ }
+    ensures count { λ r. ⌜ r ≡ spokenAll (now (image .entry)) (listingOf (now (list .entry))) (now (words .entry)) (now (sets .entry)) (now (names .entry)) (now (phones .entry)) (now (numbers .entry)) (now (replies .entry)) .count ⌝ }
+    ensures replies { λ _. ⌜ now (replies .exit) ≡ over (spokenAll (now (image .entry)) (listingOf (now (list .entry))) (now (words .entry)) (now (sets .entry)) (now (names .entry)) (now (phones .entry)) (now (numbers .entry)) (now (replies .entry)) .replies) (now (replies .entry)) ⌝ }
+    ensures phones { λ _. ⌜ now (phones .exit) ≡ spokenAll (now (image .entry)) (listingOf (now (list .entry))) (now (words .entry)) (now (sets .entry)) (now (names .entry)) (now (phones .entry)) (now (numbers .entry)) (now (replies .entry)) .phones ⌝ }
+    ensures numbers { λ _. ⌜ now (numbers .exit) ≡ spokenAll (now (image .entry)) (listingOf (now (list .entry))) (now (words .entry)) (now (sets .entry)) (now (names .entry)) (now (phones .entry)) (now (numbers .entry)) (now (replies .entry)) .numbers ⌝ }
 {
     let limit = replies.len() / 4;
     let mut p = Progress {
@@ -112,7 +116,7 @@ pub fn speak_all<'a>(
         numbers: 0,
     };
     while has_next(names, p.at, p.count, limit) {
-        p = speak_next(image, words, sets, names, phones, numbers, replies, p);
+        p = speak_next(image, list, words, sets, names, phones, numbers, replies, p);
     }
     p.count
 }

@@ -7,36 +7,37 @@ use Rattle.rules.specs.Memory.{over}
 use Rattle.host.specs.Many.{Lot}
 use native.Mathlib.Omega.{arith}
 use Rattle.tables.specs.Walk.{walkSaid}
+use Rattle.exceptions.specs.Judging.{listingOf}
 use Rattle.host.proofs.Answering.{Going, begin, next, walk-fits, all-is, end-count, end-replies, end-phones, end-numbers}
 use Rattle.host.proofs.Names.{next-count, next-whole}
 use Rattle.host.proofs.many.speak_all.Statement.{statement}
 use Rattle.host.proofs.many.speak_all.Tie as tie
 
 abbrev Inv-loop : tie.InvT-loop
-Inv-loop image words sets names phones₀ numbers₀ replies₀ limit p₀ phones numbers replies p = Going (walkSaid image words sets) names limit phones₀ numbers₀ replies₀ phones numbers replies p
+Inv-loop image list words sets names phones₀ numbers₀ replies₀ limit p₀ phones numbers replies p = Going (walkSaid image (listingOf list) words sets) names limit phones₀ numbers₀ replies₀ phones numbers replies p
 
 abbrev μ-loop : tie.MeasureT-loop
-μ-loop image words sets names phones₀ numbers₀ replies₀ limit p₀ phones numbers replies p = limit - p .count
+μ-loop image list words sets names phones₀ numbers₀ replies₀ limit p₀ phones numbers replies p = limit - p .count
 
 loop-holds : tie.Need-loop-holds Inv-loop μ-loop
 loop-holds c =
-    let a = c .before .before .before .before .before .before .before .args in
-    begin (walkSaid (a .image .now) (a .words .now) (a .sets .now)) (a .names .now) (length (a .replies .now) / 4) (a .phones .now) (a .numbers .now) (a .replies .now) (omega arith)
+    let a = c .before .before .before .before .before .before .before .before .args in
+    begin (walkSaid (a .image .now) (listingOf (a .list .now)) (a .words .now) (a .sets .now)) (a .names .now) (length (a .replies .now) / 4) (a .phones .now) (a .numbers .now) (a .replies .now) (omega arith)
 
 has-next-requires : tie.Need-has-next-requires Inv-loop μ-loop
 has-next-requires c κs = c .loop .inv .within .at-in
 
 speak-next-requires : tie.Need-speak-next-requires Inv-loop μ-loop
 speak-next-requires c κs =
-    let st = c .before .before .before .before .before .before .before .before .before .before .before .before .before in
+    let st = c .before .before .before .before .before .before .before .before .before .before .before .before .before .before in
     let a = st .args in
     let l = c .before .before .before .before .before .loop in
     let h = sym (c .before .before .before .before .has-next .ensures) ∙ c .before .before .before .if1 .taken in
-    (st .pre, next-whole (a .names .now) (l .p .at) (l .p .count) (length (a .replies .now) / 4) h, l .inv .within .phones-in, l .inv .within .numbers-in, omega (arith, next-count (a .names .now) (l .p .at) (l .p .count) (length (a .replies .now) / 4) h, l .inv .within .replies-in))
+    (st .pre .0, st .pre .1, next-whole (a .names .now) (l .p .at) (l .p .count) (length (a .replies .now) / 4) h, l .inv .within .phones-in, l .inv .within .numbers-in, omega (arith, next-count (a .names .now) (l .p .at) (l .p .count) (length (a .replies .now) / 4) h, l .inv .within .replies-in))
 
 loop-less : tie.Need-loop-less Inv-loop μ-loop
 loop-less c =
-    let st = c .before .before .before .before .before .before .before .before .before .before .before .before .before .before .before .before .before .before .before .before in
+    let st = c .before .before .before .before .before .before .before .before .before .before .before .before .before .before .before .before .before .before .before .before .before in
     let a = st .args in
     let l = c .before .before .before .before .before .before .before .before .before .before .before .before .loop in
     let h = sym (c .before .before .before .before .before .before .before .before .before .before .before .has-next .ensures) ∙ c .before .before .before .before .before .before .before .before .before .before .if1 .taken in
@@ -44,11 +45,11 @@ loop-less c =
 
 loop-again : tie.Need-loop-again Inv-loop μ-loop
 loop-again c =
-    let st = c .before .before .before .before .before .before .before .before .before .before .before .before .before .before .before .before .before .before .before .before in
+    let st = c .before .before .before .before .before .before .before .before .before .before .before .before .before .before .before .before .before .before .before .before .before in
     let a = st .args in
     let l = c .before .before .before .before .before .before .before .before .before .before .before .before .loop in
     let h = sym (c .before .before .before .before .before .before .before .before .before .before .before .has-next .ensures) ∙ c .before .before .before .before .before .before .before .before .before .before .if1 .taken in
-    next (walkSaid (a .image .now) (a .words .now) (a .sets .now)) (a .names .now) (length (a .replies .now) / 4) (walk-fits (a .image .now) (a .words .now) (a .sets .now)) (a .phones .now) (a .numbers .now) (a .replies .now) (l .phones) (l .numbers) (l .replies) (l .p) (l .inv) h _ _ _ _ (c .before .before .before .before .before .before .speak-next .ensures)
+    next (walkSaid (a .image .now) (listingOf (a .list .now)) (a .words .now) (a .sets .now)) (a .names .now) (length (a .replies .now) / 4) (walk-fits (a .image .now) (listingOf (a .list .now)) (a .words .now) (a .sets .now)) (a .phones .now) (a .numbers .now) (a .replies .now) (l .phones) (l .numbers) (l .replies) (l .p) (l .inv) h _ _ _ _ (c .before .before .before .before .before .before .speak-next .ensures)
 
 same-length : tie.Need-same-length Inv-loop μ-loop
 same-length c = c .before .before .loop .inv .phones-long
@@ -61,15 +62,15 @@ same-length-3 c = c .before .before .loop .inv .replies-long
 
 returns : tie.Need-returns Inv-loop μ-loop
 returns c =
-    let st = c .before .before .before .before .before .before .before .before .before .before in
+    let st = c .before .before .before .before .before .before .before .before .before .before .before in
     let a = st .args in
     let l = c .before .before .loop in
     let h = sym (c .before .has-next .ensures) ∙ c .if1 .left in
-    let e = sym (all-is (a .image .now) (a .words .now) (a .sets .now) (a .names .now) (a .phones .now) (a .numbers .now) (a .replies .now)) in (
-      end-count (walkSaid (a .image .now) (a .words .now) (a .sets .now)) (a .names .now) (length (a .replies .now) / 4) (a .phones .now) (a .numbers .now) (a .replies .now) (l .phones) (l .numbers) (l .replies) (l .p) (l .inv) h ∙ ap (λ (m : Lot). m .count) e,
+    let e = sym (all-is (a .image .now) (listingOf (a .list .now)) (a .words .now) (a .sets .now) (a .names .now) (a .phones .now) (a .numbers .now) (a .replies .now)) in (
+      end-count (walkSaid (a .image .now) (listingOf (a .list .now)) (a .words .now) (a .sets .now)) (a .names .now) (length (a .replies .now) / 4) (a .phones .now) (a .numbers .now) (a .replies .now) (l .phones) (l .numbers) (l .replies) (l .p) (l .inv) h ∙ ap (λ (m : Lot). m .count) e,
       (
-        end-replies (walkSaid (a .image .now) (a .words .now) (a .sets .now)) (a .names .now) (length (a .replies .now) / 4) (a .phones .now) (a .numbers .now) (a .replies .now) (l .phones) (l .numbers) (l .replies) (l .p) (l .inv) h ∙ ap (λ (m : Lot). over (m .replies) (a .replies .now)) e,
-        (end-phones (walkSaid (a .image .now) (a .words .now) (a .sets .now)) (a .names .now) (length (a .replies .now) / 4) (a .phones .now) (a .numbers .now) (a .replies .now) (l .phones) (l .numbers) (l .replies) (l .p) (l .inv) h ∙ ap (λ (m : Lot). m .phones) e, end-numbers (walkSaid (a .image .now) (a .words .now) (a .sets .now)) (a .names .now) (length (a .replies .now) / 4) (a .phones .now) (a .numbers .now) (a .replies .now) (l .phones) (l .numbers) (l .replies) (l .p) (l .inv) h ∙ ap (λ (m : Lot). m .numbers) e),
+        end-replies (walkSaid (a .image .now) (listingOf (a .list .now)) (a .words .now) (a .sets .now)) (a .names .now) (length (a .replies .now) / 4) (a .phones .now) (a .numbers .now) (a .replies .now) (l .phones) (l .numbers) (l .replies) (l .p) (l .inv) h ∙ ap (λ (m : Lot). over (m .replies) (a .replies .now)) e,
+        (end-phones (walkSaid (a .image .now) (listingOf (a .list .now)) (a .words .now) (a .sets .now)) (a .names .now) (length (a .replies .now) / 4) (a .phones .now) (a .numbers .now) (a .replies .now) (l .phones) (l .numbers) (l .replies) (l .p) (l .inv) h ∙ ap (λ (m : Lot). m .phones) e, end-numbers (walkSaid (a .image .now) (listingOf (a .list .now)) (a .words .now) (a .sets .now)) (a .names .now) (length (a .replies .now) / 4) (a .phones .now) (a .numbers .now) (a .replies .now) (l .phones) (l .numbers) (l .replies) (l .p) (l .inv) h ∙ ap (λ (m : Lot). m .numbers) e),
       ),
     )
 
