@@ -3,6 +3,7 @@
 
     python3 tests/compare.py PROGRAM say --count 500 --seed 1
     python3 tests/compare.py PROGRAM monitor --count 200 --seed 1 --converse
+    python3 tests/compare.py PROGRAM lists --count 40 --seed 1      `monitor` on the exceptions list: long conversations, its limits
 
 PROGRAM is a path or a command in quotes. A failing run is made smaller (input lines, then rules)
 before it is printed. --pieces hands standard input over in small parts; --converse (monitor)
@@ -22,15 +23,12 @@ import time
 import generate
 import reference as ref
 
-EXPECT = {"say": ref.say, "monitor": ref.monitor}
-
-
 class Runner:
     def __init__(self, command, program, manner, limit):
         self.command, self.program, self.manner, self.limit = command, program, manner, limit
 
     def expected(self, rules_hex, lines):
-        return EXPECT[self.program](rules_hex, b"".join(lines))
+        return getattr(ref, self.program)(rules_hex, b"".join(lines))
 
     def run(self, rules_hex, lines):
         """Standard output in a folder of its own, or a text that says what went wrong."""
@@ -172,21 +170,22 @@ def report(runner, which, rules_hex, lines, save):
 def main():
     parser = argparse.ArgumentParser(description=__doc__, formatter_class=argparse.RawDescriptionHelpFormatter)
     parser.add_argument("command", metavar="PROGRAM")
-    parser.add_argument("program", choices=["say", "monitor"])
+    parser.add_argument("kind", choices=list(generate.CASES))
     parser.add_argument("--count", type=int, default=100)
     parser.add_argument("--seed", type=int, default=1)
     parser.add_argument("--pieces", action="store_true")
     parser.add_argument("--converse", action="store_true")
-    parser.add_argument("--limit", type=float, default=10, help="seconds a run may take")
+    parser.add_argument("--limit", type=float, default=30, help="seconds a run may take")
     parser.add_argument("--save", metavar="DIR", help="where to put the minimal failing case")
     given = parser.parse_args()
     command = [os.path.abspath(part) if os.path.exists(part) else part for part in shlex.split(given.command)]
-    if given.converse and given.program == "say":
+    program = generate.PROGRAMS[given.kind]
+    if given.converse and program == "say":
         parser.error("--converse is for monitor: say judges its whole input first")
     manner = "converse" if given.converse else "pieces" if given.pieces else "whole"
-    runner = Runner(command, given.program, manner, given.limit)
+    runner = Runner(command, program, manner, given.limit)
     passed = 0
-    for which, (rules_hex, lines, expected) in generate.runs(given.program, given.count, given.seed):
+    for which, (rules_hex, lines, expected) in generate.runs(given.kind, given.count, given.seed):
         if runner.run(rules_hex, lines) != expected:
             report(runner, which, rules_hex, lines, given.save)
             print(f"{passed} passed, 1 failed")

@@ -1,8 +1,10 @@
 #!/usr/bin/env python3
 """The example rulesets: the .hex files are what their readable sources say, and each name sounds
-as basque.names says, by plain reading and by walk."""
+as basque.names says, by plain reading and by walk. The examples of docs/MONITOR.md: one conversation,
+answered as it stands there."""
 
 import os
+import re
 import sys
 
 HERE = os.path.dirname(os.path.abspath(__file__))
@@ -22,8 +24,22 @@ def example_text(name):
     return inputs.read_text(programs.example(name))
 
 
+def check_monitor(check):
+    """Commands and their answers in turn; .. stands for the rest of a long one."""
+    document = inputs.read_text(os.path.join(programs.ROOT, "docs", "MONITOR.md")).partition("## Commands")[2]
+    held, answers = ref.Monitor(ref.SIX_FILE), []
+    for digits, more in re.findall(r"^    ([0-9A-F]+)(\.\.)?(?:\s|$)", document, re.M):
+        if answers:
+            answer = answers.pop(0)
+            check.equal("an answer of docs/MONITOR.md", answer[:len(digits)] if more else answer, digits)
+        else:
+            answers = held.answer(digits.encode()).decode().splitlines()
+    check.equal("the last answer of docs/MONITOR.md", answers, [])
+
+
 def main():
     check = ref.Check()
+    check_monitor(check)
     alphabets = {}
     for name in ("six", "basque"):
         alphabets[name], rules = ruletext.read_rules(example_text(name + ".rules"), name)

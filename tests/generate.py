@@ -4,6 +4,7 @@ and whole runs of `say` and `monitor` with the output that reference.py expects.
 
     python3 tests/generate.py say --seed 7 --into DIR       DIR/rules.hex, DIR/stdin, DIR/expected
     python3 tests/generate.py monitor --seed 7 --into DIR
+    python3 tests/generate.py lists --seed 7 --into DIR     for `monitor` too: a long one about the exceptions list
     python3 tests/generate.py stats --count 300 --seed 1    how often each answer and refusal occurs
 """
 
@@ -13,6 +14,7 @@ import os
 import random
 import sys
 
+import lists
 import reference as ref
 from reference import EMPTY, Numbered, Refusal, Rule, Ruleset, four, frame_line, two
 
@@ -378,8 +380,11 @@ class Source:
                 line = speech_line(self.pick([0x16, 0x17]), size, self.pick(alphabet))
             for part in split_lines(line):
                 if part.endswith(b"\n") and self.settled(held, part[:-1]):
-                    lines.append(part)
-                    answers.append(held.answer(part[:-1]))
+                    try:
+                        answers.append(held.answer(part[:-1]))
+                        lines.append(part)
+                    except ref.Unspecified:     # the list's memory was stored over
+                        pass
         if lines and self.chance(0.05):
             lines.append(self.pick([b"13ED", b"0", frame_line(b"\x1F")[:-1]]))
             answers.append(held.answer(None))
@@ -407,6 +412,8 @@ class Source:
         kind = self.random.random()
         if not valid and self.chance(0.3):      # an impossible ruleset refuses all: leave it soon
             return self.pick([b"\x13", b"\x1F"])
+        if held.listed is ref.UNKNOWN or self.chance(0.25 if held.units < ref.LIST_UNITS else 0.15):
+            return lists.command(self, held, alphabet)
         if kind < 0.25:
             return self.edit_body(self.edit(rs, alphabet))
         if kind < 0.30:
@@ -444,8 +451,9 @@ class Source:
         return b"\x12" + two(fields[0]) + two(fields[1])
 
     def speech_body(self, held, rs, valid, words, sets):
-        name = self.name(rs)
-        said = ref.plain_reading(rs, name, 256, 64)
+        listed = lists.held_phones(held)
+        name = self.pick(list(listed)) if listed and self.chance(0.3) else self.name(rs)
+        said = ref.plain_reading(rs, name, 256, 64, ref.NO_EXCEPTIONS if held.listed is ref.UNKNOWN else held.listed)
         phones, numbers = ((len(said.phones), len(said.numbers)) if isinstance(said, ref.Spoken) else (3, 3))
         room = two(self.room(phones)) + two(self.room(numbers))
         if self.chance(0.35):
@@ -487,7 +495,14 @@ def monitor_case(seed):
     return rules_hex, lines, b"".join(answers)
 
 
-CASES = {"say": say_case, "monitor": monitor_case}
+def lists_case(seed):
+    lines, answers = lists.session(Source(f"lists {seed}"))
+    return None, lines, b"".join(answers)
+
+
+# What is compared: the program that it runs, and a run by its seed.
+PROGRAMS = {"say": "say", "monitor": "monitor", "lists": "monitor"}
+CASES = {"say": say_case, "monitor": monitor_case, "lists": lists_case}
 
 
 # Fixed runs ---------------------------------------------------------------------------
@@ -512,34 +527,40 @@ def long_lines():
     return None, lines, ref.monitor(None, b"".join(lines))
 
 
-FIXED = {"say": {}, "monitor": {"long lines": long_lines}}
+def fixed_lists(bodies):
+    lines = [frame_line(body) for body in bodies()]
+    return None, lines, ref.monitor(None, b"".join(lines))
 
 
-def runs(program, count, seed):
+FIXED = {"say": {}, "monitor": {"long lines": long_lines},
+         "lists": {name: lambda bodies=bodies: fixed_lists(bodies) for name, bodies in lists.FIXED.items()}}
+
+
+def runs(kind, count, seed):
     """(which, case) for every run of a comparison: the fixed ones first."""
-    for name, case in FIXED[program].items():
+    for name, case in FIXED[kind].items():
         yield name, case()
     for k in range(seed, seed + count):
-        yield f"--seed {k}", CASES[program](k)
+        yield f"--seed {k}", CASES[kind](k)
 
 
 def stats(count, seed):
     """Which answers the runs reach: a refusal that never occurs is not tested."""
-    for program, case in CASES.items():
+    for what, case in CASES.items():
         seen = collections.Counter()
         for k in range(count):
             for line in case(seed + k)[2].splitlines():
                 kind = int(line[:2], 16)
                 number = {5: line[2:4], 8: line[6:8]}.get(kind)
                 seen[f"{kind:02X}" + (f" refusal {int(number, 16)}" if number else "")] += 1
-        print(program)
-        for what, times in sorted(seen.items(), key=lambda item: (item[0][:2], len(item[0]), item[0])):
-            print(f"  {what}: {times}")
+        print(what)
+        for answer, times in sorted(seen.items(), key=lambda item: (item[0][:2], len(item[0]), item[0])):
+            print(f"  {answer}: {times}")
 
 
 def main():
     parser = argparse.ArgumentParser(description=__doc__, formatter_class=argparse.RawDescriptionHelpFormatter)
-    parser.add_argument("what", choices=["say", "monitor", "stats"])
+    parser.add_argument("what", choices=[*CASES, "stats"])
     parser.add_argument("--seed", type=int, default=1)
     parser.add_argument("--count", type=int, default=100)
     parser.add_argument("--into", default=".")

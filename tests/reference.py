@@ -1,10 +1,10 @@
 #!/usr/bin/env python3
-"""Document 01 as plain Python: the independent side of the random comparisons.
+"""Document 01 and the landed requests of document 02 as plain Python: the independent side of the random comparisons.
 
-Written from document 01 and the issues alone, by definition and not for speed:
-no failure links, no bitmaps of numbers, no code shared with the product.
+Written from the documents and the issues alone, by definition and not for speed:
+no failure links, no bitmaps of numbers, no automaton, no code shared with the product.
 
-    python3 tests/reference.py             check every example and number of document 01
+    python3 tests/reference.py             check every example and number of the documents
     python3 tests/reference.py say         be the program `say`
     python3 tests/reference.py monitor     be the program `monitor`
 
@@ -13,7 +13,9 @@ Readings of open points are marked 'Reading:'.
 
 import sys
 from array import array
+from collections import Counter
 from functools import lru_cache
+from hashlib import blake2b
 from typing import NamedTuple
 
 BOUNDARY = 0            # the symbol #
@@ -36,6 +38,12 @@ SAY_NUMBERS = 64
 MONITOR_WORDS = 524_418
 MONITOR_SETS = 65_552
 MONITOR_LINE = 4_096
+
+MAX_LISTED = 1_000      # names of an exceptions list
+MAX_LISTED_PHONES = 64
+MAX_STATES = 4_096
+LIST_UNITS = 35_886     # the list's memory, in units of 32 bits
+LONGEST_READ_OUT = MAX_LISTED * (1 + MAX_NAME + 1 + MAX_LISTED_PHONES)
 
 
 class Rule(NamedTuple):
@@ -127,13 +135,165 @@ def room_refusal(phones, numbers, phone_room, number_room):
     return None
 
 
-def plain_reading(rs, name, phone_room, number_room):
-    """Refusals 0, 2, 1, 3, 4, 5 in that order."""
-    if not is_ruleset(rs):
-        return Refusal(0, 0)
+# The exceptions list (document 02, request 1) --------------------------------
+
+NO_ENDINGS = (0, 0)
+
+
+def digest(ending, phones):
+    """A number for an ending with its phones; that two have the same is not to be expected."""
+    return int.from_bytes(blake2b(bytes([len(ending)]) + ending + phones, digest_size=16).digest(), "big")
+
+
+class Exceptions:
+    """Names with their phones, and how many states the smallest acyclic automaton has that gives the phones at a name's end.
+
+    A state is known by the endings that lead from it to names, with their phones. So there are as many states as the
+    prefixes of names have different endings (`states_of`). Each prefix keeps the number and the digests' sum of its
+    endings: a change then concerns the prefixes of its own name alone.
+    """
+
+    def __init__(self, phones=()):
+        self.phones = {}
+        self.endings = {}           # of each prefix
+        self.prefixes = Counter()   # how many have these endings
+        for name, said in dict(phones).items():
+            self.put(name, said)
+
+    def put(self, name, phones):
+        """The name has these phones from now on; None: it is not listed."""
+        before = self.phones.pop(name, None)
+        if before is not None:
+            self.count(name, before, -1)
+        if phones is not None:
+            self.phones[name] = phones
+            self.count(name, phones, 1)
+
+    def count(self, name, phones, sign):
+        for at in range(len(name) + 1):
+            old = self.endings.pop(name[:at], NO_ENDINGS)
+            new = old[0] + sign, old[1] + sign * digest(name[at:], phones)
+            if old != NO_ENDINGS:
+                self.prefixes[old] -= 1
+                if not self.prefixes[old]:
+                    del self.prefixes[old]
+            if new != NO_ENDINGS:
+                self.prefixes[new] += 1
+                self.endings[name[:at]] = new
+
+    def states(self):
+        """The start is one, also where there are no names."""
+        return max(1, len(self.prefixes))
+
+    def within(self):
+        return len(self.phones) <= MAX_LISTED and self.states() <= MAX_STATES
+
+
+NO_EXCEPTIONS = Exceptions()
+
+
+def states_of(phones):
+    """The number of states by definition: prefixes that have the same endings with the same phones are one."""
+    endings = {b"": set()}
+    for name, said in phones.items():
+        for at in range(len(name) + 1):
+            endings.setdefault(name[:at], set()).add((name[at:], said))
+    return len(set(map(frozenset, endings.values())))
+
+
+def is_entry(name, phones):
+    return (1 <= len(name) <= MAX_NAME and all(map(is_letter, name))
+            and 1 <= len(phones) <= MAX_LISTED_PHONES and 0 not in phones)
+
+
+# A lent list is Exceptions, or None where the memory is no list. Each change gives None or its refusal.
+
+def list_name(listed, name, phones):
+    """17 of the list, 2, 1, 17 of the entry, 19."""
+    if listed is None:
+        return Refusal(17, 0)
     refused = name_refusal(name)
     if refused:
         return refused
+    if not is_entry(name, phones):
+        return Refusal(17, 0)
+    return changed(listed, name, phones)
+
+
+def unlist_name(listed, name):
+    """17 of the list, 2, 1, 18, 19."""
+    if listed is None:
+        return Refusal(17, 0)
+    refused = name_refusal(name)
+    if refused:
+        return refused
+    if name not in listed.phones:
+        return Refusal(18, 0)
+    return changed(listed, name, None)
+
+
+def changed(listed, name, phones):
+    """What is refused for the list's limits is as it was."""
+    before = listed.phones.get(name)
+    listed.put(name, phones)
+    if listed.within():
+        return None
+    listed.put(name, before)
+    return Refusal(19, 0)
+
+
+def read_out_of(phones):
+    """Letter order, a name before its continuations."""
+    return b"".join(bytes([len(name)]) + name + bytes([len(said)]) + said for name, said in sorted(phones.items()))
+
+
+def read_out(listed, room):
+    """The bytes, or 17, 15."""
+    if listed is None:
+        return Refusal(17, 0)
+    data = read_out_of(listed.phones)
+    return data if len(data) <= room else Refusal(15, len(data))
+
+
+def listed_in(data):
+    """The list that a read-out tells, or None where it tells none: names in order, each once, within the limits."""
+    phones, at, last = {}, 0, b""
+    while at < len(data):
+        name = data[at + 1:at + 1 + data[at]]
+        at += 1 + data[at]
+        if at >= len(data):
+            return None
+        said = data[at + 1:at + 1 + data[at]]
+        at += 1 + data[at]
+        if at > len(data) or not is_entry(name, said) or name <= last:
+            return None
+        phones[name], last = said, name
+    listed = Exceptions(phones)
+    return listed if listed.within() else None
+
+
+def answer_before_rules(rs, listed, name, phone_room):
+    """0, 17, 2, 1, then the list, with 4; None where the rules are tried."""
+    if not is_ruleset(rs):
+        return Refusal(0, 0)
+    if listed is None:
+        return Refusal(17, 0)
+    refused = name_refusal(name)
+    if refused:
+        return refused
+    phones = listed.phones.get(bytes(name))
+    if phones is None:
+        return None
+    return room_refusal(phones, (), phone_room, 0) or Spoken(phones, ())
+
+
+# The plain reading -------------------------------------------------------------
+
+def plain_reading(rs, name, phone_room, number_room, listed=NO_EXCEPTIONS):
+    """Refusals 0, 17, 2, 1, 3, 4, 5 in that order; a listed name's only one is 4."""
+    answer = answer_before_rules(rs, listed, name, phone_room)
+    if answer:
+        return answer
     framed, n, i = frame_name(name), len(name), 1
     phones, numbers = b"", []
     while i <= n:
@@ -436,16 +596,14 @@ def step(words, base, count, state, symbol):
     return state
 
 
-def walk(rs, words, sets, name, phone_room, number_room):
+def walk(rs, words, sets, name, phone_room, number_room, listed=NO_EXCEPTIONS):
     """(answer, steps) over lent words, built or not.
 
-    Order: 0, 2, 1, 16 for lengths, left pass, right pass, reached letters (3 or 16), 4, 5.
+    Order: 0, 17, 2, 1, the list with 4, 16 for lengths, left pass, right pass, reached letters (3 or 16), 4, 5.
     """
-    if not is_ruleset(rs):
-        return Refusal(0, 0), 0
-    refused = name_refusal(name)
-    if refused:
-        return refused, 0
+    answer = answer_before_rules(rs, listed, name, phone_room)
+    if answer:
+        return answer, 0
     try:
         return walk_tables(rs, words, sets, name, phone_room, number_room)
     except Unusable:
@@ -544,10 +702,11 @@ def say_line(rs, built, line):
 
 
 class Unspecified(Exception):
-    """The answer rests on slots that no document fills, e.g. past the count after a drop."""
+    """The answer rests on what no document says: slots past the count after a drop, units stored into the list's memory."""
 
 
 UNUSED = Numbered(0, Rule())
+UNKNOWN = object()      # what the list's memory holds after a store
 
 
 class Monitor:
@@ -566,6 +725,9 @@ class Monitor:
         self.sets = array("Q", [2**64 - 1]) * MONITOR_SETS
         self.phones = bytearray(b"\xEE" * SAY_PHONES)
         self.numbers = [0xEEEE] * SAY_NUMBERS
+        self.listed = Exceptions()      # None: what was stored is no list
+        self.units = LIST_UNITS         # of the list's memory, lent from now on
+        self.told = bytearray(b"\xEE" * LONGEST_READ_OUT)
 
     def ruleset(self):
         """The held ruleset; one that is none comes back as such, for the calls to refuse."""
@@ -576,6 +738,14 @@ class Monitor:
         if len(known) < self.count and is_ruleset(rs) and self.last > 0:
             raise Unspecified
         return rs if len(known) == self.count else Ruleset((UNUSED,), self.last)
+
+    def lent_list(self):
+        """None: the lent memory is no list."""
+        if self.units < LIST_UNITS:
+            return None
+        if self.listed is UNKNOWN:
+            raise Unspecified
+        return self.listed
 
     def hold(self, rs):
         self.count, self.last = len(rs.rules), rs.last
@@ -591,7 +761,7 @@ class Monitor:
             return UNSOUND
         call, *sizes = command
         fixed = sum(sizes)
-        open_ended = call in (Monitor.add, Monitor.walk, Monitor.plain)
+        open_ended = call in (Monitor.add, Monitor.walk, Monitor.plain, Monitor.list_name, Monitor.unlist_name)
         if len(body) - 1 < fixed or (not open_ended and len(body) - 1 != fixed):
             return UNSOUND
         fields, at = [], 1
@@ -642,14 +812,14 @@ class Monitor:
 
     def walk(self, word_room, set_room, phone_room, number_room, name):
         answer, steps = walk(self.ruleset(), self.words[:word_room], self.sets[:set_room], name,
-                             min(phone_room, SAY_PHONES), min(number_room, SAY_NUMBERS))
+                             min(phone_room, SAY_PHONES), min(number_room, SAY_NUMBERS), self.lent_list())
         if isinstance(answer, Refusal):
             return frame_line(b"\x08" + two(steps) + bytes([answer.number]) + four(answer.place))
         return self.spoken(answer, steps)
 
     def plain(self, phone_room, number_room, name):
         answer = plain_reading(self.ruleset(), name, min(phone_room, SAY_PHONES),
-                               min(number_room, SAY_NUMBERS))
+                               min(number_room, SAY_NUMBERS), self.lent_list())
         return answer if isinstance(answer, Refusal) else self.spoken(answer, 0)
 
     def spoken(self, answer, steps):
@@ -696,13 +866,54 @@ class Monitor:
         self.hold(EMPTY)
         return frame_line(b"\x06")
 
+    def list_name(self, length, data):
+        if len(data) < length:
+            return UNSOUND
+        return self.list_changed(list_name(self.lent_list(), data[:length], data[length:]))
+
+    def unlist_name(self, name):
+        return self.list_changed(unlist_name(self.lent_list(), name))
+
+    def list_changed(self, refused):
+        return refused or frame_line(b"\x06" + two(len(self.listed.phones)) + two(self.listed.states()))
+
+    def read_out(self, room):
+        data = read_out(self.lent_list(), min(room, LONGEST_READ_OUT))
+        if isinstance(data, Refusal):
+            return data
+        self.told[:len(data)] = data
+        return frame_line(b"\x06" + four(len(data)))
+
+    def show_read_out(self, index, count):
+        if index + count > LONGEST_READ_OUT:
+            return UNSOUND
+        return frame_line(b"\x0A" + bytes(self.told[index:index + count]))
+
+    def clear_list(self):
+        if self.units < LIST_UNITS:
+            return Refusal(17, 0)
+        self.listed = Exceptions()
+        return frame_line(b"\x06")
+
+    def lend_units(self, units):
+        self.units = min(units, LIST_UNITS)
+        return frame_line(b"\x06")
+
+    def store_unit(self, index, value):
+        if index >= LIST_UNITS:
+            return UNSOUND
+        self.listed = UNKNOWN
+        return frame_line(b"\x06")
+
     # First byte: the call and the sizes of its fixed fields.
     COMMANDS = {
         0x10: (add, 2, 1, 1, 1, 1), 0x11: (drop, 2), 0x12: (move, 2, 2), 0x13: (read,),
         0x14: (write, 4), 0x15: (build, 4, 4), 0x16: (walk, 4, 4, 2, 2), 0x17: (plain, 2, 2),
         0x18: (store_word, 4, 2), 0x19: (store_set, 4, 8), 0x1A: (show_words, 4, 1),
         0x1B: (show_sets, 4, 1), 0x1C: (show_phones,), 0x1D: (show_numbers,),
-        0x1E: (force, 2, 2, 2, 2), 0x1F: (clear,),
+        0x1E: (force, 2, 2, 2, 2), 0x1F: (clear,), 0x20: (list_name, 1), 0x21: (unlist_name,),
+        0x22: (read_out, 4), 0x23: (show_read_out, 4, 1), 0x24: (clear_list,), 0x25: (lend_units, 4),
+        0x26: (store_unit, 4, 4),
     }
 
 
@@ -712,7 +923,7 @@ def monitor(rules_hex, data):
     return b"".join(held.answer(line) for line in lines_of(data))
 
 
-# Self-test: document 01's examples and numbers ----------------------------------------
+# Self-test: the documents' examples and numbers ----------------------------------------
 
 SIX_FILE = b"""010100060006F2
 02000101010100000B0EE1
@@ -742,7 +953,7 @@ class Check:
             self.passed += 1
         else:
             self.failed += 1
-            print(f"FAILED {what}: got {got!r}, document 01 says {wanted!r}")
+            print(f"FAILED {what}: got {got!r}, wanted {wanted!r}")
 
 
 def check_edits(check):
@@ -872,6 +1083,98 @@ def check_reading(check, six):
         check.equal("16: " + what, walk(six, *lent, letters("ee"), *room), (Refusal(16, 0), 0))
 
 
+def check_list(check, six):
+    """The list's changes, its states, its read-out, and names said from it."""
+    knee, said = letters("knee"), b"\x6B\xFF"
+    check.equal("an empty list", (NO_EXCEPTIONS.states(), states_of({}), read_out(NO_EXCEPTIONS, 0)), (1, 1, b""))
+    for names, states in [
+            ("a", 2), ("ab", 3), ("a ab", 3), ("ab cb", 3), ("ab b", 3), ("ab bb cb", 3), ("ab ac", 3), ("aa ab ba", 4),
+            ("aa ab ba bb", 3), ("aab bab", 4), ("a aa aaa", 4), ("a b ab ba", 4), ("abc adc bc", 4)]:
+        phones = {letters(name): said for name in names.split()}
+        check.equal(f"states of {names}", (Exceptions(phones).states(), states_of(phones)), (states, states))
+    check.equal("other phones, other ends", Exceptions({b"\1\2": b"\1", b"\3\2": b"\2"}).states(), 5)
+
+    listed = Exceptions()
+    full = Exceptions({bytes([1 + k // 32, 1 + k % 32]): said for k in range(1_000)})
+    # After 31 first letters the same 32 follow, after one fewer.
+    check.equal("the most names", (len(full.phones), full.states()), (1_000, 1 + 2 + 1))
+    # Names of 64 letters, phones of their own: 64 states each, or 63 where the first letter is shared.
+    wide = Exceptions({bytes([k]) * 64: bytes([k]) for k in range(1, 64)})
+    wide.put(b"\1" + b"\2" * 63, b"\x40")
+    check.equal("the most states", (1 + 63 * 64 + 63, wide.states()), (4_096, 4_096))
+    # The four names of two letters have two states; without one of them, or with other phones for it, more.
+    tight = Exceptions({bytes([k]) * 64: bytes([k]) for k in range(1, 62)})
+    for k in (1, 2, 3):
+        tight.put(bytes([k]) + bytes([k + 1]) * 63, bytes([0x40 + k]))
+    for name in (b"\x3E\1", b"\x3E\2", b"\x3F\1", b"\x3F\2"):
+        tight.put(name, said)
+    check.equal("the most states, some shared", (1 + 61 * 64 + 3 * 63 + 2, tight.states()), (4_096, 4_096))
+    for what, got, wanted in [
+            ("17: no list", list_name(None, b"\x40" * 65, b""), (17, 0)),
+            ("2: 65 letters", list_name(listed, b"\x40" * 65, b""), (2, 0)),
+            ("1: a byte 40", list_name(listed, b"\5\x40\0", b""), (1, 1)),
+            ("17: no letters", list_name(listed, b"", said), (17, 0)),
+            ("17: no phones", list_name(listed, knee, b""), (17, 0)),
+            ("17: 65 phones", list_name(listed, knee, b"\1" * 65), (17, 0)),
+            ("17: a phone 00", list_name(listed, knee, b"\1\0"), (17, 0)),
+            ("added", list_name(listed, knee, said), None),
+            ("replaced", list_name(listed, knee, b"\1" * 64), None),
+            ("the longest name", list_name(listed, b"\x3F" * 64, said), None),
+            ("17: removed from no list", unlist_name(None, b"\x40" * 65), (17, 0)),
+            ("2: removed", unlist_name(listed, b"\x40" * 65), (2, 0)),
+            ("1: removed", unlist_name(listed, b"\0"), (1, 0)),
+            ("18: no letters", unlist_name(listed, b""), (18, 0)),
+            ("18: a prefix", unlist_name(listed, knee[:3]), (18, 0)),
+            ("removed", unlist_name(listed, b"\x3F" * 64), None),
+            ("18: removed already", unlist_name(listed, b"\x3F" * 64), (18, 0)),
+            ("17 before 19", list_name(full, b"\1", b""), (17, 0)),
+            ("19: 1,001 names", list_name(full, b"\1", said), (19, 0)),
+            ("19: 4,097 states", list_name(wide, b"\1\3", said), (19, 0)),
+            ("no state more", list_name(wide, b"\1\2", said), None),
+            ("19 by adding", list_name(tight, b"\x23\1", b"\x7F"), (19, 0)),
+            ("19 by replacing", list_name(tight, b"\x3E\1", b"\1"), (19, 0)),
+            ("19 by removing", unlist_name(tight, b"\x3E\1"), (19, 0)),
+            ("18 before 19", unlist_name(tight, b"\x3E\3"), (18, 0)),
+            ("the same phones again", list_name(tight, b"\x3E\1", said), None),
+            ("a long one removed", unlist_name(tight, b"\1" * 64), None),
+            ("then another", unlist_name(tight, b"\x3E\1"), None),
+            ("replaced among 1,000", list_name(full, b"\1\1", b"\1"), None)]:
+        check.equal("list, " + what, got, wanted)
+    check.equal("a list after its changes", listed.phones, {knee: b"\1" * 64})
+    for some in (listed, full, wide, tight):
+        check.equal("states kept and by definition", some.states(), states_of(some.phones))
+
+    told = bytes.fromhex("01010109" "0201010207 08".replace(" ", "") + "01020109")
+    some = Exceptions({b"\2": b"\x09", b"\1\1": b"\7\x08", b"\1": b"\x09"})
+    check.equal("read-out", read_out(some, 14), told)
+    check.equal("15", read_out(some, 13), (15, 14))
+    check.equal("17 before 15", read_out(None, 0), (17, 0))
+    check.equal("and back", listed_in(told).phones, some.phones)
+    for what, data in [("out of order", told[4:] + told[:4]), ("twice", told + told[-4:]), ("cut", told[:-1]),
+                       ("no phones", b"\1\1\0"), ("no letters", b"\0\1\1"), ("a byte 40", b"\1\x40\1\1")]:
+        check.equal("no read-out: " + what, listed_in(data), None)
+    longest = {bytes([1]) * 54 + bytes(1 + (k >> j & 1) for j in range(10)): b"\1" * 64 for k in range(1_000)}
+    check.equal("the longest read-out", len(read_out_of(longest)), LONGEST_READ_OUT)
+
+    words, sets = build(six, 642, 80)
+    listed.put(knee, said)
+    for what, rs, lent, name, room, wanted in [
+            ("a listed name", six, listed, knee, 2, Spoken(said, ())),
+            ("4", six, listed, knee, 1, Refusal(4, 2)),
+            ("another name", six, listed, knee[:2], 2, Spoken(b"\x6E", (1, 6))),
+            ("no letters", six, listed, b"", 0, Spoken(b"", ())),
+            ("0 before 17", Ruleset((Numbered(7, SIX_RULES[0]),), 6), None, knee, 2, Refusal(0, 0)),
+            ("17 before 2", six, None, b"\1" * 65, 2, Refusal(17, 0)),
+            ("2", six, listed, b"\1" * 65, 2, Refusal(2, 0)),
+            ("1", six, listed, knee + b"\0", 2, Refusal(1, 4)),
+            ("no rules", EMPTY, listed, knee, 2, Spoken(said, ()))]:
+        check.equal("list: " + what, plain_reading(rs, name, room, 9, lent), wanted)
+        steps = 2 * len(name) + 2 if isinstance(wanted, Spoken) and wanted.phones != said else 0
+        check.equal("list: " + what + ", walk", walk(rs, words, sets, name, room, 9, lent), (wanted, steps))
+    check.equal("the list before 16", walk(six, words[:1], sets, knee, 2, 0, listed), (Spoken(said, ()), 0))
+    check.equal("4 before 16", walk(six, words[:1], sets, knee, 0, 0, listed), (Refusal(4, 2), 0))
+
+
 def check_tables(check):
     """The quick table against the definition, and the bounds on states."""
     rules = [Rule(bytes([0, 1, 2, 1][:k % 5]), bytes([1 + k % 2] * (1 + k % 3)), bytes([2, 1, 0][3 - k % 4:]))
@@ -934,6 +1237,36 @@ def check_programs(check, six):
                   else frame_line(bytes.fromhex(wanted)))
         check.equal("monitor: " + what, answer, wanted)
     check.equal("monitor: phones", held.answer(b"1CE4"), frame_line(b"\x0A\x6E\x69" + b"\xEE" * 254))
+    for what, body, wanted in [
+            ("list a name", "2002050561", "0600010003"),
+            ("list another", "20020B0561", "0600020003"),
+            ("cut short", "200205", "050D00000000"),
+            ("no length", "20", "050D00000000"),
+            ("no phones", "20020505", "051100000000"),
+            ("replace", "20020B056263", "0600020005"),
+            ("read out, short", "220000000A", "050F" + "0000000B"),
+            ("read out", "220000000B", "06" + "0000000B"),
+            ("show it", "23000000000C", "0A" + "0205050161" + "020B05026263" + "EE"),
+            ("show its last", "230001FBCF01", "0AEE"),
+            ("outside", "230001FBD001", "050D00000000"),
+            ("none outside", "230001FBD000", "0A"),
+            ("walk a listed name", "16FFFFFFFFFFFFFFFF010000400B05", "04000000026263" + "00"),
+            ("walk it, phones short", "16FFFFFFFFFFFFFFFF000100400B05", "080000" + "04" + "00000002"),
+            ("read it", "17010000400B05", "04000000026263" + "00"),
+            ("read it, phones short", "17000100400B05", "050400000002"),
+            ("lend less", "2500008C2D", "06"),
+            ("no list", "20020B0561", "051100000000"),
+            ("no list, walk", "16FFFFFFFFFFFFFFFF0100004040", "0800001100000000"),
+            ("no list, clear", "24", "051100000000"),
+            ("lend all", "25FFFFFFFF", "06"),
+            ("remove", "210505", "0600010003"),
+            ("remove again", "210505", "051200000000"),
+            ("store outside", "2600008C2E00000000", "050D00000000"),
+            ("store", "2600000000FFFFFFFF", "06"),
+            ("empty the list", "24", "06"),
+            ("read out nothing", "2200000000", "0600000000"),
+            ("what was read out", "230000000003", "0A020505")]:
+        check.equal("monitor: " + what, held.answer(frame_line(bytes.fromhex(body))[:-1]), frame_line(bytes.fromhex(wanted)))
     too_long = frame_line(bytes.fromhex("050200000000"))
     for digits, wanted in [(4_095, UNSOUND), (4_096, too_long), (4_097, UNSOUND), (4_098, UNSOUND)]:
         line = frame_line(b"\x17" + bytes(4) + b"\5" * (digits // 2 - 6))[:-1].ljust(digits, b"0")
@@ -945,6 +1278,7 @@ def self_test():
     six = check_edits(check)
     check_file(check, six)
     check_reading(check, six)
+    check_list(check, six)
     check_tables(check)
     check_programs(check, six)
     print(f"{check.passed} passed, {check.failed} failed")
@@ -969,7 +1303,11 @@ def main(arguments):
         held = Monitor()
         for line in sys.stdin.buffer:
             held.rules_hex = rules_hex_here()
-            sys.stdout.buffer.write(held.answer(line[:-1] if line.endswith(b"\n") else None))
+            try:
+                answer = held.answer(line[:-1] if line.endswith(b"\n") else None)
+            except Unspecified:
+                sys.exit(f"reference: {Unspecified.__doc__}")
+            sys.stdout.buffer.write(answer)
             sys.stdout.buffer.flush()
         return 0
     print(__doc__)

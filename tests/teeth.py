@@ -11,7 +11,7 @@ import types
 import generate
 import reference as ref
 
-# (what, line of reference.py, what stands there instead, programs that must show it)
+# (what, line of reference.py, what stands there instead, runs that must show it)
 FAULTS = [
     ("stops before the last letter", "    framed, n, i = frame_name(name), len(name), 1\n",
      "    framed, n, i = frame_name(name), len(name) - 1, 1\n", "monitor"),
@@ -74,6 +74,54 @@ FAULTS = [
      "    cut = lambda line: [line[k:k + MONITOR_LINE] for k in range(0, len(line), MONITOR_LINE)] if line else [line]\n"
      "    return b\"\".join(held.answer(part) for line in lines_of(data) for part in cut(line))\n", "monitor"),
     ("lent bytes above 29,199", "min(room, LONGEST_FILE)", "room & 0xFFFF", "monitor"),
+    # The exceptions list.
+    ("a listed name by the rules", "    phones = listed.phones.get(bytes(name))\n", "    phones = None\n", "monitor lists"),
+    ("a listed name by a walk with steps", "    if answer:\n        return answer, 0\n",
+     "    if answer:\n        return answer, 0 if isinstance(answer, Refusal) else 2 * len(name) + 2\n", "monitor lists"),
+    ("4 forgotten for a listed name", "    return room_refusal(phones, (), phone_room, 0) or Spoken(phones, ())\n",
+     "    return Spoken(phones, ())\n", "monitor lists"),
+    ("17 before 0", "    if not is_ruleset(rs):\n        return Refusal(0, 0)\n    if listed is None:\n        return Refusal(17, 0)\n",
+     "    if listed is None:\n        return Refusal(17, 0)\n    if not is_ruleset(rs):\n        return Refusal(0, 0)\n", "lists"),
+    ("17 of the entry before 2 and 1", "    if refused:\n        return refused\n    if not is_entry(name, phones):\n",
+     "    if refused and is_entry(b'\\1', phones):\n        return refused\n    if not is_entry(name, phones):\n", "lists"),
+    ("a name of no letters", "    return (1 <= len(name) <= MAX_NAME and", "    return (len(name) <= MAX_NAME and", "lists"),
+    ("a phone 00", " and 0 not in phones)\n", ")\n", "lists"),
+    ("63 phones at most", "MAX_LISTED_PHONES = 64\n", "MAX_LISTED_PHONES = 63\n", "lists"),
+    ("65 phones", "MAX_LISTED_PHONES = 64\n", "MAX_LISTED_PHONES = 65\n", "lists"),
+    ("the first phones stay", "        if before is not None:\n            self.count(name, before, -1)\n        if phones is not None:\n",
+     "        if before is not None and phones is not None:\n            phones = before\n"
+     "        if before is not None:\n            self.count(name, before, -1)\n        if phones is not None:\n", "lists"),
+    ("states that are not shared", "        return max(1, len(self.prefixes))\n", "        return max(1, len(self.endings))\n", "monitor lists"),
+    ("the start not counted", "        return max(1, len(self.prefixes))\n", "        return max(1, len(self.prefixes)) - 1\n", "lists"),
+    ("states shared by other phones", "sign * digest(name[at:], phones)", "sign * digest(name[at:], b'')", "lists"),
+    ("phones at a name's start", "    return int.from_bytes(blake2b(bytes([len(ending)]) + ending + phones,",
+     "    return int.from_bytes(blake2b(bytes([len(ending)]) + ending + (phones if len(ending) > 1 else b''),", "lists"),
+    ("states of removed names", "            self.count(name, before, -1)\n", "            pass\n", "lists"),
+    ("1,001 names", "MAX_LISTED = 1_000 ", "MAX_LISTED = 1_001 ", "lists"),
+    ("999 names at most", "MAX_LISTED = 1_000 ", "MAX_LISTED = 999 ", "lists"),
+    ("4,097 states", "MAX_STATES = 4_096\n", "MAX_STATES = 4_097\n", "lists"),
+    ("4,095 states at most", "MAX_STATES = 4_096\n", "MAX_STATES = 4_095\n", "lists"),
+    ("a change refused by 19 stays", "    listed.put(name, before)\n", "    pass\n", "lists"),
+    ("a removal is never too much", "    if listed.within():\n", "    if phones is None or listed.within():\n", "lists"),
+    ("other phones are never too much", "    if listed.within():\n", "    if before and phones or listed.within():\n", "lists"),
+    ("a prefix counts as listed", "    if name not in listed.phones:\n", "    if name not in listed.endings:\n", "lists"),
+    ("continuations before the name", " in sorted(phones.items()))\n",
+     " in sorted(phones.items(), key=lambda entry: entry[0] + b'\\x40'))\n", "lists"),
+    ("short names first", " in sorted(phones.items()))\n",
+     " in sorted(phones.items(), key=lambda entry: (len(entry[0]), entry[0])))\n", "lists"),
+    ("15 one too many", "    return data if len(data) <= room else Refusal(15, len(data))\n",
+     "    return data if len(data) < room else Refusal(15, len(data))\n", "lists"),
+    ("more than 130,000 bytes lent", "min(room, LONGEST_READ_OUT)", "room & 0xFFFF", "lists"),
+    ("bytes past the read-out cleared", "        self.told[:len(data)] = data\n",
+     "        self.told[:] = data.ljust(LONGEST_READ_OUT, b'\\0')\n", "lists"),
+    ("a refused read-out writes", "        if isinstance(data, Refusal):\n            return data\n        self.told",
+     "        if isinstance(data, Refusal):\n            self.told[0] = 0\n            return data\n        self.told", "lists"),
+    ("the read-out's last byte outside", "        if index + count > LONGEST_READ_OUT:\n",
+     "        if index + count >= LONGEST_READ_OUT:\n", "lists"),
+    ("a name without phones cut short", "        if len(data) < length:\n", "        if len(data) <= length:\n", "lists"),
+    ("35,885 units suffice", "        if self.units < LIST_UNITS:\n", "        if self.units < LIST_UNITS - 1:\n", "lists"),
+    ("a clear that empties the list too", "        self.hold(EMPTY)\n        return frame_line",
+     "        self.hold(EMPTY)\n        self.listed = Exceptions()\n        return frame_line", "monitor"),
 ]
 
 
@@ -87,11 +135,11 @@ def faulty(old, new):
     return module
 
 
-def shown_by(module, program, cases):
+def shown_by(module, kind, cases):
     """The first run in which the fault shows, or None."""
     for which, (rules_hex, lines, expected) in cases:
         try:
-            if getattr(module, program)(rules_hex, b"".join(lines)) != expected:
+            if getattr(module, generate.PROGRAMS[kind])(rules_hex, b"".join(lines)) != expected:
                 return which
         except Exception:       # a fault that stops the copy shows too
             return which
@@ -103,14 +151,15 @@ def main():
     parser.add_argument("--count", type=int, default=300)
     parser.add_argument("--seed", type=int, default=1)
     given = parser.parse_args()
-    cases = {program: list(generate.runs(program, given.count, given.seed)) for program in generate.CASES}
+    counts = {kind: given.count // 10 if kind == "lists" else given.count for kind in generate.CASES}     # those are long
+    cases = {kind: list(generate.runs(kind, count, given.seed)) for kind, count in counts.items()}
     passed = failed = 0
-    for what, old, new, programs in FAULTS:
+    for what, old, new, kinds in FAULTS:
         module = faulty(old, new)
-        for program in programs.split():
-            which = shown_by(module, program, cases[program])
+        for kind in kinds.split():
+            which = shown_by(module, kind, cases[kind])
             passed, failed = passed + (which is not None), failed + (which is None)
-            print(f"{what}: " + (f"{program}, {which}" if which is not None else f"NOT SHOWN by {program}"), flush=True)
+            print(f"{what}: " + (f"{kind}, {which}" if which is not None else f"NOT SHOWN by {kind}"), flush=True)
     print(f"{passed} passed, {failed} failed")
     return 1 if failed else 0
 

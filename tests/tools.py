@@ -181,6 +181,30 @@ def monitor(tools):
     tools.expect(["monitor.py", "--program", "true one"], 1, "> read\n", "monitor: the program has ended\n", given=b"read\n")
     tools.expect(["monitor.py", "--frames"], 2, "1FE1\n", "monitor: standard input: line 2: unknown command fly: see help\n",
                  given=b"clear\nfly\n")
+    for text, frames in [
+            ("exception knee = 6E 69", "20040B0E05056E69E2"), ("exception k e=61", "20030B3F05612D"), ("exception =", "2000E0"),
+            ("remove knee", "210B0E0505BC"), ("remove", "21DF"), ("exceptions", "22FFFFFFFFE2"), ("readout bytes=11", "220000000BD3"),
+            ("show readout 2 255", "2300000002FFDC"), ("clear list", "24DC"), ("lend 35885", "2500008C2D22"), ("lend all", "25FFFFFFFFDF"),
+            ("store unit 1 0xFF", "2600000001000000FFDA"), ("repeat 2 remove @", "210101DD\n210102DC"),
+            ("repeat 1 exception @@ = @61", "20040101010101016175")]:
+        tools.expect(["monitor.py", "--frames"], 0, frames + "\n", given=text.encode())
+    tools.expect(["monitor.py"], 0, "> exception k n = 61\ndone, names 1, states 4\n> exception \\1D = 6263\ndone, names 2, states 5\n"
+                                    "> exceptions\nk_n = 61\n\\1D = 62 63\n> plain k_n\n61 by no rules, 0 steps\n"
+                                    "> remove k n\ndone, names 1, states 2\n> clear list\ndone\n> exceptions\nno names\n",
+                 given=b"exception k n = 61\nexception \\1D = 6263\nexceptions\nplain k_n\nremove k n\nclear list\nexceptions\n")
+    tools.expect(["monitor.py", "--rules", os.path.join(tools.root, "examples", "basque.hex")], 0,
+                 "> exception ñ = 61\ndone, names 1, states 2\n> exceptions\nñ = 61 [a]\n", given="exception ñ = 61\nexceptions\n".encode())
+    names = "".join(f"{letter}{letter}{letter} = 61 62 63\n" for letter in "abcdefghijklmnopqrstuvwxyz")
+    tools.expect(["monitor.py"], 0, "".join(f"> exception {line}\ndone, names {k}, states {2 + 2 * k}\n"
+                                            for k, line in enumerate(names.splitlines(), 1)) + f"> exceptions\n{names}",
+                 given="".join(f"exception {line}\n" for line in names.splitlines()).encode() + b"exceptions\n")
+    for text, fault in [("exception knee 61", "write exception NAME = PHONES"),
+                        ("exception k = 6", "'6' is not bytes in hexadecimal, two digits each"),
+                        (f"exception {'k' * 256} = 61", "a length has one byte"), ("clear all", "clear or clear list"),
+                        ("lend some", "'some' is no number"), ("lend 4294967296", "4294967296 does not fit into 4 bytes"),
+                        ("store list 0 0", "store word, store set or store unit"), ("exceptions now", "exceptions has other fields: see help"),
+                        ("show readout", "show words, sets or readout INDEX COUNT, show phones or show numbers")]:
+        tools.expect(["monitor.py"], 2, f"> {text}\nmonitor: {fault}\n", given=text.encode() + b"\n")
 
 
 def terminal(tools):

@@ -8,6 +8,7 @@ from frames import four, two
 from inputs import Mistake
 
 ALL = 0xFFFFFFFF        # more than there is of anything counts as all
+MOST_SHOWN = 255        # bytes of the read-out that one command shows
 
 
 def number(text, bits):
@@ -82,21 +83,47 @@ class Commands:
             return b"\x18" + four(number(index, 32)) + two(number(value, 16))
         if what == "set":
             return b"\x19" + four(number(index, 32)) + number(value, 64).to_bytes(8, "big")
-        raise Mistake("store word or store set")
+        if what == "unit":
+            return b"\x26" + four(number(index, 32)) + four(number(value, 32))
+        raise Mistake("store word, store set or store unit")
 
     def show(self, what, *words):
         if what in ("phones", "numbers") and not words:
             return b"\x1C" if what == "phones" else b"\x1D"
-        if what in ("words", "sets") and len(words) == 2:
-            kind = b"\x1A" if what == "words" else b"\x1B"
-            return kind + four(number(words[0], 32)) + bytes([number(words[1], 8)])
-        raise Mistake("show words INDEX COUNT, show sets INDEX COUNT, show phones or show numbers")
+        kinds = {"words": b"\x1A", "sets": b"\x1B", "readout": b"\x23"}
+        if what in kinds and len(words) == 2:
+            return kinds[what] + four(number(words[0], 32)) + bytes([number(words[1], 8)])
+        raise Mistake("show words, sets or readout INDEX COUNT, show phones or show numbers")
 
     def force(self, place, which, count, last):
         return b"\x1E" + b"".join(two(number(field, 16)) for field in (place, which, count, last))
 
-    def clear(self):
-        return b"\x1F"
+    def clear(self, *what):
+        if what not in ((), ("list",)):
+            raise Mistake("clear or clear list")
+        return b"\x24" if what else b"\x1F"
+
+    def exception(self, *typed):
+        name, equals, phones = " ".join(typed).partition("=")
+        if not equals:
+            raise Mistake("write exception NAME = PHONES")
+        name = self.alphabet.name(name.strip())
+        if len(name) > 255:
+            raise Mistake("a length has one byte")
+        return b"\x20" + bytes([len(name)]) + name + ruletext.hex_bytes(phones)
+
+    def remove(self, *name):
+        return b"\x21" + self.alphabet.name(" ".join(name))
+
+    def readout(self, *typed):
+        room, = only_lent(typed, bytes=ALL)
+        return b"\x22" + four(room)
+
+    def exceptions(self):
+        return self.readout()
+
+    def lend(self, units):
+        return b"\x25" + four(ALL if units == "all" else number(units, 32))
 
     def frame(self, *words):
         return ruletext.hex_bytes(" ".join(words))
@@ -117,8 +144,22 @@ def line_for(text, alphabet):
     return frames.frame(call(*rest))
 
 
+def read_out_lines(size):
+    """The lines that ask for so many bytes of the read-out."""
+    return [frames.frame(b"\x23" + four(at) + bytes([min(MOST_SHOWN, size - at)])) for at in range(0, size, MOST_SHOWN)]
+
+
 def repeated(text):
-    """(times, command)."""
+    """The commands that a text stands for: itself, or as many as repeat says."""
     word, _, rest = text.partition(" ")
     times, _, command = rest.strip().partition(" ")
-    return (number(times, 16), command.strip()) if word == "repeat" and command else (1, text)
+    if word != "repeat" or not command:
+        return [text]
+    return [counted(command.strip(), k) for k in range(number(times, 16))]
+
+
+def counted(command, k):
+    """@ stands for two letters, behind = for two phones, that are others each time."""
+    pair = 1 + k // ruletext.SPACE % ruletext.SPACE, 1 + k % ruletext.SPACE
+    symbols, equals, phones = command.partition("=")
+    return symbols.replace("@", "\\%02X\\%02X" % pair) + equals + phones.replace("@", "%02X%02X" % pair)

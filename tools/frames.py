@@ -20,8 +20,11 @@ REFUSALS = {
     12: "too few set words for the tables",
     13: "a line is missing, not ended, or not sound",
     14: "a sound line breaks the file's form",
-    15: "the file is longer than the lent bytes",
+    15: "the file or read-out is longer than the lent bytes",
     16: "the tables are unusable",
+    17: "the exceptions list is none, or the name has no letters or a bad phone string",
+    18: "the name is not on the exceptions list",
+    19: "the exceptions list would have over 1,000 names or 4,096 states",
 }
 
 
@@ -92,14 +95,20 @@ def refusal_text(number, place):
     return f"refused {number} at {place}: {REFUSALS.get(number, 'a refusal unknown to this tool')}"
 
 
+def phones_text(phones, alphabet):
+    """In hexadecimal, and as sounds where they are known."""
+    said = " ".join(f"{p:02X}" for p in phones)
+    if alphabet.phones and phones:
+        said += " [" + "".join(alphabet.phones.get(p, "?") for p in phones) + "]"
+    return said
+
+
 def spoken_text(body, alphabet):
     """An 04 frame: steps (2), phone count (2), phones, rule count (1), numbers (2 each)."""
     steps, count = number_of(body[1:3]), number_of(body[3:5])
     phones, rest = body[5:5 + count], body[5 + count:]
     numbers = [number_of(rest[k:k + 2]) for k in range(1, len(rest), 2)]
-    said = " ".join(f"{p:02X}" for p in phones) or "nothing"
-    if alphabet.phones and phones:
-        said += " [" + "".join(alphabet.phones.get(p, "?") for p in phones) + "]"
+    said = phones_text(phones, alphabet) or "nothing"
     by = {0: "no rules", 1: "rule "}.get(len(numbers), "rules ") + " ".join(map(str, numbers))
     return f"{said} by {by}, {steps} steps"
 

@@ -12,9 +12,18 @@
     show phones                   show numbers
     force PLACE NUMBER COUNT LAST overwrites the number at a place, the count and last, unchecked
     clear                         the empty ruleset again
+    exception NAME = PHONES       lists a name that follows no rule, e.g. exception knee = 6E 69 (a listed one's phones are replaced)
+    remove NAME                   takes it off the list
+    exceptions                    the list read out, as names with their phones
+    readout [bytes=N]             only reads it out into the read-out's bytes
+    show readout INDEX COUNT      shows some of them
+    clear list                    the empty list again
+    lend UNITS                    lends so many units of the list's memory from now on; lend all
+    store unit INDEX VALUE        overwrites one of them, unchecked
     frame BYTES                   any bytes as a frame, the sum added
     line TEXT                     any text as a line, sound or not
-    repeat N COMMAND              the same command N times, the last answer shown
+    repeat N COMMAND              the same command N times, the last answer shown; @ in it stands for
+                                  two letters (two phones behind =) that are others each time
     help                          quit
 
 Numbers are decimal or 0x hexadecimal. All that is not lent by name=N is lent whole.
@@ -22,7 +31,7 @@ Numbers are decimal or 0x hexadecimal. All that is not lent by name=N is lent wh
 
     python3 tools/monitor.py --rules examples/six.hex
     printf 'read\\nbuild\\nsay knee\\n' | python3 tools/monitor.py --rules examples/six.hex
-    printf 'say knee\\n' | python3 tools/monitor.py --frames        only print the frames
+    printf 'say knee\\n' | python3 tools/monitor.py --frames        only print the frames (of `exceptions`, its first)
 """
 
 import argparse
@@ -47,7 +56,7 @@ def shown_text(command, data):
     kind = command[0]
     width = {0x1A: 2, 0x1B: 8, 0x1C: 1, 0x1D: 2}.get(kind, 1)
     each = {1: 16, 2: 16, 8: 4}[width]
-    start = number_of(command[1:5]) if kind in (0x1A, 0x1B) else 0
+    start = number_of(command[1:5]) if kind in (0x1A, 0x1B, 0x23) else 0
     items = [data[k:k + width].hex().upper() for k in range(0, len(data), width)]
     alike = len(items)      # where the run of equal items at the end begins, if it is worth a line of its own
     while alike > 0 and items[alike - 1] == items[-1]:
@@ -59,27 +68,52 @@ def shown_text(command, data):
     return "\n".join(rows) or "nothing"
 
 
+def done_text(kind, data):
+    """An 06 frame: what the command tells of what it did."""
+    fields = [number_of(data[k:k + 2]) for k in range(0, len(data), 2)]
+    if kind == 0x22:
+        return f"done, {number_of(data)} bytes"
+    if len(fields) == 2 and kind == 0x15:
+        lefts, rights = fields
+        states = lefts + rights
+        return f"done, {lefts} left and {rights} right states, {2 + 64 * states} words, {8 * states} set words"
+    if len(fields) == 2:
+        return f"done, names {fields[0]}, states {fields[1]}"
+    return "done" + (f", last {fields[0]}" if fields else "")
+
+
+def listed_text(data, alphabet):
+    """A read-out: each name with its phones on a line."""
+    rows = []
+    while data:
+        name, data = counted_bytes(data)
+        phones, data = counted_bytes(data)
+        rows.append(f"{alphabet.text(name)} = {frames.phones_text(phones, alphabet)}")
+    return "\n".join(rows) or "no names"
+
+
+def counted_bytes(data):
+    """(the bytes that a length byte tells, what follows them)."""
+    if not data or len(data) <= data[0]:
+        raise Failure("a read-out that is cut off")
+    return data[1:1 + data[0]], data[1 + data[0]:]
+
+
 def answer_text(sent, answer, alphabet):
     body = frames.body_of(answer)
     try:
         command = frames.body_of(sent)
     except Failure:                     # an unsound line was sent on purpose
         command = b"\0"
-    fields = [number_of(body[k:k + 2]) for k in range(1, len(body), 2)]
-    if body[0] == 0x06 and len(fields) == 2:
-        lefts, rights = fields
-        states = lefts + rights
-        return f"done, {lefts} left and {rights} right states, {2 + 64 * states} words, {8 * states} set words"
     if body[0] == 0x06:
-        return "done" + (f", last {fields[0]}" if fields else "")
+        return done_text(command[0], body[1:])
     if body[0] == 0x0A:
         return shown_text(command, body[1:])
     return frames.answer_text(answer, alphabet)
 
 
-def converse(child, text, alphabet):
-    """Sends one command and reads its whole answer: of a file, as many lines as its head says."""
-    sent = commands.line_for(text, alphabet)
+def exchanged(child, sent):
+    """Sends one line and reads its answer's first."""
     try:
         child.stdin.write(sent)
         child.stdin.flush()
@@ -87,7 +121,16 @@ def converse(child, text, alphabet):
         with contextlib.suppress(BrokenPipeError):
             child.stdin.close()         # drops what could not be sent
         raise Failure("the program has ended") from None
-    answer = answer_line(child)
+    return answer_line(child)
+
+
+def converse(child, text, alphabet):
+    """Sends one command and reads its whole answer: of a file, as many lines as its head says."""
+    sent = commands.line_for(text, alphabet)
+    answer = exchanged(child, sent)
+    if text == "exceptions" and answer.startswith(b"06"):
+        asked = commands.read_out_lines(number_of(frames.body_of(answer)[1:]))
+        return listed_text(b"".join(frames.body_of(exchanged(child, line))[1:] for line in asked), alphabet)
     if not answer.startswith(b"01"):
         return answer_text(sent, answer, alphabet)
     count = number_of(frames.body_of(answer)[2:4])
@@ -105,8 +148,7 @@ def obey(child, text, alphabet):
     """One command as typed, to its last answer."""
     if text == "help":
         return re.sub(r"(?s)\n    python3.*", "", __doc__.partition("\n\n")[2])
-    times, command = commands.repeated(text)
-    answers = [converse(child, command, alphabet) for _ in range(times)]
+    answers = [converse(child, command, alphabet) for command in commands.repeated(text)]
     return answers[-1] if answers else ""
 
 
@@ -138,8 +180,8 @@ def print_frames(alphabet):
         text = inputs.decoded_line(number, line)
         if text:
             try:
-                times, command = commands.repeated(text)
-                sys.stdout.buffer.write(times * commands.line_for(command, alphabet))
+                for command in commands.repeated(text):
+                    sys.stdout.buffer.write(commands.line_for(command, alphabet))
             except Mistake as mistake:
                 raise Mistake(f"standard input: line {number}: {mistake}") from None
 

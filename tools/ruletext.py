@@ -37,6 +37,11 @@ class Alphabet:
         """The bytes of a typed name."""
         return codes(composed(text), ".", self.letters)
 
+    def text(self, name):
+        """A name as it can be typed."""
+        typed = {code: letter for letter, code in self.letters.items()}
+        return "".join(typed.get(code, f"\\{code:02X}") for code in name)
+
     def symbols(self, text, at=0):
         """A context or target: letters, # and _, spaces between them free."""
         return codes(text, r"\S", {**self.letters, "#": BOUNDARY}, at)

@@ -1,5 +1,5 @@
-//! Tries the static library from outside, through host/pirrozketa.h, against an implementation of document
-//! 01 that was written from the paper alone. Run by tests/library/run.
+//! Tries the static library from outside, through host/pirrozketa.h, against an implementation of documents
+//! 01 and 02 that was written from the papers alone. Run by tests/library/run.
 //!
 //!     --count N     rounds of random trials
 //!     --seed S      the first round's seed; round k has seed S + k, so each can be repeated alone
@@ -36,7 +36,11 @@ fn main() -> ExitCode {
         trials::round(&mut tally, wish.seed.wrapping_add(round));
     }
     tally.trial = "all trials".to_string();
-    tally.check_met(&lent::NAMED);
+    // A reference that is wrong must be noticed by what it says, not by trials left out for it.
+    if broken::whole() {
+        tally.check_met(&lent::NAMED);
+    }
+    tally.print_counts();
     println!("{} passed, {} failed", tally.passed, tally.failed);
     ExitCode::from((tally.failed > 0 || tally.passed == 0) as u8)
 }

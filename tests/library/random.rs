@@ -33,6 +33,10 @@ impl Random {
         items[self.below(items.len())]
     }
 
+    pub fn pick_one<'a, T>(&mut self, items: &'a [T]) -> &'a T {
+        &items[self.below(items.len())]
+    }
+
     pub fn byte(&mut self) -> u8 {
         self.next() as u8
     }

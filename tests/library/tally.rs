@@ -10,6 +10,8 @@ pub struct Tally {
     pub trial: String,
     /// How often each call gave each code.
     met: BTreeMap<(&'static str, u8), u64>,
+    /// How often something was tried that no answer shows.
+    counts: BTreeMap<&'static str, u64>,
 }
 
 /// Failures beyond these are counted only.
@@ -44,6 +46,14 @@ impl Tally {
         self.equal(call, got, wanted);
     }
 
+    pub fn count(&mut self, what: &'static str) {
+        *self.counts.entry(what).or_default() += 1;
+    }
+
+    pub fn print_counts(&self) {
+        self.counts.iter().for_each(|(what, times)| println!("{what}: {times}"));
+    }
+
     /// Each call gave each code that the header names with it, and no other: trials that never meet an
     /// answer would pass whatever it is.
     pub fn check_met(&mut self, named: &[(&'static str, &[u8])]) {
@@ -66,6 +76,9 @@ impl Tally {
         self.failed += other.failed;
         for (answer, times) in other.met {
             *self.met.entry(answer).or_default() += times;
+        }
+        for (what, times) in other.counts {
+            *self.counts.entry(what).or_default() += times;
         }
     }
 }

@@ -85,7 +85,7 @@ fn every_place(tally: &mut Tally, random: &mut Random) {
 /// L and R of 65,535 each: the words are judged by their lengths, and the last state can be used.
 fn most_states(tally: &mut Tally, random: &mut Random) {
     let text = [file::line(&[1, 1, 0, 1, 0, 1]), file::line(&[2, 0, 1, 0, 1, 0, 1, 5, 0x65])].concat();
-    let image = Loaded::new(tally, &text, 200, 30, random).image;
+    let Loaded { image, list, .. } = Loaded::new(tally, &text, 200, 30, random);
     let states = 65_535;
     let mut words = vec![65_534; words_needed(states, states)];
     (words[0], words[1]) = (65_535, 65_535);
@@ -95,7 +95,8 @@ fn most_states(tally: &mut Tally, random: &mut Random) {
         let (words, sets) = (&words[..words.len() - fewer_words], &sets[..sets.len() - fewer_sets]);
         let compiled = Compiled::new(words, sets, random);
         let name = Lent::new(&[5, 5], random);
-        let (heard, steps) = lent::speak(tally, &image, &compiled, &name, &mut Room::any(2, 2, random));
+        let (heard, steps) =
+            lent::speak(tally, &image, &list, &compiled, &name, &mut Room::any(2, 2, random));
         let wanted = if fewer_words + fewer_sets == 0 { (255, 2, 6) } else { (16, 0, 0) };
         tally.equal("65,535 states", (heard.code, heard.given, steps), wanted);
     }

@@ -1,12 +1,13 @@
-//! Cases that stand in document 01 or at the bounds it names.
+//! Cases that stand in documents 01 and 02 or at the bounds they name.
 
 mod extremes;
+mod lists;
 mod paper;
 mod refusals;
 mod threads;
 mod wrong;
 
-use crate::lent::{self, Compiled, Heard, Lent, Room};
+use crate::lent::{self, Compiled, Heard, Lent, List, Room};
 use crate::random::Random;
 use crate::reference::image::IMAGE;
 use crate::reference::ACCEPTED;
@@ -16,11 +17,12 @@ type Case = fn(&mut Tally, &mut Random);
 
 pub fn fixed(tally: &mut Tally) {
     let random = &mut Random::new(1);
-    let cases: [(&str, Case); 5] = [
+    let cases: [(&str, Case); 6] = [
         ("the paper's marks", paper::paper),
         ("the paper's refusals", refusals::refusals),
         ("the paper's ways to be wrong", wrong::wrong),
         ("extremes", extremes::extremes),
+        ("exceptions lists", lists::lists),
         ("threads", threads::threads),
     ];
     for (subject, case) in cases {
@@ -29,10 +31,11 @@ pub fn fixed(tally: &mut Tally) {
     }
 }
 
-/// A ruleset that the library read from a rule file, and the tables that it built then.
+/// A ruleset that the library read from a rule file, and the tables that it built then; the empty list.
 struct Loaded {
     image: Lent<u8>,
     compiled: Compiled,
+    list: List,
 }
 
 /// What the library says of one name.
@@ -48,7 +51,7 @@ impl Loaded {
         let mut compiled = Compiled::any(words, sets, random);
         lent::read_file(tally, &Lent::new(text, random), &mut image);
         lent::build(tally, &image, &mut compiled);
-        Loaded { image, compiled }
+        Loaded { image, compiled, list: List::empty(tally, random) }
     }
 
     /// Speaks a name by the tables; the plain reading must say the same.
@@ -62,9 +65,9 @@ impl Loaded {
     ) -> Spoken {
         let name = Lent::new(name, random);
         let mut room = Room::any(phones, numbers, random);
-        let (heard, steps) = lent::speak(tally, &self.image, &self.compiled, &name, &mut room);
+        let (heard, steps) = lent::speak(tally, &self.image, &self.list, &self.compiled, &name, &mut room);
         let mut plain_room = Room::any(phones, numbers, random);
-        let plain = lent::read_name(tally, &self.image, &name, &mut plain_room);
+        let plain = lent::read_name(tally, &self.image, &self.list, &name, &mut plain_room);
         tally.equal("walk and plain reading", heard, plain);
         Spoken::new(heard, steps, &room)
     }

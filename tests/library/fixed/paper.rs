@@ -85,7 +85,8 @@ fn many(tally: &mut Tally, six: &Loaded, random: &mut Random) {
     }
     names.extend([2, 5]);
     let (mut room, mut replies) = (Room::any(2, 4, random), Lent::any(16, random));
-    lent::speak_many(tally, &six.image, &six.compiled, &Lent::new(&names, random), &mut room, &mut replies);
+    let names = Lent::new(&names, random);
+    lent::speak_many(tally, &six.image, &six.list, &six.compiled, &names, &mut room, &mut replies);
     tally.equal("replies", &replies.contents()[..12], &[255, 2, 3, 10, 3, 2, 0, 8, 255, 0, 1, 4]);
     tally.equal("many names", room.contents(), (&[0x6E, 0x69], &[1, 6, 4, 3]));
 }

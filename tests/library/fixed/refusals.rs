@@ -1,7 +1,7 @@
 //! The example that stands beside each refusal in the paper's table, and the orders it gives.
 
 use super::{letters, Loaded, Spoken, SIX_RULES, SIX_SETS, SIX_WORDS};
-use crate::lent::{self, Compiled, Lent, Room};
+use crate::lent::{self, Compiled, Lent, List, Room};
 use crate::random::Random;
 use crate::reference::image::{self, IMAGE};
 use crate::reference::rule::Rule;
@@ -17,13 +17,14 @@ pub fn refusals(tally: &mut Tally, random: &mut Random) {
     files(tally, random);
 }
 
-/// Every call on memory too short for a ruleset: 0 comes before all else.
+/// Every call on memory too short for a ruleset: 0 comes before all else, also where there is no list.
 fn short(tally: &mut Tally, random: &mut Random) {
     let six = Loaded::new(tally, SIX_RULES, SIX_WORDS, SIX_SETS, random);
     let rule = Lent::new(&rule(&[]).0, random);
     let (good, bad) = (Lent::new(SIX_RULES, random), Lent::new(b"", random));
     let (name, names) = (Lent::new(&[0x40; 65], random), Lent::new(&[1, 5, 1, 5], random));
-    for length in [0, 3, 4, IMAGE - 1] {
+    let no_list = List::learned(tally, &[], random);
+    for (length, list) in [(0, &six.list), (3, &no_list), (4, &no_list), (IMAGE - 1, &six.list)] {
         let mut image = Lent::new(&six.image.contents()[..length], random);
         let mut room = Room::any(256, 64, random);
         lent::clear(tally, &mut image);
@@ -36,9 +37,9 @@ fn short(tally: &mut Tally, random: &mut Random) {
         }
         lent::write_file(tally, &image, &mut Lent::any(0, random));
         lent::build(tally, &image, &mut Compiled::any(0, 0, random));
-        lent::read_name(tally, &image, &name, &mut room);
-        lent::speak(tally, &image, &six.compiled, &name, &mut room);
-        lent::speak_many(tally, &image, &six.compiled, &names, &mut room, &mut Lent::any(8, random));
+        lent::read_name(tally, &image, list, &name, &mut room);
+        lent::speak(tally, &image, list, &six.compiled, &name, &mut room);
+        lent::speak_many(tally, &image, list, &six.compiled, &names, &mut room, &mut Lent::any(8, random));
     }
 }
 
@@ -74,7 +75,7 @@ fn names(tally: &mut Tally, random: &mut Random) {
             [(&[5], refused(16, 0, 0)), (&[5, 0x40], refused(1, 1, 0)), (&[5; 65], refused(2, 0, 0))];
         for (name, wanted) in cases {
             let (name, mut room) = (Lent::new(name, random), Room::any(256, 64, random));
-            let (heard, steps) = lent::speak(tally, &six.image, &compiled, &name, &mut room);
+            let (heard, steps) = lent::speak(tally, &six.image, &six.list, &compiled, &name, &mut room);
             tally.equal("no tables", Spoken::new(heard, steps, &room), wanted);
         }
     }

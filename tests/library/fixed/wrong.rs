@@ -67,7 +67,7 @@ fn words_decide(tally: &mut Tally, random: &mut Random) {
         let compiled = Compiled::new(words, &sets, random);
         let mut room = Room::any(256, 64, random);
         let name = Lent::new(&letters("knee"), random);
-        let (heard, steps) = lent::speak(tally, &six.image, &compiled, &name, &mut room);
+        let (heard, steps) = lent::speak(tally, &six.image, &six.list, &compiled, &name, &mut room);
         tally.equal("altered set words", Spoken::new(heard, steps, &room), wanted);
     }
 }
@@ -88,7 +88,7 @@ fn old_tables(tally: &mut Tally, random: &mut Random) {
     lent::add(tally, &mut loaded.image, &Lent::new(&rule, random), 0);
     let name = Lent::new(&letters("ax"), random);
     let mut room = Room::any(2, 2, random);
-    let (heard, steps) = lent::speak(tally, &loaded.image, &loaded.compiled, &name, &mut room);
+    let (heard, steps) = lent::speak(tally, &loaded.image, &loaded.list, &loaded.compiled, &name, &mut room);
     let (phones, numbers) = (vec![0x61, 0x58], vec![2, 3]);
     tally.equal("old tables", Spoken::new(heard, steps, &room), Spoken::Said { phones, numbers, steps: 6 });
 
@@ -104,7 +104,8 @@ fn name_inside_image(tally: &mut Tally, random: &mut Random) {
     let six = Loaded::new(tally, SIX_RULES, SIX_WORDS, SIX_SETS, random);
     for start in [0, 4 + 26 + 12, 4 + 26 * 3 + 12] {
         for length in [0, 1, 2, 70] {
-            lent::read_own_bytes(tally, &six.image, start, length, &mut Room::any(256, 64, random));
+            let mut room = Room::any(256, 64, random);
+            lent::read_own_bytes(tally, &six.image, &six.list, start, length, &mut room);
         }
     }
 }

@@ -38,9 +38,38 @@ extern "C" {
         sets_len: usize,
         place: *mut usize,
     ) -> u8;
+    pub fn pirrozketa_list_clear(list: *mut u32, list_len: usize) -> u8;
+    pub fn pirrozketa_list_check(list: *const u32, list_len: usize) -> u8;
+    pub fn pirrozketa_list_names(list: *const u32, list_len: usize) -> u16;
+    pub fn pirrozketa_list_states(list: *const u32, list_len: usize) -> u16;
+    pub fn pirrozketa_list_add(
+        list: *mut u32,
+        list_len: usize,
+        name: *const u8,
+        name_len: usize,
+        phones: *const u8,
+        phones_len: usize,
+        place: *mut usize,
+    ) -> u8;
+    pub fn pirrozketa_list_remove(
+        list: *mut u32,
+        list_len: usize,
+        name: *const u8,
+        name_len: usize,
+        place: *mut usize,
+    ) -> u8;
+    pub fn pirrozketa_list_read_out(
+        list: *const u32,
+        list_len: usize,
+        out: *mut u8,
+        out_len: usize,
+        bytes: *mut usize,
+    ) -> u8;
     pub fn pirrozketa_read_name(
         image: *const u8,
         image_len: usize,
+        list: *const u32,
+        list_len: usize,
         name: *const u8,
         name_len: usize,
         phones: *mut u8,
@@ -53,6 +82,8 @@ extern "C" {
     pub fn pirrozketa_speak(
         image: *const u8,
         image_len: usize,
+        list: *const u32,
+        list_len: usize,
         words: *const u16,
         words_len: usize,
         sets: *const u64,
@@ -70,6 +101,8 @@ extern "C" {
     pub fn pirrozketa_speak_many(
         image: *const u8,
         image_len: usize,
+        list: *const u32,
+        list_len: usize,
         words: *const u16,
         words_len: usize,
         sets: *const u64,

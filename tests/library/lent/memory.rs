@@ -19,6 +19,12 @@ impl Item for u16 {
     }
 }
 
+impl Item for u32 {
+    fn of(bits: u64) -> u32 {
+        bits as u32
+    }
+}
+
 impl Item for u64 {
     fn of(bits: u64) -> u64 {
         bits
@@ -74,6 +80,12 @@ impl<T: Item> Lent<T> {
     /// From now on these items must stand at the start; what lies past them must keep its contents.
     pub fn want(&mut self, items: &[T]) {
         self.wanted[self.guard..][..items.len()].copy_from_slice(items);
+    }
+
+    /// The first so many items may be anything; as they are, they must stay from now on.
+    pub fn allow(&mut self, count: usize) {
+        let free = self.guard..self.guard + count;
+        self.wanted[free.clone()].copy_from_slice(&self.items[free]);
     }
 
     /// All of it is as it must be, guards too.

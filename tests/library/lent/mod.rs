@@ -4,12 +4,14 @@
 mod binding;
 mod edits;
 mod files;
+pub mod lists;
 mod memory;
 mod names;
 mod tables;
 
 pub use edits::{add, check, clear, drop, shift};
 pub use files::{read_file, write_file};
+pub use lists::List;
 pub use memory::Lent;
 pub use names::{read_name, read_own_bytes, speak, speak_many, Heard, Room};
 pub use tables::{build, Compiled};
@@ -28,7 +30,7 @@ fn code_and_place(answer: &Answer<usize>) -> (u8, usize) {
 }
 
 /// The codes that the header names with each call, in rising order.
-pub const NAMED: [(&str, &[u8]); 11] = [
+pub const NAMED: [(&str, &[u8]); 16] = [
     ("clear", &[0, 255]),
     ("check", &[0, 255]),
     ("add", &[0, 6, 7, 9, 10, 255]),
@@ -37,7 +39,12 @@ pub const NAMED: [(&str, &[u8]); 11] = [
     ("read_file", &[0, 13, 14, 255]),
     ("write_file", &[0, 15, 255]),
     ("build", &[0, 11, 12, 255]),
-    ("read_name", &[0, 1, 2, 3, 4, 5, 255]),
-    ("speak", &[0, 1, 2, 3, 4, 5, 16, 255]),
-    ("speak_many", &[0, 255]),
+    ("list_clear", &[17, 255]),
+    ("list_check", &[17, 255]),
+    ("list_add", &[1, 2, 17, 19, 255]),
+    ("list_remove", &[1, 2, 17, 18, 19, 255]),
+    ("list_read_out", &[15, 17, 255]),
+    ("read_name", &[0, 1, 2, 3, 4, 5, 17, 255]),
+    ("speak", &[0, 1, 2, 3, 4, 5, 16, 17, 255]),
+    ("speak_many", &[0, 17, 255]),
 ];

@@ -1,12 +1,15 @@
 //! Names read plainly, spoken by the tables, and many in one call.
 
 use super::binding::*;
+use super::lists::List;
 use super::memory::Lent;
 use super::tables::Compiled;
 use super::UNWRITTEN;
 use crate::random::Random;
+use crate::reference::exceptions::Exceptions;
 use crate::reference::many::{self, Many, REPLY};
 use crate::reference::reading::{plain, Said};
+use crate::reference::ruleset::Ruleset;
 use crate::reference::walk::walk;
 use crate::reference::{image as layout, refuse, Answer, ACCEPTED};
 use crate::tally::Tally;
@@ -61,35 +64,65 @@ pub struct Heard {
     pub applied: usize,
 }
 
-pub fn read_name(tally: &mut Tally, image: &Lent<u8>, name: &Lent<u8>, room: &mut Room) -> Heard {
-    let heard = read(tally, image, name.pointer(), name.contents(), room);
+/// The ruleset and the list that are lent; 0 comes before 17, and both before all else.
+fn judged<'a>(image: &Lent<u8>, list: &'a List) -> Answer<(Ruleset, &'a Exceptions)> {
+    match (layout::decode(image.contents()), list.held()) {
+        (None, _) => refuse(0, 0),
+        (_, None) => refuse(17, 0),
+        (Some(set), Some(listed)) => Ok((set, listed)),
+    }
+}
+
+pub fn read_name(
+    tally: &mut Tally,
+    image: &Lent<u8>,
+    list: &List,
+    name: &Lent<u8>,
+    room: &mut Room,
+) -> Heard {
+    let heard = read(tally, image, list, name.pointer(), name.contents(), room);
     name.check(tally, "read_name's name");
     heard
 }
 
 /// Reads a name that lies in the image itself, as two slices that are only read may.
-pub fn read_own_bytes(tally: &mut Tally, image: &Lent<u8>, start: usize, length: usize, room: &mut Room) {
+pub fn read_own_bytes(
+    tally: &mut Tally,
+    image: &Lent<u8>,
+    list: &List,
+    start: usize,
+    length: usize,
+    room: &mut Room,
+) {
     let name = &image.contents()[start..start + length];
-    read(tally, image, name.as_ptr(), name, room);
+    read(tally, image, list, name.as_ptr(), name, room);
 }
 
-fn read(tally: &mut Tally, image: &Lent<u8>, at: *const u8, name: &[u8], room: &mut Room) -> Heard {
-    let answer = match layout::decode(image.contents()) {
-        Some(set) => plain(&set, name, room.phones.len(), room.numbers.len()),
-        None => refuse(0, 0),
-    };
+fn read(
+    tally: &mut Tally,
+    image: &Lent<u8>,
+    list: &List,
+    at: *const u8,
+    name: &[u8],
+    room: &mut Room,
+) -> Heard {
+    let (phones_lent, numbers_lent) = (room.phones.len(), room.numbers.len());
+    let answer =
+        judged(image, list).and_then(|(set, listed)| plain(&set, listed, name, phones_lent, numbers_lent));
     let wanted = room.taken(&answer);
     let (mut given, mut applied) = (UNWRITTEN, UNWRITTEN);
     let code = unsafe {
         pirrozketa_read_name(
             image.pointer(),
             image.len(),
+            list.pointer(),
+            list.len(),
             at,
             name.len(),
             room.phones.pointer_mut(),
-            room.phones.len(),
+            phones_lent,
             room.numbers.pointer_mut(),
-            room.numbers.len(),
+            numbers_lent,
             &mut given,
             &mut applied,
         )
@@ -97,6 +130,7 @@ fn read(tally: &mut Tally, image: &Lent<u8>, at: *const u8, name: &[u8], room: &
     let heard = Heard { code, given, applied };
     tally.answer("read_name", code, heard, wanted);
     image.check(tally, "read_name's image");
+    list.check(tally, "read_name's list");
     room.check(tally, "read_name");
     heard
 }
@@ -105,17 +139,19 @@ fn read(tally: &mut Tally, image: &Lent<u8>, at: *const u8, name: &[u8], room: &
 pub fn speak(
     tally: &mut Tally,
     image: &Lent<u8>,
+    list: &List,
     compiled: &Compiled,
     name: &Lent<u8>,
     room: &mut Room,
 ) -> (Heard, usize) {
     let (words, sets) = (&compiled.words, &compiled.sets);
     let (phones_lent, numbers_lent) = (room.phones.len(), room.numbers.len());
-    let (answer, wanted_steps) = match layout::decode(image.contents()) {
-        Some(set) => {
-            walk(&set, words.contents(), sets.contents(), name.contents(), phones_lent, numbers_lent)
+    let (answer, wanted_steps) = match judged(image, list) {
+        Ok((set, listed)) => {
+            let (words, sets) = (words.contents(), sets.contents());
+            walk(&set, listed, words, sets, name.contents(), phones_lent, numbers_lent)
         }
-        None => (refuse(0, 0), 0),
+        Err(refused) => (Err(refused), 0),
     };
     let wanted = room.taken(&answer);
     let (mut given, mut applied, mut steps) = (UNWRITTEN, UNWRITTEN, UNWRITTEN);
@@ -123,6 +159,8 @@ pub fn speak(
         pirrozketa_speak(
             image.pointer(),
             image.len(),
+            list.pointer(),
+            list.len(),
             words.pointer(),
             words.len(),
             sets.pointer(),
@@ -142,6 +180,7 @@ pub fn speak(
     tally.answer("speak", code, heard, wanted);
     tally.equal("speak's steps", steps, wanted_steps);
     image.check(tally, "speak's image");
+    list.check(tally, "speak's list");
     compiled.check(tally, "speak");
     name.check(tally, "speak's name");
     room.check(tally, "speak");
@@ -151,6 +190,7 @@ pub fn speak(
 pub fn speak_many(
     tally: &mut Tally,
     image: &Lent<u8>,
+    list: &List,
     compiled: &Compiled,
     names: &Lent<u8>,
     room: &mut Room,
@@ -158,11 +198,15 @@ pub fn speak_many(
 ) {
     let (words, sets) = (&compiled.words, &compiled.sets);
     let (phones_lent, numbers_lent) = (room.phones.len(), room.numbers.len());
-    let set = layout::decode(image.contents());
-    let wanted = set.as_ref().map_or_else(Many::default, |set| {
-        let (words, sets) = (words.contents(), sets.contents());
-        many::speak_many(set, words, sets, names.contents(), phones_lent, numbers_lent, replies.len())
-    });
+    let (wanted_code, wanted) = match judged(image, list) {
+        Ok((set, listed)) => {
+            let (words, sets) = (words.contents(), sets.contents());
+            let (names, replies) = (names.contents(), replies.len());
+            let many = many::speak_many(&set, listed, words, sets, names, phones_lent, numbers_lent, replies);
+            (ACCEPTED, many)
+        }
+        Err(refused) => (refused.number, Many::default()),
+    };
     room.want(&wanted.phones, &wanted.numbers);
     replies.want(&wanted.replies);
     let mut count = UNWRITTEN;
@@ -170,6 +214,8 @@ pub fn speak_many(
         pirrozketa_speak_many(
             image.pointer(),
             image.len(),
+            list.pointer(),
+            list.len(),
             words.pointer(),
             words.len(),
             sets.pointer(),
@@ -185,9 +231,9 @@ pub fn speak_many(
             &mut count,
         )
     };
-    let wanted_code = if set.is_some() { ACCEPTED } else { 0 };
     tally.answer("speak_many", code, (code, count), (wanted_code, wanted.replies.len() / REPLY));
     image.check(tally, "speak_many's image");
+    list.check(tally, "speak_many's list");
     compiled.check(tally, "speak_many");
     names.check(tally, "speak_many's names");
     room.check(tally, "speak_many");

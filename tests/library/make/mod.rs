@@ -1,7 +1,8 @@
-//! What the trials try: rulesets, names, and memory of every kind of soundness.
+//! What the trials try: rulesets, exceptions lists, names, and memory of every kind of soundness.
 
 pub mod files;
 pub mod images;
+pub mod lists;
 pub mod names;
 pub mod rules;
 pub mod tables;

@@ -33,6 +33,17 @@ pub fn name(set: &Ruleset, letters: &[u8], random: &mut Random) -> Vec<u8> {
     name
 }
 
+/// The names that stand so after one another.
+pub fn split(mut many: &[u8]) -> Vec<Vec<u8>> {
+    let mut names = Vec::new();
+    while let Some((length, rest)) = many.split_first() {
+        let (name, following) = rest.split_at((*length as usize).min(rest.len()));
+        names.push(name.to_vec());
+        many = following;
+    }
+    names
+}
+
 /// Each name after a byte that says its length; the last may be cut off.
 pub fn many(set: &Ruleset, letters: &[u8], random: &mut Random) -> Vec<u8> {
     let mut names = Vec::new();

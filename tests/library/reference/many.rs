@@ -1,5 +1,6 @@
 //! Many names in one call, as the header tells it.
 
+use super::exceptions::Exceptions;
 use super::ruleset::Ruleset;
 use super::walk::walk;
 use super::ACCEPTED;
@@ -16,6 +17,7 @@ pub const REPLY: usize = 4;
 /// Each name is lent what the names before it left of the phones and numbers.
 pub fn speak_many(
     set: &Ruleset,
+    list: &Exceptions,
     words: &[u16],
     sets: &[u64],
     names: &[u8],
@@ -34,7 +36,7 @@ pub fn speak_many(
         rest = following;
         let (phones_left, numbers_left) =
             (phones_lent - many.phones.len(), numbers_lent - many.numbers.len());
-        match walk(set, words, sets, name, phones_left, numbers_left) {
+        match walk(set, list, words, sets, name, phones_left, numbers_left) {
             (Ok(said), steps) => {
                 let reply = [ACCEPTED as usize, said.phones.len(), said.numbers.len(), steps];
                 many.replies.extend(reply);

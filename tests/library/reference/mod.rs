@@ -1,9 +1,10 @@
-//! Document 01 once more, from its text alone and in safe Rust: what the library's answers are held
-//! against. Plain before fast, so that it can be read beside the paper.
+//! Document 01 and the landed requests of document 02 once more, from their text alone and in safe Rust: what
+//! the library's answers are held against. Plain before fast, so that it can be read beside the papers.
 
 #![forbid(unsafe_code)]
 
 pub mod broken;
+pub mod exceptions;
 pub mod file;
 pub mod image;
 pub mod many;

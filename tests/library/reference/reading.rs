@@ -1,6 +1,7 @@
-//! The plain reading: the rules tried in order, without tables.
+//! The plain reading: the list, then the rules tried in order, without tables.
 
 use super::broken::{broken, Break};
+use super::exceptions::Exceptions;
 use super::rule::{is_letter, Rule};
 use super::ruleset::Ruleset;
 use super::{refuse, Answer};
@@ -32,15 +33,28 @@ impl Said {
     }
 }
 
-/// Refusals 2 and 1, in this order, or the framed name.
-pub fn framed(name: &[u8]) -> Answer<Vec<u8>> {
+/// Refusals 2 and 1, in this order.
+pub fn sound_name(name: &[u8]) -> Answer<()> {
     if name.len() > 64 {
         return refuse(2, 0);
     }
-    if let Some(index) = name.iter().position(|&byte| !is_letter(byte)) {
-        return refuse(1, index);
+    match name.iter().position(|&byte| !is_letter(byte)) {
+        Some(index) => refuse(1, index),
+        None => Ok(()),
     }
-    Ok([&[0], name, &[0]].concat())
+}
+
+pub fn framed(name: &[u8]) -> Vec<u8> {
+    [&[0], name, &[0]].concat()
+}
+
+/// What a listed name says: its phones, by no rules. None where it is not listed.
+pub fn listed(list: &Exceptions, name: &[u8]) -> Option<Said> {
+    if broken(Break::Unlisted) {
+        return None;
+    }
+    let phones = list.phones.get(name)?.clone();
+    Some(Said { phones, numbers: Vec::new() })
 }
 
 /// Whether reading goes on at position i of n letters.
@@ -51,8 +65,18 @@ pub fn reached(i: usize, n: usize) -> bool {
     i <= n
 }
 
-pub fn plain(set: &Ruleset, name: &[u8], phones_lent: usize, numbers_lent: usize) -> Answer<Said> {
-    let frame = framed(name)?;
+pub fn plain(
+    set: &Ruleset,
+    list: &Exceptions,
+    name: &[u8],
+    phones_lent: usize,
+    numbers_lent: usize,
+) -> Answer<Said> {
+    sound_name(name)?;
+    if let Some(said) = listed(list, name) {
+        return said.within(phones_lent, numbers_lent);
+    }
+    let frame = framed(name);
     let mut said = Said::default();
     let mut i = 1;
     while reached(i, name.len()) {

@@ -1,7 +1,8 @@
-//! The walk: a function of the ruleset and of the words lent to it, built or not.
+//! The walk: the list, then a function of the ruleset and of the words lent to it, built or not.
 
 use super::broken::{broken, Break};
-use super::reading::{framed, reached, Said};
+use super::exceptions::Exceptions;
+use super::reading::{framed, listed, reached, sound_name, Said};
 use super::ruleset::Ruleset;
 use super::tables::{sets_needed, words_needed};
 use super::{refuse, Answer};
@@ -27,9 +28,10 @@ impl Pass<'_> {
     }
 }
 
-/// The answer, and the steps: 0 with the refusals 1, 2 and 16.
+/// The answer, and the steps: 0 with the refusals 1, 2 and 16, and for a listed name.
 pub fn walk(
     set: &Ruleset,
+    list: &Exceptions,
     words: &[u16],
     sets: &[u64],
     name: &[u8],
@@ -37,7 +39,7 @@ pub fn walk(
     numbers_lent: usize,
 ) -> (Answer<Said>, usize) {
     let mut steps = 0;
-    let said = spoken(set, words, sets, name, &mut steps);
+    let said = spoken(set, list, words, sets, name, &mut steps);
     let answer = said.and_then(|said| said.within(phones_lent, numbers_lent));
     match answer {
         Err(refused) if [1, 2, 16].contains(&refused.number) => (answer, 0),
@@ -45,8 +47,20 @@ pub fn walk(
     }
 }
 
-fn spoken(set: &Ruleset, words: &[u16], sets: &[u64], name: &[u8], steps: &mut usize) -> Answer<Said> {
-    let frame = framed(name)?;
+fn spoken(
+    set: &Ruleset,
+    list: &Exceptions,
+    words: &[u16],
+    sets: &[u64],
+    name: &[u8],
+    steps: &mut usize,
+) -> Answer<Said> {
+    sound_name(name)?;
+    if let Some(said) = listed(list, name) {
+        *steps = if broken(Break::ListedSteps) { 2 * name.len() + 2 } else { 0 };
+        return Ok(said);
+    }
+    let frame = framed(name);
     let &[left, right, ..] = words else {
         return refuse(16, 0);
     };

@@ -1,8 +1,9 @@
 //! Demand 3 from outside: a list of edits from the empty list, the tables built after it, and a name;
-//! the walk and the plain reading are alike. Here the library is held against itself as well.
+//! the walk and the plain reading are alike, with any exceptions. Here the library is held against itself
+//! as well.
 
 use crate::lent::{self, Compiled, Lent, Room};
-use crate::make::{names, rules};
+use crate::make::{lists, names, rules};
 use crate::random::Random;
 use crate::reference::image::{decode, IMAGE};
 use crate::reference::ruleset::Ruleset;
@@ -42,13 +43,15 @@ pub fn chain(tally: &mut Tally, random: &mut Random) {
     let tables = build(&ledger);
     let mut compiled = Compiled::any(tables.words.len(), tables.sets.len(), random);
     lent::build(tally, &image, &mut compiled);
-    for _ in 0..8 {
-        let name = Lent::new(&names::name(&ledger, &letters, random), random);
+    let names: Vec<Vec<u8>> = (0..8).map(|_| names::name(&ledger, &letters, random)).collect();
+    let list = lists::some_list(tally, &names, &letters, random);
+    for name in &names {
+        let name = Lent::new(name, random);
         let (phones, numbers) = (random.pick(&[0, 3, 256, 256, 256]), random.pick(&[0, 3, 64, 64, 64]));
         let mut plain = Room::blank(phones, numbers, random);
         let mut walked = Room::blank(phones, numbers, random);
-        let read = lent::read_name(tally, &image, &name, &mut plain);
-        let (spoken, _) = lent::speak(tally, &image, &compiled, &name, &mut walked);
+        let read = lent::read_name(tally, &image, &list, &name, &mut plain);
+        let (spoken, _) = lent::speak(tally, &image, &list, &compiled, &name, &mut walked);
         tally.equal("walk and plain reading", (spoken, walked.contents()), (read, plain.contents()));
     }
 }

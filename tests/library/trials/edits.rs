@@ -2,7 +2,7 @@
 
 use super::SELDOM;
 use crate::lent::{self, Lent, Room};
-use crate::make::{images, names, rules};
+use crate::make::{images, lists, names, rules};
 use crate::random::Random;
 use crate::reference::image::{decode, last, IMAGE};
 use crate::tally::Tally;
@@ -66,12 +66,14 @@ pub fn images(tally: &mut Tally, random: &mut Random) {
     lent::write_file(tally, &image, &mut out);
     let mut compiled = lent::Compiled::any(random.below(1000), random.below(100), random);
     lent::build(tally, &image, &mut compiled);
-    let name = Lent::new(&names::name(&set, &letters, random), random);
-    lent::read_name(tally, &image, &name, &mut Room::any(256, 64, random));
-    lent::speak(tally, &image, &compiled, &name, &mut Room::any(256, 64, random));
+    let name = names::name(&set, &letters, random);
+    let list = lists::some_list(tally, std::slice::from_ref(&name), &letters, random);
+    let name = Lent::new(&name, random);
+    lent::read_name(tally, &image, &list, &name, &mut Room::any(256, 64, random));
+    lent::speak(tally, &image, &list, &compiled, &name, &mut Room::any(256, 64, random));
     let many = Lent::new(&names::many(&set, &letters, random), random);
     let (mut room, mut replies) = (Room::any(256, 64, random), Lent::any(48, random));
-    lent::speak_many(tally, &image, &compiled, &many, &mut room, &mut replies);
+    lent::speak_many(tally, &image, &list, &compiled, &many, &mut room, &mut replies);
 
     // Cleared, any memory that is long enough is a ruleset; its slots keep their contents.
     lent::clear(tally, &mut image);

@@ -3,8 +3,9 @@
 use super::{lending, SELDOM};
 use crate::lent::{self, Compiled, Lent, Room};
 use crate::make::tables::{built, damaged};
-use crate::make::{images, names, rules};
+use crate::make::{images, lists, names, rules};
 use crate::random::Random;
+use crate::reference::exceptions::Exceptions;
 use crate::reference::many::speak_many;
 use crate::tally::Tally;
 
@@ -19,11 +20,14 @@ pub fn many(tally: &mut Tally, random: &mut Random) {
     let compiled = Compiled::new(&words, &sets, random);
     for _ in 0..4 {
         let names = names::many(&set, &letters, random);
-        let all = speak_many(&set, &words, &sets, &names, usize::MAX, usize::MAX, usize::MAX);
+        let list = lists::some_list(tally, &names::split(&names), &letters, random);
+        let none = Exceptions::default();
+        let listed = list.held().unwrap_or(&none);
+        let all = speak_many(&set, listed, &words, &sets, &names, usize::MAX, usize::MAX, usize::MAX);
         let (phones, numbers) = (lending(all.phones.len(), random), lending(all.numbers.len(), random));
         let mut room = Room::any(phones, numbers, random);
         let mut replies = Lent::any(lending(all.replies.len(), random), random);
         let names = Lent::new(&names, random);
-        lent::speak_many(tally, &image, &compiled, &names, &mut room, &mut replies);
+        lent::speak_many(tally, &image, &list, &compiled, &names, &mut room, &mut replies);
     }
 }

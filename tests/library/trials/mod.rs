@@ -1,8 +1,11 @@
 //! Random trials, one subject a file. A round tries every subject once.
 
 mod chain;
+mod damaged_lists;
 mod edits;
 mod files;
+mod full_lists;
+mod lists;
 mod many;
 mod tables;
 mod walks;
@@ -12,7 +15,7 @@ use crate::tally::Tally;
 
 type Trial = fn(&mut Tally, &mut Random);
 
-const TRIALS: [(&str, Trial); 8] = [
+const TRIALS: [(&str, Trial); 11] = [
     ("edits", edits::edits),
     ("images", edits::images),
     ("files", files::files),
@@ -21,6 +24,9 @@ const TRIALS: [(&str, Trial); 8] = [
     ("walks", walks::walks),
     ("many", many::many),
     ("chain", chain::chain),
+    ("lists", lists::changes),
+    ("full lists", full_lists::full),
+    ("damaged lists", damaged_lists::damaged),
 ];
 
 /// A round has a seed of its own, so that it can be repeated alone.

@@ -2,9 +2,9 @@
 //! lent exactly, one too few and not at all.
 
 use super::{lending, SELDOM};
-use crate::lent::{self, Compiled, Heard, Lent, Room};
+use crate::lent::{self, Compiled, Heard, Lent, List, Room};
 use crate::make::tables::{built, damaged, random as any_tables, Words};
-use crate::make::{images, names, rules};
+use crate::make::{images, lists, names, rules};
 use crate::random::Random;
 use crate::reference::ruleset::Ruleset;
 use crate::tally::Tally;
@@ -15,15 +15,15 @@ pub fn walks(tally: &mut Tally, random: &mut Random) {
     let image = Lent::new(&images::sound(&set, random), random);
     let sound = built(&set);
     let compiled = lend(&sound, random);
-    for _ in 0..6 {
-        let name = Lent::new(&names::name(&set, &letters, random), random);
-        spoken(tally, &image, &compiled, &name, random);
+    let names: Vec<Vec<u8>> = (0..30).map(|_| names::name(&set, &letters, random)).collect();
+    let list = lists::some_list(tally, &names, &letters, random);
+    for name in &names[..6] {
+        spoken(tally, &image, &list, &compiled, &Lent::new(name, random), random);
     }
-    for _ in 0..8 {
+    for names in names[6..].chunks(3) {
         let compiled = lend(&other_tables(&set, &letters, &sound, random), random);
-        for _ in 0..3 {
-            let name = Lent::new(&names::name(&set, &letters, random), random);
-            spoken(tally, &image, &compiled, &name, random);
+        for name in names {
+            spoken(tally, &image, &list, &compiled, &Lent::new(name, random), random);
         }
     }
 }
@@ -52,11 +52,18 @@ fn lend((words, sets): &Words, random: &mut Random) -> Compiled {
 }
 
 /// One name plainly and by the tables; then with as much room as each needs, or nearly.
-fn spoken(tally: &mut Tally, image: &Lent<u8>, compiled: &Compiled, name: &Lent<u8>, random: &mut Random) {
-    let plain = lent::read_name(tally, image, name, &mut Room::any(256, 64, random));
-    lent::read_name(tally, image, name, &mut room_near(plain, random));
-    let (walked, _) = lent::speak(tally, image, compiled, name, &mut Room::any(256, 64, random));
-    lent::speak(tally, image, compiled, name, &mut room_near(walked, random));
+fn spoken(
+    tally: &mut Tally,
+    image: &Lent<u8>,
+    list: &List,
+    compiled: &Compiled,
+    name: &Lent<u8>,
+    random: &mut Random,
+) {
+    let plain = lent::read_name(tally, image, list, name, &mut Room::any(256, 64, random));
+    lent::read_name(tally, image, list, name, &mut room_near(plain, random));
+    let (walked, _) = lent::speak(tally, image, list, compiled, name, &mut Room::any(256, 64, random));
+    lent::speak(tally, image, list, compiled, name, &mut room_near(walked, random));
 }
 
 fn room_near(heard: Heard, random: &mut Random) -> Room {
