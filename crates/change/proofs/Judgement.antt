@@ -26,9 +26,9 @@ use Rattle.exceptions.proofs.Decided.{list-long, list-facts}
 use Rattle.exceptions.proofs.Judged.{front-size}
 use Rattle.exceptions.proofs.Names.{sound-letters}
 use Rattle.exceptions.proofs.States.{unpack-none, said-none}
-use Rattle.change.specs.Change.{Change, judgedEntry, judgedListed, judgedChange, afterChange, Changed}
+use Rattle.change.specs.Change.{goodEntry, Change, judgedEntry, judgedListed, judgedChange, afterChange, Changed}
 use Rattle.change.specs.Change.Change.{Add, Remove}
-use Rattle.change.specs.Steps.{ListAsks, goodEntry, judged, ChangeAsks, Limited}
+use Rattle.change.specs.Steps.{ListAsks, judged, ChangeAsks, Limited}
 use Rattle.change.proofs.Lent.{never-accepted}
 
 -- ---- 17 of the list comes first

@@ -21,9 +21,13 @@ pub data Change : Type 0 where
   Add : Str → Str → Change
   Remove : Str → Change
 
--- 17 of an entry: a name of no letters, no phones, over 64 of them, or a phone 00
+-- an entry: a name of some letters, and 1 to 64 phones, none of them 00
+unfoldable pub goodEntry : Str → Str → Bool
+goodEntry name p = ltb 0 (length name) && (ltb 0 (length p) && (leb (length p) maxListedPhones && allFrom maxPhone p))
+
+-- 17 of any other
 abbrev pub judgedEntry : Str → Str → Reply
-judgedEntry name p = cond (ltb 0 (length name) && (ltb 0 (length p) && (leb (length p) maxListedPhones && allFrom maxPhone p))) accepted (declined 17 0)
+judgedEntry name p = cond (goodEntry name p) accepted (declined 17 0)
 
 -- 18: what the list says of the name, where that is nothing
 abbrev pub judgedListed : Str → Reply

@@ -2,12 +2,10 @@
 -- Assumes nothing.
 use mathlib.Core.Path.{_≡_}
 use Prim.Native.Nat.{ℕ, suc, _+_, _≤_, _<_}
-use mathlib.Core.Bool.{Bool, true, false, cond, _&&_}
+use mathlib.Core.Bool.{Bool, true, false, cond}
 use mathlib.Core.List.{List}
-use lib.Dec.{leb, ltb}
 use lib.ListN.{length, getD, set, drop}
-use Rattle.rules.specs.Limits.{maxName, maxPhone, maxListedPhones, maxStates}
-use Rattle.rules.specs.Shape.{allFrom}
+use Rattle.rules.specs.Limits.{maxName, maxStates}
 use Rattle.rules.specs.Refusals.{Reply, accepted, declined, unless}
 use Rattle.automaton.specs.Automaton.{Str, Rows, rowsOf, Laid, look, Letters, Sound, Needed, changed}
 use Rattle.automaton.specs.Changes.{Phones}
@@ -133,10 +131,6 @@ pub record Relisted (ws : List ℕ) (name p ws′ : List ℕ) (r : Bool) : Type 
   pub kept : r ≡ false → ws′ ≡ ws
 
 -- ---- one change of a lent list
-
--- 17 of an entry, as a test
-unfoldable pub goodEntry : Str → Str → Bool
-goodEntry name p = ltb 0 (length name) && (ltb 0 (length p) && (leb (length p) maxListedPhones && allFrom maxPhone p))
 
 -- the refusals before the limits, 17 of the list first
 unfoldable pub judged : List ℕ → Change → Reply

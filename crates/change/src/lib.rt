@@ -15,8 +15,8 @@ ghost use Rattle.packing.specs.Packing.{groupsOf};
 ghost use Rattle.minimality.specs.Judging.{Decides};
 ghost use Rattle.exceptions.specs.Layout.{listSize, wordsOf, startOf, phonesFor};
 ghost use Rattle.exceptions.specs.Judging.{IsList};
-ghost use Rattle.change.specs.Change.{Change, Changed};
-ghost use Rattle.change.specs.Steps.{ListAsks, PhonesAsk, namesAfter, Relisted, ChangeAsks, Limited, goodEntry, judged};
+ghost use Rattle.change.specs.Change.{Change, goodEntry, Changed};
+ghost use Rattle.change.specs.Steps.{ListAsks, PhonesAsk, namesAfter, Relisted, ChangeAsks, Limited, judged};
 
 // A count for each state of a list, and for 0.
 const COUNTS: usize = rules::MAX_STATES + 1;

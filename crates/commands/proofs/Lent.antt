@@ -8,17 +8,17 @@ use lib.ListN.{length, take, drop, length-take}
 use borrow.Author.Tests.{le-leb, lt-leb}
 use Rattle.numbers.specs.Numbers.{two}
 use Rattle.rules.specs.Refusals.{Reply, declined}
-use Rattle.image.specs.Image.{Edited, outcome, entriesOf}
+use Rattle.image.specs.Image.{Edited, outcome}
 use Rattle.exceptions.specs.Judging.{Listing, listingOf}
 use Rattle.commands.specs.Fields.{four}
-use Rattle.reading.specs.Speech.{judgedCall, Told, spoken, refused, Said, saying, plainOutcome, plainSaid}
-use Rattle.tables.specs.Words.{compiledFrom, building, built}
-use Rattle.tables.specs.Walk.{walkThrough, Walked, walkFor, walkSaid}
+use Rattle.reading.specs.Speech.{Told, spoken, refused, Said, saying, plainOutcome, plainSaid}
+use Rattle.tables.specs.Words.{building, built}
+use Rattle.tables.specs.Walk.{Walked, walkSaid}
 use Rattle.file.specs.Loading.{filing, filed, loaded}
 use Rattle.rules.specs.Refusals.{Report}
 use Rattle.loader.specs.Prepared.{maxInput}
 use Rattle.transcript.specs.Names.{ToldWithin}
-use Rattle.transcript.proofs.Spoken.{delivered-within}
+use Rattle.transcript.proofs.Spoken.{delivered-within, walk-within}
 use Rattle.commands.specs.Lent.{lentOf, builtBack, builtIn, saidBack, plainIn, walkedBack, walkIn}
 use Rattle.commands.specs.Filing.{loadedFrom, filedBack, filedIn}
 
@@ -55,12 +55,6 @@ plain-within : (image : List ℕ) (l : Listing) (name phones numbers : List ℕ)
 unfolding plainSaid
 plain-within image l name phones numbers =
     delivered-within (plainOutcome image l name) phones numbers
-
-walk-within : (image : List ℕ) (l : Listing) (ws ss name phones numbers : List ℕ)
-    → ToldWithin (walkSaid image l ws ss name phones numbers .said .told) (length phones) (length numbers)
-unfolding walkFor
-walk-within image l ws ss name phones numbers =
-    delivered-within (judgedCall image l name (walkThrough (compiledFrom ws ss) (entriesOf image) name)) phones numbers
 
 pub plain-told : (t : Told) (n m : ℕ) (image list name phones numbers x y : List ℕ) → saying t x y ≡ plainIn n m image list name phones numbers
     → ToldWithin t (length phones) (length numbers)
