@@ -193,7 +193,7 @@ uint8_t pirrozketa_write_file(const uint8_t *image, size_t image_len, uint8_t *o
 PIRROZKETA_MUST_CHECK
 uint8_t pirrozketa_list_clear(uint32_t *list, size_t list_len);
 
-/* Whether the memory is a list: accepted, or refusal 17. Up to a millisecond for the largest. */
+/* Whether the memory is a list: accepted, or refusal 17. Its time grows with the list (docs/SPEED.md). */
 PIRROZKETA_MUST_CHECK
 uint8_t pirrozketa_list_check(const uint32_t *list, size_t list_len);
 
