@@ -15,16 +15,6 @@ pasted d b at =
     append-assoc (take at d) (take (length b) b) (drop (at + length b) d)
     ∙ ap₂ (λ (t r : List ℕ). take at d ++ (t ++ r)) (take-length b) (sym (drop-drop (length b) at d))
 
--- of the bytes a, stored from `at` on, the first n
-pub pushed : (d z a : List ℕ) (at n : ℕ) → n ≤ length a → at ≤ length d → z ≡ paste d at a (length a) → take (at + n) z ≡ take at d ++ first n a 0
-pushed d z a at n h l e =
-    let q = take at d in
-    let r = over a (drop at d) in
-    ap (take (at + n)) (e ∙ pasted d a at)
-    ∙ (ap (λ (k : ℕ). take (k + n) (q ++ r)) (sym (length-take-le at d l))
-    ∙ (take-append-add q r n
-    ∙ ap (λ (w : List ℕ). q ++ w) (take-append-le n a (drop (length a) (drop at d)) h ∙ sym (first-take n a 0 h))))
-
 -- as many bytes of s as d has places
 module _ (d s z : List ℕ) where
   pub filled-part : z ≡ paste d 0 (take (length d) s) (length (take (length d) s)) → z ≡ over (take (length d) s) d

@@ -11,15 +11,13 @@ use lib.ListN.{length, take, drop, length-append, take-append-drop}
 use lib.Seq.{take-suc, take-all, length-take-le}
 use Rattle.rules.specs.Memory.{over, overAt}
 use Rattle.rules.proofs.Memory.{over-at, over-length, over-part}
-use Rattle.rules.specs.Shape.{Entry, entryOf}
-use Rattle.rules.specs.declared.Numbered.{Numbered}
-use Rattle.rules.proofs.Laws.{length-first}
+use Rattle.rules.specs.Shape.{Entry}
 use Rattle.image.specs.State.{noEntry}
-use Rattle.image.specs.Image.{entriesOf, entryAt, valid, numberedAt, countOf, lastOf}
-use Rattle.image.proofs.Entries.{entries-length, entry-slot, slot-shaped}
+use Rattle.image.specs.Image.{entriesOf, entryAt, valid, countOf, lastOf}
+use Rattle.image.proofs.Entries.{entries-length}
 use Rattle.file.specs.Layout.{lineSize, headLineSize, longestFrame}
 use Rattle.file.specs.File.{headLine, ruleLine, ruleLines, encode}
-use Rattle.file.specs.Loading.{rulesetIn, filing, filed, Short}
+use Rattle.file.specs.Loading.{rulesetIn, filing, filed}
 use Rattle.rules.specs.Refusals.{wrote, refused}
 
 -- ---- the lines of the first rules of a list
@@ -62,31 +60,20 @@ module _ (image : List ℕ) where
     pub written : out ≡ over (take headLineSize xs ++ lines i) xs
 
   -- the next rule
-  module _ (i : ℕ) (h : i < countOf image) (x : Numbered) (e : x ≡ numberedAt image i) where
-    pub rule-short : valid image ≡ true → Short x
-    rule-short ok =
-        let s = slot-shaped image ok i h in
-        let r = numberedAt image i .rule in
-        rw e (record {
-          left = rw (length-first (r .«left_len») (r .left) 0) at (s .left-most);
-          target = rw (length-first (r .«target_len») (r .target) 0) at (s .target-most);
-          right = rw (length-first (r .«right_len») (r .right) 0) at (s .right-most);
-          phones = rw (length-first (r .«phone_len») (r .phones) 0) at (s .phones-most);
-        })
+  module _ (i : ℕ) (h : i < countOf image) where
+    abbrev line : List ℕ
+    line = ruleLine (entryAt image i)
 
-    next : lines (i + 1) ≡ lines i ++ ruleLine (entryOf x)
+    next : lines (i + 1) ≡ lines i ++ line
     next =
-        let y : entryAt image i ≡ entryOf x = entry-slot image i h ∙ ap entryOf (sym e) in
         let t : take (i + 1) (entriesOf image) ≡ take i (entriesOf image) ++ (entryAt image i ∷ []) =
         rw (add-one i) (take-suc (entriesOf image) i noEntry (omega (arith, entries-length image))) in
-        ap ruleLines t
-        ∙ (lines-append (take i (entriesOf image)) (entryAt image i ∷ [])
-        ∙ ap (λ (l : List ℕ). lines i ++ l) (append-nil (ruleLine (entryAt image i)) ∙ ap ruleLine y))
+        ap ruleLines t ∙ (lines-append (take i (entriesOf image)) (entryAt image i ∷ []) ∙ ap (λ (l : List ℕ). lines i ++ l) (append-nil line))
 
-    next-length : length (lines (i + 1)) ≡ length (lines i) + length (ruleLine (entryOf x))
-    next-length = ap length next ∙ length-append (lines i) (ruleLine (entryOf x))
+    next-length : length (lines (i + 1)) ≡ length (lines i) + length line
+    next-length = ap length next ∙ length-append (lines i) line
 
-    pub sized-next : (n m : ℕ) → Sized n i → m ≡ length (ruleLine (entryOf x)) → m ≤ lineSize longestFrame → Sized (n + m) (i + 1)
+    pub sized-next : (n m : ℕ) → Sized n i → m ≡ length line → m ≤ lineSize longestFrame → Sized (n + m) (i + 1)
     sized-next n m s f b = record { within = omega arith; sum = omega (arith, s .sum, next-length); small = omega (arith, s .small) }
 
   -- the file, by its head and its rules
@@ -132,18 +119,18 @@ module _ (image : List ℕ) where
           ∙ (sym (over-part (take headLineSize xs) xs (ruleLines (entriesOf image)))
           ∙ ap (λ (k : ℕ). take headLineSize xs ++ over (ruleLines (entriesOf image)) (drop k xs)) head))
 
-      module _ (h : i < countOf image) (x : Numbered) (e : x ≡ numberedAt image i) where
-        pub lined-room : at + length (ruleLine (entryOf x)) ≤ length out
-        lined-room = omega (arith, p .place, lined-length, lines-more (entriesOf image) (i + 1), next-length i h x e)
+      module _ (h : i < countOf image) where
+        pub lined-room : at + length (ruleLine (entryAt image i)) ≤ length out
+        lined-room = omega (arith, p .place, lined-length, lines-more (entriesOf image) (i + 1), next-length i h)
 
-        pub lined-next : (z : List ℕ) (m : ℕ) → z ≡ overAt at (ruleLine (entryOf x)) out → m ≡ at + length (ruleLine (entryOf x)) → Lined xs z m (i + 1)
+        pub lined-next : (z : List ℕ) (m : ℕ) → z ≡ overAt at (ruleLine (entryAt image i)) out → m ≡ at + length (ruleLine (entryAt image i)) → Lined xs z m (i + 1)
         lined-next z m f g = record {
           within = omega arith;
-          place = omega (arith, p .place, next-length i h x e);
+          place = omega (arith, p .place, next-length i h);
           written =
-              f ∙ (over-at (take headLineSize xs ++ lines i) xs (ruleLine (entryOf x)) out at (p .written) so-far
+              f ∙ (over-at (take headLineSize xs ++ lines i) xs (ruleLine (entryAt image i)) out at (p .written) so-far
               ∙ ap (λ (l : List ℕ). over l xs)
-              (append-assoc (take headLineSize xs) (lines i) (ruleLine (entryOf x)) ∙ ap (λ (l : List ℕ). take headLineSize xs ++ l) (sym (next i h x e))));
+              (append-assoc (take headLineSize xs) (lines i) (ruleLine (entryAt image i)) ∙ ap (λ (l : List ℕ). take headLineSize xs ++ l) (sym (next i h))));
         }
 
   -- ---- the whole file

@@ -1,12 +1,11 @@
 -- What reading a file into lent memory, and writing a ruleset to lent bytes, give: the answer with document 01's number and place, and
 -- the memory after it.
 -- Assumes nothing.
-use Prim.Native.Nat.{ℕ, suc, _-_, _≤_}
-use mathlib.Core.List.{List, [], _∷_, map}
+use Prim.Native.Nat.{ℕ, suc, _-_, _/_, _%_}
+use mathlib.Core.List.{List, [], _∷_, _++_, map}
 use mathlib.Core.Bool.{Bool, true, false, cond, _&&_}
 use lib.ListN.{length}
 use lib.Dec.{leb}
-use Rattle.rules.specs.Limits.{maxContext, maxTarget, maxPhones}
 use Rattle.rules.specs.Memory.{over}
 use Rattle.rules.specs.Shape.{shape}
 use Rattle.rules.specs.Refusals.{Reply, accepted, declined, Report, wrote, refused}
@@ -19,7 +18,7 @@ use Rattle.file.specs.declared.heading.Head.{Head}
 use Rattle.file.specs.declared.heading.HeadLine.{HeadLine}
 use Rattle.file.specs.declared.parsing.Ruled.{Ruled}
 use Rattle.file.specs.declared.parsing.RuleLine.{RuleLine}
-use Rattle.file.specs.Layout.{headCount, headLast, entryIn, numberedOf}
+use Rattle.file.specs.Layout.{headCount, headLast, ruleType, entryIn, numberedOf}
 use Rattle.file.specs.File.{encode, Read, isHead, isRule, readFile}
 use Rattle.file.specs.File.Read.{Accepted, Malformed, Broken}
 
@@ -108,9 +107,15 @@ abbrev pub withRules : ℕ → List Numbered → List ℕ → List ℕ
 withRules place [] image = image
 withRules place (x ∷ l) image = withRules (suc place) l (withRule place x image)
 
--- a rule struct whose lengths are not above its arrays
-pub record Short (x : Numbered) : Type 0 where
-  pub left : x .rule .«left_len» ≤ maxContext
-  pub target : x .rule .«target_len» ≤ maxTarget
-  pub right : x .rule .«right_len» ≤ maxContext
-  pub phones : x .rule .«phone_len» ≤ maxPhones
+-- a rule's frame without its checksum, part by part
+abbrev pub numberBytes : ℕ → List ℕ
+numberBytes n = ruleType ∷ n / 256 ∷ n % 256 ∷ []
+
+abbrev pub lengthBytes : List ℕ → List ℕ → List ℕ → List ℕ → List ℕ
+lengthBytes l t r p = length l % 256 ∷ length t % 256 ∷ length r % 256 ∷ length p % 256 ∷ []
+
+abbrev pub fieldBytes : List ℕ → List ℕ → List ℕ → List ℕ → List ℕ
+fieldBytes l t r p = l ++ (t ++ (r ++ p))
+
+abbrev pub bodyBytes : ℕ → List ℕ → List ℕ → List ℕ → List ℕ → List ℕ
+bodyBytes n l t r p = (numberBytes n ++ lengthBytes l t r p) ++ fieldBytes l t r p

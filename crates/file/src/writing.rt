@@ -1,79 +1,119 @@
 // A ruleset written line after line, and the bytes that its file needs.
 use crate::layout;
-use rules::Numbered;
+use frames::writer;
+use frames::writer::Writer;
 ghost use mathlib.Core.Path.{_≡_};
 ghost use mathlib.Core.Bool.{true};
-ghost use mathlib.Core.List.{_++_};
-ghost use Prim.Native.Nat.{_+_, _≤_};
-ghost use lib.ListN.{length, take};
+ghost use mathlib.Core.List.{_∷_, []};
+ghost use Prim.Native.Nat.{_+_, _*_, _%_, _<_, _≤_};
+ghost use lib.ListN.{length};
 ghost use Rattle.rules.specs.Limits.{maxRules};
 ghost use Rattle.rules.specs.Memory.{over, overAt};
-ghost use Rattle.rules.specs.Shape.{first, entryOf};
-ghost use Rattle.image.specs.Image.{valid, entriesOf};
-ghost use Rattle.file.specs.Layout.{frontSize, longestFrame, lineSize, headLineSize};
-ghost use Rattle.file.specs.File.{headLine, ruleFront, ruleBody, ruleLine, ruleLines, encode};
-ghost use Rattle.file.specs.Loading.{rulesetIn, Short};
+ghost use Rattle.image.specs.Image.{valid, countOf, entryAt, entriesOf};
+ghost use Rattle.frames.specs.Output.{output, Sent, digitPairs};
+ghost use Rattle.file.specs.Layout.{longestFrame, lineSize, headLineSize};
+ghost use Rattle.file.specs.File.{headLine, ruleLine, ruleLines, encode};
+ghost use Rattle.file.specs.Loading.{rulesetIn, numberBytes, lengthBytes, fieldBytes, bodyBytes};
 
 // The bytes of the line of a frame of n bytes: two digits each, and 0A. Those of a head's, and of a rule's without its fields.
 const HEAD_LINE: usize = 2 * layout::HEAD + 1;
 
 const FRONT_LINE: usize = 2 * (layout::FRONT + 1) + 1;
 
-// A rule's frame up to its lengths, at the front of lent bytes.
-fn put_front(body: &mut [u8], number: u16, l: u8, t: u8, r: u8, p: u8)
-    requires { ⌜ frontSize ≤ length (now body) ⌝ }
-    ensures { λ _. ⌜ now (body .exit) ≡ over (ruleFront number l t r p) (now (body .entry)) ⌝ }
+// A field's length.
+fn put_length(out: &mut [u8], w: Writer, pairs: &[u8], field: &[u8]) -> Writer
+    requires { ⌜ (w .at + 2 ≤ length (now out)) × (now pairs ≡ digitPairs) ⌝ }
+    ensures next { λ r. ⌜ r .at ≡ w .at + 2 ⌝ }
+    ensures sent { λ r. ⌜ Sent (length (now (field .entry)) % 256 ∷ []) (output w (now (out .entry))) (output r (now (out .exit))) ⌝ }
 {
-    let high = (number / 256) as u8;
-    let low = (number % 256) as u8;
-    let front = [layout::RULE_TYPE, high, low, l, t, r, p];
-    image::put(&mut *body, 0, &front);
+    writer::put_from(out, w, pairs, writer::low(field.len()))
 }
 
-// The first n bytes of a field, from `at` on. All its places are stored: a copy whose length is known takes no call and no test.
-fn push(body: &mut [u8], at: usize, field: &[u8], n: u8) -> usize
-    requires { ⌜ (n ≤ length (now field)) × (at + length (now field) ≤ length (now body)) ⌝ }
-    ensures next { λ r. ⌜ r ≡ at + n ⌝ }
-    ensures bytes { λ _. ⌜ take (at + n) (now (body .exit)) ≡ take at (now (body .entry)) ++ first n (now (field .entry)) 0 ⌝ }
+// The lengths of a rule's fields.
+fn put_lengths(
+    out: &mut [u8],
+    w: Writer,
+    pairs: &[u8],
+    left: &[u8],
+    target: &[u8],
+    right: &[u8],
+    phones: &[u8],
+) -> Writer
+    requires { ⌜ (w .at + 8 ≤ length (now out)) × (now pairs ≡ digitPairs) ⌝ }
+    ensures next { λ r. ⌜ r .at ≡ w .at + 8 ⌝ }
+    ensures sent { λ r. ⌜ Sent (lengthBytes (now (left .entry)) (now (target .entry)) (now (right .entry)) (now (phones .entry))) (output w (now (out .entry))) (output r (now (out .exit))) ⌝ }
 {
-    image::put(&mut *body, at, field);
-    at + numbers::wide(n)
+    let a = put_length(&mut *out, w, pairs, left);
+    let b = put_length(&mut *out, a, pairs, target);
+    let c = put_length(&mut *out, b, pairs, right);
+    put_length(out, c, pairs, phones)
 }
 
-// A rule's frame without its checksum, at the front of lent bytes, and its length.
-fn put_body(body: &mut [u8], x: Numbered) -> usize
-    requires { ⌜ (Short x) × (longestFrame ≤ length (now body) + 1) ⌝ }
-    ensures size { λ r. ⌜ r ≡ length (ruleBody (entryOf x)) ⌝ }
-    ensures bytes { λ _. ⌜ take (length (ruleBody (entryOf x))) (now (body .exit)) ≡ ruleBody (entryOf x) ⌝ }
+// Their bytes.
+fn put_fields(
+    out: &mut [u8],
+    w: Writer,
+    pairs: &[u8],
+    left: &[u8],
+    target: &[u8],
+    right: &[u8],
+    phones: &[u8],
+) -> Writer
+    requires { ⌜ (w .at + 2 * length (fieldBytes (now left) (now target) (now right) (now phones)) ≤ length (now out)) × (now pairs ≡ digitPairs) ⌝ }
+    ensures next { λ r. ⌜ r .at ≡ w .at + 2 * length (fieldBytes (now (left .entry)) (now (target .entry)) (now (right .entry)) (now (phones .entry))) ⌝ }
+    ensures sent { λ r. ⌜ Sent (fieldBytes (now (left .entry)) (now (target .entry)) (now (right .entry)) (now (phones .entry))) (output w (now (out .entry))) (output r (now (out .exit))) ⌝ }
 {
-    let rule = x.rule;
-    let left = rule.left;
-    let target = rule.target;
-    let right = rule.right;
-    let phones = rule.phones;
-    put_front(
-        &mut *body,
-        x.number,
-        rule.left_len,
-        rule.target_len,
-        rule.right_len,
-        rule.phone_len,
-    );
-    let a = push(&mut *body, layout::FRONT, &left, rule.left_len);
-    let b = push(&mut *body, a, &target, rule.target_len);
-    let c = push(&mut *body, b, &right, rule.right_len);
-    push(&mut *body, c, &phones, rule.phone_len)
+    let a = writer::put_all_from(&mut *out, w, pairs, left);
+    let b = writer::put_all_from(&mut *out, a, pairs, target);
+    let c = writer::put_all_from(&mut *out, b, pairs, right);
+    writer::put_all_from(out, c, pairs, phones)
 }
 
-// A rule's line from `at` on, and where it ends.
-fn write_rule(out: &mut [u8], at: usize, x: Numbered) -> usize
-    requires { ⌜ (Short x) × (at + length (ruleLine (entryOf x)) ≤ length (now out)) ⌝ }
-    ensures next { λ r. ⌜ r ≡ at + length (ruleLine (entryOf x)) ⌝ }
-    ensures bytes { λ _. ⌜ now (out .exit) ≡ overAt at (ruleLine (entryOf x)) (now (out .entry)) ⌝ }
+// 02, number (2).
+fn put_number(out: &mut [u8], w: Writer, pairs: &[u8], number: u16) -> Writer
+    requires { ⌜ (w .at + 6 ≤ length (now out)) × (now pairs ≡ digitPairs) ⌝ }
+    ensures next { λ r. ⌜ r .at ≡ w .at + 6 ⌝ }
+    ensures sent { λ r. ⌜ Sent (numberBytes number) (output w (now (out .entry))) (output r (now (out .exit))) ⌝ }
 {
-    let mut body = [0u8; layout::LONGEST_BODY];
-    let n = put_body(&mut body, x);
-    frames::write_line(&mut *out, at, &body[..n])
+    let a = writer::put_from(&mut *out, w, pairs, layout::RULE_TYPE);
+    let b = writer::put_from(&mut *out, a, pairs, (number / 256) as u8);
+    writer::put_from(out, b, pairs, (number % 256) as u8)
+}
+
+// A rule's frame without its checksum.
+fn put_body(
+    out: &mut [u8],
+    w: Writer,
+    pairs: &[u8],
+    number: u16,
+    left: &[u8],
+    target: &[u8],
+    right: &[u8],
+    phones: &[u8],
+) -> Writer
+    requires { ⌜ (w .at + 2 * length (bodyBytes number (now left) (now target) (now right) (now phones)) ≤ length (now out)) × (now pairs ≡ digitPairs) ⌝ }
+    ensures next { λ r. ⌜ r .at ≡ w .at + 2 * length (bodyBytes number (now (left .entry)) (now (target .entry)) (now (right .entry)) (now (phones .entry))) ⌝ }
+    ensures sent { λ r. ⌜ Sent (bodyBytes number (now (left .entry)) (now (target .entry)) (now (right .entry)) (now (phones .entry))) (output w (now (out .entry))) (output r (now (out .exit))) ⌝ }
+{
+    let a = put_number(&mut *out, w, pairs, number);
+    let b = put_lengths(&mut *out, a, pairs, left, target, right, phones);
+    put_fields(out, b, pairs, left, target, right, phones)
+}
+
+// The line of the rule at a place from `at` on, and where it ends.
+fn write_rule(image: &[u8], place: usize, pairs: &[u8], out: &mut [u8], at: usize) -> usize
+    requires { ⌜ (valid (now image) ≡ true) × ((place < countOf (now image)) × ((now pairs ≡ digitPairs) × (at + length (ruleLine (entryAt (now image) place)) ≤ length (now out)))) ⌝ }
+    ensures next { λ r. ⌜ r ≡ at + length (ruleLine (entryAt (now (image .entry)) place)) ⌝ }
+    ensures bytes { λ _. ⌜ now (out .exit) ≡ overAt at (ruleLine (entryAt (now (image .entry)) place)) (now (out .entry)) ⌝ }
+{
+    let number = image::number_at(image, place);
+    let left = image::left_at(image, place);
+    let target = image::target_at(image, place);
+    let right = image::right_at(image, place);
+    let phones = image::phones_at(image, place);
+    let start = writer::begin(at);
+    let body = put_body(&mut *out, start, pairs, number, left, target, right, phones);
+    writer::end(out, body)
 }
 
 // The head's line.
@@ -81,12 +121,12 @@ fn write_head(out: &mut [u8], count: usize, last: u16)
     requires { ⌜ (count ≤ maxRules) × (headLineSize ≤ length (now out)) ⌝ }
     ensures { λ _. ⌜ now (out .exit) ≡ over (headLine count last) (now (out .entry)) ⌝ }
 {
-    let a = (count / 256) as u8;
-    let b = (count % 256) as u8;
-    let c = (last / 256) as u8;
-    let d = (last % 256) as u8;
-    let body = [layout::HEAD_TYPE, layout::FIRST_EDITION, a, b, c, d];
-    frames::write_line(&mut *out, 0, &body);
+    let start = writer::begin(0);
+    let kind = writer::put(&mut *out, start, layout::HEAD_TYPE);
+    let edition = writer::put(&mut *out, kind, layout::FIRST_EDITION);
+    let counted = writer::put_two(&mut *out, edition, count);
+    let body = writer::put_two(&mut *out, counted, numbers::wide16(last));
+    writer::end(out, body);
 }
 
 // The lines of a ruleset's rules, after the head's.
@@ -95,11 +135,11 @@ fn write_rules(image: &[u8], out: &mut [u8])
     ensures { λ _. ⌜ now (out .exit) ≡ overAt headLineSize (ruleLines (entriesOf (now (image .entry)))) (now (out .entry)) ⌝ }
 {
     let count = image::rule_count(image);
+    let pairs = writer::digit_pairs();
     let mut at: usize = HEAD_LINE;
     let mut i: usize = 0;
     while i < count {
-        let x = image::rule_at(image, i);
-        at = write_rule(&mut *out, at, x);
+        at = write_rule(image, i, &pairs, &mut *out, at);
         i += 1;
     }
 }
@@ -115,17 +155,16 @@ pub fn write_ruleset(image: &[u8], out: &mut [u8])
     write_rules(image, out);
 }
 
-// The bytes of a rule's line.
-fn rule_size(x: Numbered) -> usize
-    requires { ⌜ Short x ⌝ }
-    ensures { λ r. ⌜ (r ≡ length (ruleLine (entryOf x))) × (r ≤ lineSize longestFrame) ⌝ }
+// The bytes of the line of the rule at a place.
+fn rule_size(image: &[u8], place: usize) -> usize
+    requires { ⌜ (valid (now image) ≡ true) × (place < countOf (now image)) ⌝ }
+    ensures { λ r. ⌜ (r ≡ length (ruleLine (entryAt (now (image .entry)) place))) × (r ≤ lineSize longestFrame) ⌝ }
 {
-    let rule = x.rule;
-    let l = numbers::wide(rule.left_len);
-    let t = numbers::wide(rule.target_len);
-    let r = numbers::wide(rule.right_len);
-    let p = numbers::wide(rule.phone_len);
-    FRONT_LINE + 2 * (l + (t + (r + p)))
+    let left = image::left_at(image, place);
+    let target = image::target_at(image, place);
+    let right = image::right_at(image, place);
+    let phones = image::phones_at(image, place);
+    FRONT_LINE + 2 * (left.len() + (target.len() + (right.len() + phones.len())))
 }
 
 // The bytes of a ruleset's file.
@@ -137,8 +176,7 @@ pub fn file_size(image: &[u8]) -> usize
     let mut n: usize = HEAD_LINE;
     let mut i: usize = 0;
     while i < count {
-        let x = image::rule_at(image, i);
-        n += rule_size(x);
+        n += rule_size(image, i);
         i += 1;
     }
     n

@@ -30,9 +30,13 @@ abbrev pub total : List ℕ → ℕ
 total [] = 0
 total (b ∷ f) = b + total f
 
+-- the byte that makes a sum zero
+abbrev pub complement : ℕ → ℕ
+complement sum = (256 - sum) % 256
+
 -- the checksum of a frame's body
 unfoldable pub sumByte : List ℕ → ℕ
-sumByte body = (256 - total body % 256) % 256
+sumByte body = complement (total body % 256)
 
 -- the frame of a body
 abbrev pub framed : List ℕ → List ℕ

@@ -1,11 +1,13 @@
 // A frame as a line: upper-case hexadecimal with a checksum, ended by 0A (document 01, "The rule file").
+pub mod writer;
+
 ghost use mathlib.Core.Path.{_≡_};
 ghost use mathlib.Core.Bool.{Bool, cond};
 ghost use Prim.Native.Nat.{_+_, _-_, _*_, _/_, _%_, _<_, _≤_};
 ghost use lib.Dec.{leb, ltb, eqb};
 ghost use lib.ListN.{length, getD, take, drop, set};
-ghost use Rattle.rules.specs.Memory.{over, overAt};
-ghost use Rattle.frames.specs.Lines.{digit, value, Parsed, lineOf, framed, soundLine, pairOf, decoded, report, lineAfter};
+ghost use Rattle.rules.specs.Memory.{over};
+ghost use Rattle.frames.specs.Lines.{digit, value, Parsed, soundLine, pairOf, decoded, report, lineAfter};
 
 // A line that was read: whether it is sound, where the next one starts and how many bytes its frame has, the checksum among them.
 pub struct Line {
@@ -50,45 +52,6 @@ fn hex_value(a: u8) -> u8
     let d = std::num::wrapping_sub_u8(a, 48);
     let e = letter_value(a);
     if d < 10 { d } else { e }
-}
-
-// ---- writing
-
-// Two digits.
-fn put_byte(out: &mut [u8], at: usize, b: u8)
-    requires { ⌜ at + 1 < length (now out) ⌝ }
-    ensures { λ _. ⌜ now (out .exit) ≡ set (set (now (out .entry)) at (digit (b / 16))) (at + 1) (digit (b % 16)) ⌝ }
-{
-    out[at] = hex_digit(b / 16);
-    out[at + 1] = hex_digit(b % 16);
-}
-
-// The line of a body at the front of lent bytes: its digits, those of the checksum, 0A.
-fn put_line(out: &mut [u8], body: &[u8])
-    requires { ⌜ 2 * length (now body) + 3 ≤ length (now out) ⌝ }
-    ensures { λ _. ⌜ now (out .exit) ≡ over (lineOf (framed (now (body .entry)))) (now (out .entry)) ⌝ }
-{
-    let n = body.len();
-    let mut sum: u8 = 0;
-    let mut k: usize = 0;
-    while k < n {
-        let b = body[k];
-        sum = std::num::wrapping_sub_u8(sum, b);
-        put_byte(&mut *out, 2 * k, b);
-        k += 1;
-    }
-    put_byte(&mut *out, 2 * n, sum);
-    out[2 * n + 2] = 10;
-}
-
-// The line of a body from `at` on, and where it ends. What lies past it keeps its contents.
-pub fn write_line(out: &mut [u8], at: usize, body: &[u8]) -> usize
-    requires { ⌜ at + (2 * length (now body) + 3) ≤ length (now out) ⌝ }
-    ensures next { λ r. ⌜ r ≡ at + (2 * length (now (body .entry)) + 3) ⌝ }
-    ensures bytes { λ _. ⌜ now (out .exit) ≡ overAt at (lineOf (framed (now (body .entry)))) (now (out .entry)) ⌝ }
-{
-    put_line(&mut out[at..], body);
-    at + (2 * body.len() + 3)
 }
 
 // ---- reading

@@ -3,9 +3,9 @@
 use Prim.Native.Nat.{_-_}
 use mathlib.Core.Path.{refl}
 use native.Mathlib.Omega.{arith}
-use borrow.Author.Needs.{needs}
 use Rattle.image.proofs.Tests.{valid-long, valid-count}
-use Rattle.file.proofs.FileBytes.{Sized, rule-short, sized-next, sized-end}
+use Rattle.file.proofs.FileBytes.{Sized, sized-next, sized-end}
+use borrow.Author.Needs.{needs}
 use Rattle.file.proofs.writing.file_size.Statement.{statement}
 use Rattle.file.proofs.writing.file_size.Tie as tie
 
@@ -21,14 +21,11 @@ rule-count-requires c κs = valid-long (c .before .args .image .now) (c .before 
 loop-holds : tie.Need-loop-holds Inv-loop μ-loop
 loop-holds c = record { within = omega arith; sum = refl; small = omega arith }
 
-rule-at-requires : tie.Need-rule-at-requires Inv-loop μ-loop
-rule-at-requires c κs = let v = valid-count (c .before .before .before .before .args .image .now) (c .before .before .before .before .pre) in (omega arith, valid-long (c .before .before .before .before .args .image .now) (c .before .before .before .before .pre))
-
 rule-size-requires : tie.Need-rule-size-requires Inv-loop μ-loop
-rule-size-requires c κs = rule-short (c .before .before .before .before .before .args .image .now) (c .before .before .loop .i) (omega arith) (c .rule-at .result) (c .rule-at .ensures) (c .before .before .before .before .before .pre)
+rule-size-requires c κs = (c .before .before .before .before .pre, omega arith)
 
 add-n : tie.Need-add-n Inv-loop μ-loop
-add-n c = let v = valid-count (c .before .before .before .before .before .before .args .image .now) (c .before .before .before .before .before .before .pre) in omega arith
+add-n c = let v = valid-count (c .before .before .before .before .before .args .image .now) (c .before .before .before .before .before .pre) in omega arith
 
 add-i : tie.Need-add-i Inv-loop μ-loop
 add-i c = search needs
@@ -37,7 +34,7 @@ loop-less : tie.Need-loop-less Inv-loop μ-loop
 loop-less c = search needs
 
 loop-again : tie.Need-loop-again Inv-loop μ-loop
-loop-again c = sized-next (c .before .before .before .before .before .before .args .image .now) (c .before .before .before .loop .i) (omega arith) (c .before .rule-at .result) (c .before .rule-at .ensures) (c .before .before .before .loop .n) (c .rule-size .result) (c .before .before .before .loop .inv) (c .rule-size .ensures .0) (c .rule-size .ensures .1)
+loop-again c = sized-next (c .before .before .before .before .before .args .image .now) (c .before .before .loop .i) (omega arith) (c .before .before .loop .n) (c .rule-size .result) (c .before .before .loop .inv) (c .rule-size .ensures .0) (c .rule-size .ensures .1)
 
 returns : tie.Need-returns Inv-loop μ-loop
 returns c = sized-end (c .before .before .before .before .args .image .now) (c .before .loop .n) (c .before .loop .i) (c .before .loop .inv) (omega arith)
@@ -50,7 +47,6 @@ file-size-spec =
     μ-loop
     rule-count-requires
     loop-holds
-    rule-at-requires
     rule-size-requires
     add-n
     add-i

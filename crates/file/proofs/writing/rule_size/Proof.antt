@@ -1,49 +1,74 @@
 -- `file::writing::rule_size` meets its contract.
 -- Assumes nothing.
 use native.Mathlib.Omega.{arith}
+use Rattle.image.specs.Image.{entryAt}
+use Rattle.file.proofs.RuleBytes.{Fields, all-short, size-is}
 use borrow.Author.Needs.{needs}
-use Rattle.file.proofs.RuleBytes.{size-is}
 use Rattle.file.proofs.writing.rule_size.Statement.{statement}
 use Rattle.file.proofs.writing.rule_size.Tie as tie
 
-wide-requires : tie.Need-wide-requires
-wide-requires c κs = search needs
+left-at-requires : tie.Need-left-at-requires
+left-at-requires c κs = search needs
 
-wide-requires-2 : tie.Need-wide-requires-2
-wide-requires-2 c κs = search needs
+target-at-requires : tie.Need-target-at-requires
+target-at-requires c κs = search needs
 
-wide-requires-3 : tie.Need-wide-requires-3
-wide-requires-3 c κs = search needs
+right-at-requires : tie.Need-right-at-requires
+right-at-requires c κs = search needs
 
-wide-requires-4 : tie.Need-wide-requires-4
-wide-requires-4 c κs = search needs
+phones-at-requires : tie.Need-phones-at-requires
+phones-at-requires c κs = search needs
 
 add-result : tie.Need-add-result
-add-result c = search needs
+add-result c =
+    let a = c .before .before .before .before .before .args in
+    let h = c .before .before .before .before .before .pre in
+    let f : Fields (entryAt (a .image .now) (a .place)) _ _ _ _ = record { left = c .before .before .before .left-at .ensures; target = c .before .before .target-at .ensures; right = c .before .right-at .ensures; phones = c .phones-at .ensures } in
+    omega (arith, all-short (a .image .now) (h .0) (a .place) (h .1) _ _ _ _ f)
 
 add-result-2 : tie.Need-add-result-2
-add-result-2 c = search needs
+add-result-2 c =
+    let a = c .before .before .before .before .before .args in
+    let h = c .before .before .before .before .before .pre in
+    let f : Fields (entryAt (a .image .now) (a .place)) _ _ _ _ = record { left = c .before .before .before .left-at .ensures; target = c .before .before .target-at .ensures; right = c .before .right-at .ensures; phones = c .phones-at .ensures } in
+    omega (arith, all-short (a .image .now) (h .0) (a .place) (h .1) _ _ _ _ f)
 
 add-result-3 : tie.Need-add-result-3
-add-result-3 c = search needs
+add-result-3 c =
+    let a = c .before .before .before .before .before .args in
+    let h = c .before .before .before .before .before .pre in
+    let f : Fields (entryAt (a .image .now) (a .place)) _ _ _ _ = record { left = c .before .before .before .left-at .ensures; target = c .before .before .target-at .ensures; right = c .before .right-at .ensures; phones = c .phones-at .ensures } in
+    omega (arith, all-short (a .image .now) (h .0) (a .place) (h .1) _ _ _ _ f)
 
 mul-result : tie.Need-mul-result
-mul-result c = search needs
+mul-result c =
+    let a = c .before .before .before .before .before .args in
+    let h = c .before .before .before .before .before .pre in
+    let f : Fields (entryAt (a .image .now) (a .place)) _ _ _ _ = record { left = c .before .before .before .left-at .ensures; target = c .before .before .target-at .ensures; right = c .before .right-at .ensures; phones = c .phones-at .ensures } in
+    omega (arith, all-short (a .image .now) (h .0) (a .place) (h .1) _ _ _ _ f)
 
 add-result-4 : tie.Need-add-result-4
-add-result-4 c = search needs
+add-result-4 c =
+    let a = c .before .before .before .before .before .args in
+    let h = c .before .before .before .before .before .pre in
+    let f : Fields (entryAt (a .image .now) (a .place)) _ _ _ _ = record { left = c .before .before .before .left-at .ensures; target = c .before .before .target-at .ensures; right = c .before .right-at .ensures; phones = c .phones-at .ensures } in
+    omega (arith, all-short (a .image .now) (h .0) (a .place) (h .1) _ _ _ _ f)
 
 returns : tie.Need-returns
-returns c = (omega (arith, size-is (c .before .before .before .before .before .args .x)), omega arith)
+returns c =
+    let a = c .before .before .before .before .before .args in
+    let h = c .before .before .before .before .before .pre in
+    let f : Fields (entryAt (a .image .now) (a .place)) _ _ _ _ = record { left = c .before .before .before .left-at .ensures; target = c .before .before .target-at .ensures; right = c .before .right-at .ensures; phones = c .phones-at .ensures } in
+    size-is (a .image .now) (h .0) (a .place) (h .1) _ _ _ _ f _ (omega arith)
 
 pub rule-size-spec : {M : Type 1} → statement M
 rule-size-spec =
     tie.close
     (tie.spec
-    wide-requires
-    wide-requires-2
-    wide-requires-3
-    wide-requires-4
+    left-at-requires
+    target-at-requires
+    right-at-requires
+    phones-at-requires
     add-result
     add-result-2
     add-result-3

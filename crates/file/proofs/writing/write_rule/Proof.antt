@@ -1,48 +1,78 @@
--- `file::writing::write_rule` meets its contract: the line of the body that `put_body` gave.
+-- `file::writing::write_rule` meets its contract: the frame begins, its body goes out, it ends.
 -- Assumes nothing.
-use Prim.Native.Nat.{ℕ, _+_}
-use mathlib.Core.Path.{_≡_, sym, ap, _∙_}
-use mathlib.Core.List.{List}
+use mathlib.Core.Path.{ap}
 use native.Mathlib.Omega.{arith}
+use lib.ListN.{length}
+use Rattle.image.specs.Image.{entryAt}
+use Rattle.image.proofs.Tests.{valid-long, valid-count}
+use Rattle.frames.proofs.Output.{sent-as, line-sent}
+use Rattle.file.proofs.RuleBytes.{Fields, body-is, line-length}
 use borrow.Author.Needs.{needs}
-use lib.ListN.{length, take}
-use lib.Seq.{length-take-le}
-use Rattle.rules.specs.Memory.{overAt}
-use Rattle.frames.specs.Lines.{lineOf, framed}
-use Rattle.file.specs.Layout.{longestFrame}
-use Rattle.file.proofs.RuleBytes.{body-short, line-size}
 use Rattle.file.proofs.writing.write_rule.Statement.{statement}
 use Rattle.file.proofs.writing.write_rule.Tie as tie
 
-slice-aggregate-put-body : tie.Need-slice-aggregate-put-body
-slice-aggregate-put-body c = search needs
+number-at-requires : tie.Need-number-at-requires
+number-at-requires c κs = let h = c .before .before .before .pre in let v = valid-count (c .before .before .before .args .image .now) (h .0) in (omega arith, valid-long (c .before .before .before .args .image .now) (h .0))
+
+left-at-requires : tie.Need-left-at-requires
+left-at-requires c κs = search needs
+
+target-at-requires : tie.Need-target-at-requires
+target-at-requires c κs = search needs
+
+right-at-requires : tie.Need-right-at-requires
+right-at-requires c κs = search needs
+
+phones-at-requires : tie.Need-phones-at-requires
+phones-at-requires c κs = search needs
+
+begin-requires : tie.Need-begin-requires
+begin-requires c κs = search needs
 
 put-body-requires : tie.Need-put-body-requires
-put-body-requires c κs = search needs
+put-body-requires c κs =
+    let a = c .before .before .before .before .before .before .before .before .before .before .args in
+    let h = c .before .before .before .before .before .before .before .before .before .before .pre in
+    let e = entryAt (a .image .now) (a .place) in
+    let f : Fields e _ _ _ _ = record { left = c .before .before .before .before .before .left-at .ensures; target = c .before .before .before .before .target-at .ensures; right = c .before .before .before .right-at .ensures; phones = c .before .before .phones-at .ensures } in
+    let b = body-is (a .image .now) (h .0) (a .place) (h .1 .0) _ _ _ _ f _ (c .before .before .before .before .before .before .number-at .ensures) in
+    (omega (arith, h .1 .1 .1, line-length e, ap length b, c .before .begin .ensures .0), h .1 .1 .0)
 
-array-share-prefix-body : tie.Need-array-share-prefix-body
-array-share-prefix-body c = let s = body-short (c .before .before .before .before .before .args .x) (c .before .before .before .before .before .pre .0) (c .before .before .put-body .result) (c .before .before .put-body .ensures .0) in let l : length (c .before .before .put-body .last .0) + 1 ≡ longestFrame = search needs in omega arith
-
-slice-aggregate-write-line : tie.Need-slice-aggregate-write-line
-slice-aggregate-write-line c = let s = body-short (c .before .before .before .before .before .before .args .x) (c .before .before .before .before .before .before .pre .0) (c .before .before .before .put-body .result) (c .before .before .before .put-body .ensures .0) in let l : length (c .before .before .before .put-body .last .0) + 1 ≡ longestFrame = search needs in sym (length-take-le _ _ (omega arith))
-
-write-line-requires : tie.Need-write-line-requires
-write-line-requires c κs = let s = body-short (c .before .before .before .before .before .before .args .x) (c .before .before .before .before .before .before .pre .0) (c .before .before .before .put-body .result) (c .before .before .before .put-body .ensures .0) in let l : length (c .before .before .before .put-body .last .0) + 1 ≡ longestFrame = search needs in omega (arith, length-take-le (c .before .before .before .put-body .result) (c .before .before .before .put-body .last .0) (omega arith), line-size (c .before .before .before .before .before .before .args .x) (c .before .before .before .before .before .before .pre .0) (c .before .before .before .put-body .result) (c .before .before .before .put-body .ensures .0))
+end-requires : tie.Need-end-requires
+end-requires c κs =
+    let a = c .before .before .before .before .before .before .before .before .before .before .before .before .before .before .args in
+    let h = c .before .before .before .before .before .before .before .before .before .before .before .before .before .before .pre in
+    let e = entryAt (a .image .now) (a .place) in
+    let f : Fields e _ _ _ _ = record { left = c .before .before .before .before .before .before .before .before .before .left-at .ensures; target = c .before .before .before .before .before .before .before .before .target-at .ensures; right = c .before .before .before .before .before .before .before .right-at .ensures; phones = c .before .before .before .before .before .before .phones-at .ensures } in
+    let b = body-is (a .image .now) (h .0) (a .place) (h .1 .0) _ _ _ _ f _ (c .before .before .before .before .before .before .before .before .before .before .number-at .ensures) in
+    omega (arith, h .1 .1 .1, line-length e, ap length b, c .before .before .before .before .before .begin .ensures .0, c .before .before .before .put-body .ensures .0)
 
 same-length : tie.Need-same-length
 same-length c = search needs
 
 returns : tie.Need-returns
-returns c = let s = body-short (c .before .before .before .before .before .before .before .before .before .args .x) (c .before .before .before .before .before .before .before .before .before .pre .0) (c .before .before .before .before .before .before .put-body .result) (c .before .before .before .before .before .before .put-body .ensures .0) in let l : length (c .before .before .before .before .before .before .put-body .last .0) + 1 ≡ longestFrame = search needs in let b = ap (λ (k : ℕ). take k (c .before .before .before .before .before .before .put-body .last .0)) (c .before .before .before .before .before .before .put-body .ensures .0) ∙ c .before .before .before .before .before .before .put-body .ensures .1 in (omega (arith, length-take-le (c .before .before .before .before .before .before .put-body .result) (c .before .before .before .before .before .before .put-body .last .0) (omega arith), line-size (c .before .before .before .before .before .before .before .before .before .args .x) (c .before .before .before .before .before .before .before .before .before .pre .0) (c .before .before .before .before .before .before .put-body .result) (c .before .before .before .before .before .before .put-body .ensures .0)), c .before .before .write-line .ensures .1 ∙ ap (λ (w : List ℕ). overAt (c .before .before .before .before .before .before .before .before .before .args .at) (lineOf (framed w)) (c .before .before .before .before .before .before .before .before .before .args .out .now)) b)
+returns c =
+    let a = c .before .before .before .before .before .before .before .before .before .before .before .before .before .before .before .before .before .args in
+    let h = c .before .before .before .before .before .before .before .before .before .before .before .before .before .before .before .before .before .pre in
+    let e = entryAt (a .image .now) (a .place) in
+    let f : Fields e _ _ _ _ = record { left = c .before .before .before .before .before .before .before .before .before .before .before .before .left-at .ensures; target = c .before .before .before .before .before .before .before .before .before .before .before .target-at .ensures; right = c .before .before .before .before .before .before .before .before .before .before .right-at .ensures; phones = c .before .before .before .before .before .before .before .before .before .phones-at .ensures } in
+    let b = body-is (a .image .now) (h .0) (a .place) (h .1 .0) _ _ _ _ f _ (c .before .before .before .before .before .before .before .before .before .before .before .before .before .number-at .ensures) in
+    let s = c .before .before .before .before .before .before .before .before .begin .ensures in
+    let q = c .before .before .before .before .before .before .put-body .ensures in
+    let z = c .before .before .end .ensures in
+    (omega (arith, line-length e, ap length b, s .0, q .0, z .0), line-sent (a .out .now) (a .at) (omega (arith, h .1 .1 .1)) (s .1) (sent-as b (q .1)) (z .1))
 
 pub write-rule-spec : {M : Type 1} → statement M
 write-rule-spec =
     tie.close
     (tie.spec
-    slice-aggregate-put-body
+    number-at-requires
+    left-at-requires
+    target-at-requires
+    right-at-requires
+    phones-at-requires
+    begin-requires
     put-body-requires
-    array-share-prefix-body
-    slice-aggregate-write-line
-    write-line-requires
+    end-requires
     same-length
     returns)

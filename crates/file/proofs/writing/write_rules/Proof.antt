@@ -2,29 +2,36 @@
 -- Assumes nothing.
 use Prim.Native.Nat.{_-_}
 use native.Mathlib.Omega.{arith}
+use Rattle.image.proofs.Tests.{valid-long}
+use Rattle.file.proofs.FileBytes.{Lined, lined-start, lined-length, lined-end, lined-room, lined-next}
 use borrow.Author.Needs.{needs}
-use Rattle.image.proofs.Tests.{valid-long, valid-count}
-use Rattle.file.proofs.FileBytes.{Lined, rule-short, lined-start, lined-length, lined-end, lined-room, lined-next}
 use Rattle.file.proofs.writing.write_rules.Statement.{statement}
 use Rattle.file.proofs.writing.write_rules.Tie as tie
 
 abbrev Inv-loop : tie.InvT-loop
-Inv-loop image out₀ count at₀ i₀ out at i = Lined image out₀ out at i
+Inv-loop image out₀ count pairs at₀ i₀ out at i = Lined image out₀ out at i
 
 abbrev μ-loop : tie.MeasureT-loop
-μ-loop image out₀ count at₀ i₀ out at i = count - i
+μ-loop image out₀ count pairs at₀ i₀ out at i = count - i
 
 rule-count-requires : tie.Need-rule-count-requires Inv-loop μ-loop
 rule-count-requires c κs = valid-long (c .before .before .args .image .now) (c .before .before .pre .0)
 
-loop-holds : tie.Need-loop-holds Inv-loop μ-loop
-loop-holds c = lined-start (c .before .before .before .args .image .now) (c .before .before .before .args .out .now) (c .before .before .before .pre .1)
+digit-pairs-requires : tie.Need-digit-pairs-requires Inv-loop μ-loop
+digit-pairs-requires c κs = search needs
 
-rule-at-requires : tie.Need-rule-at-requires Inv-loop μ-loop
-rule-at-requires c κs = let v = valid-count (c .before .before .before .before .before .args .image .now) (c .before .before .before .before .before .pre .0) in (omega arith, valid-long (c .before .before .before .before .before .args .image .now) (c .before .before .before .before .before .pre .0))
+loop-holds : tie.Need-loop-holds Inv-loop μ-loop
+loop-holds c = let a = c .before .before .before .before .args in let h = c .before .before .before .before .pre in lined-start (a .image .now) (a .out .now) (h .1)
+
+slice-aggregate-write-rule : tie.Need-slice-aggregate-write-rule Inv-loop μ-loop
+slice-aggregate-write-rule c = search needs
 
 write-rule-requires : tie.Need-write-rule-requires Inv-loop μ-loop
-write-rule-requires c κs = (rule-short (c .before .before .before .before .before .before .before .args .image .now) (c .before .before .before .loop .i) (omega arith) (c .before .rule-at .result) (c .before .rule-at .ensures) (c .before .before .before .before .before .before .before .pre .0), lined-room (c .before .before .before .before .before .before .before .args .image .now) (c .before .before .before .before .before .before .before .args .out .now) (c .before .before .before .before .before .before .before .pre .1) (c .before .before .before .loop .out) (c .before .before .before .loop .at) (c .before .before .before .loop .i) (c .before .before .before .loop .inv) (omega arith) (c .before .rule-at .result) (c .before .rule-at .ensures))
+write-rule-requires c κs =
+    let a = c .before .before .before .before .before .before .before .before .args in
+    let h = c .before .before .before .before .before .before .before .before .pre in
+    let l = c .before .before .before .loop in
+    (h .0, (omega arith, (c .before .before .before .before .digit-pairs .ensures, lined-room (a .image .now) (a .out .now) (h .1) (l .out) (l .at) (l .i) (l .inv) (omega arith))))
 
 add-i : tie.Need-add-i Inv-loop μ-loop
 add-i c = search needs
@@ -33,13 +40,18 @@ loop-less : tie.Need-loop-less Inv-loop μ-loop
 loop-less c = search needs
 
 loop-again : tie.Need-loop-again Inv-loop μ-loop
-loop-again c = lined-next (c .before .before .before .before .before .before .before .before .before .before .args .image .now) (c .before .before .before .before .before .before .before .before .before .before .args .out .now) (c .before .before .before .before .before .before .before .before .before .before .pre .1) (c .before .before .before .before .before .before .loop .out) (c .before .before .before .before .before .before .loop .at) (c .before .before .before .before .before .before .loop .i) (c .before .before .before .before .before .before .loop .inv) (omega arith) (c .before .before .before .before .rule-at .result) (c .before .before .before .before .rule-at .ensures) _ (c .before .before .write-rule .result) (c .before .before .write-rule .ensures .1) (c .before .before .write-rule .ensures .0)
+loop-again c =
+    let a = c .before .before .before .before .before .before .before .before .before .before .before .args in
+    let h = c .before .before .before .before .before .before .before .before .before .before .before .pre in
+    let l = c .before .before .before .before .before .before .loop in
+    let w = c .before .before .write-rule in
+    lined-next (a .image .now) (a .out .now) (h .1) (l .out) (l .at) (l .i) (l .inv) (omega arith) _ (w .result) (w .ensures .1) (w .ensures .0)
 
 same-length : tie.Need-same-length Inv-loop μ-loop
-same-length c = lined-length (c .before .before .before .before .before .args .image .now) (c .before .before .before .before .before .args .out .now) (c .before .before .before .before .before .pre .1) (c .before .loop .out) (c .before .loop .at) (c .before .loop .i) (c .before .loop .inv)
+same-length c = let a = c .before .before .before .before .before .before .args in let h = c .before .before .before .before .before .before .pre in let l = c .before .loop in lined-length (a .image .now) (a .out .now) (h .1) (l .out) (l .at) (l .i) (l .inv)
 
 returns : tie.Need-returns Inv-loop μ-loop
-returns c = lined-end (c .before .before .before .before .before .args .image .now) (c .before .before .before .before .before .args .out .now) (c .before .before .before .before .before .pre .1) (c .before .loop .out) (c .before .loop .at) (c .before .loop .i) (c .before .loop .inv) (omega arith)
+returns c = let a = c .before .before .before .before .before .before .args in let h = c .before .before .before .before .before .before .pre in let l = c .before .loop in lined-end (a .image .now) (a .out .now) (h .1) (l .out) (l .at) (l .i) (l .inv) (omega arith)
 
 pub write-rules-spec : {M : Type 1} → statement M
 write-rules-spec =
@@ -48,8 +60,9 @@ write-rules-spec =
     Inv-loop
     μ-loop
     rule-count-requires
+    digit-pairs-requires
     loop-holds
-    rule-at-requires
+    slice-aggregate-write-rule
     write-rule-requires
     add-i
     loop-less
