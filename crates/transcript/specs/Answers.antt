@@ -1,26 +1,19 @@
 -- The lines that `say` prints (document 01, "The six rules"): 04, steps (2), phone count (2), phones, rule count (1), numbers (2 each); or
 -- 05, refusal number, place (4). Fields are high byte first; each line is a frame with its checksum.
 -- Assumes nothing.
-use Prim.Native.Nat.{ℕ, _/_, _%_}
+use Prim.Native.Nat.{ℕ, _%_}
 use mathlib.Core.List.{List, [], _∷_, _++_}
 use lib.ListN.{length, take}
 use Rattle.rules.specs.Refusals.{refusalNumber, refusalPlace}
 use Rattle.rules.specs.declared.Refusal.{Refusal}
 use Rattle.frames.specs.Lines.{lineOf, framed}
+use Rattle.frames.specs.Output.{bytes2, bytes4, fields}
 use Rattle.reading.specs.Speech.{Told, spoken, refused}
 use Rattle.tables.specs.Walk.{Walked}
 
--- a field of two bytes
-abbrev pub bytes2 : ℕ → List ℕ
-bytes2 n = n / 256 % 256 ∷ n % 256 ∷ []
-
--- a field of four bytes
-abbrev pub bytes4 : ℕ → List ℕ
-bytes4 n = n / 16777216 % 256 ∷ n / 65536 % 256 ∷ n / 256 % 256 ∷ n % 256 ∷ []
-
+-- rule numbers, two bytes each
 abbrev pub twos : List ℕ → List ℕ
-twos [] = []
-twos (n ∷ l) = bytes2 n ++ twos l
+twos = fields bytes2
 
 abbrev pub spokenFront : ℕ → ℕ → List ℕ
 spokenFront steps count = 4 ∷ bytes2 steps ++ bytes2 count

@@ -1,17 +1,20 @@
 // What `say` answers: a name's line in and its answer's line out (document 01, "The six rules").
+use frames::writer;
+use frames::writer::Writer;
 use reading::Speech;
 use rules::Answer;
 use rules::Refusal;
 use walk::WalkAnswer;
 ghost use mathlib.Core.Path.{_≡_};
 ghost use mathlib.Core.Bool.{true};
-ghost use Prim.Native.Nat.{_+_, _*_, _%_, _<_, _≤_};
+ghost use Prim.Native.Nat.{_+_, _*_, _≤_};
 ghost use lib.ListN.{length, drop};
-ghost use Rattle.rules.specs.Memory.{over, overAt};
+ghost use Rattle.rules.specs.Memory.{over};
 ghost use Rattle.frames.specs.Lines.{soundLine, lineAfter};
+ghost use Rattle.frames.specs.Output.{output, Sent};
 ghost use Rattle.reading.specs.Speech.{toldOf};
 ghost use Rattle.image.specs.Image.{valid};
-ghost use Rattle.transcript.specs.Answers.{longestLine, bytes2, twos, spokenFront, spokenBody, printed, refusalLine, toldBody};
+ghost use Rattle.transcript.specs.Answers.{longestLine, twos, spokenFront, spokenBody, printed, refusalLine, toldBody};
 ghost use Rattle.transcript.specs.Names.{asked, nameLine, nameAnswer, cut, nameIn, ToldWithin};
 
 // ---- answers
@@ -19,93 +22,55 @@ ghost use Rattle.transcript.specs.Names.{asked, nameLine, nameAnswer, cu
 // No line that is printed for a name has more bytes, its 0A included.
 pub const LONGEST_LINE: usize = 783;
 
-// The lowest byte of a number.
-pub fn low(n: usize) -> u8
-    ensures { λ r. ⌜ r ≡ n % 256 ⌝ }
-{
-    (n % 256) as u8
-}
-
 // The line of a refusal, and its length.
 pub fn refusal_line(x: Refusal, out: &mut [u8]) -> usize
     requires { ⌜ 15 ≤ length (now out) ⌝ }
     ensures len { λ r. ⌜ r ≡ 15 ⌝ }
     ensures bytes { λ _. ⌜ now (out .exit) ≡ over (refusalLine x) (now (out .entry)) ⌝ }
 {
-    let place = rules::refusal_place(x);
-    let body = [
-        5,
-        rules::refusal_number(x),
-        low(place / 16777216),
-        low(place / 65536),
-        low(place / 256),
-        low(place),
-    ];
-    frames::write_line(out, 0, &body)
-}
-
-// The bytes of a field, from `at` on; where they end.
-pub fn put_field(body: &mut [u8], at: usize, field: &[u8]) -> usize
-    requires { ⌜ at + length (now field) ≤ length (now body) ⌝ }
-    ensures next { λ r. ⌜ r ≡ at + length (now (field .entry)) ⌝ }
-    ensures bytes { λ _. ⌜ now (body .exit) ≡ overAt at (now (field .entry)) (now (body .entry)) ⌝ }
-{
-    image::put(&mut *body, at, field);
-    at + field.len()
-}
-
-// A field of two bytes.
-fn put_two(body: &mut [u8], at: usize, n: usize) -> usize
-    requires { ⌜ at + 2 ≤ length (now body) ⌝ }
-    ensures next { λ r. ⌜ r ≡ at + 2 ⌝ }
-    ensures bytes { λ _. ⌜ now (body .exit) ≡ overAt at (bytes2 n) (now (body .entry)) ⌝ }
-{
-    let field = [low(n / 256), low(n)];
-    put_field(body, at, &field)
+    let start = writer::begin(0);
+    let kind = writer::put(&mut *out, start, 5);
+    let number = writer::put(&mut *out, kind, rules::refusal_number(x));
+    let place = writer::put_four(&mut *out, number, rules::refusal_place(x));
+    writer::end(out, place)
 }
 
 // Rule numbers, two bytes each.
-pub fn put_numbers(body: &mut [u8], from: usize, numbers: &[u16]) -> usize
-    requires { ⌜ from + 2 * length (now numbers) ≤ length (now body) ⌝ }
-    ensures next { λ r. ⌜ r ≡ from + 2 * length (now (numbers .entry)) ⌝ }
-    ensures bytes { λ _. ⌜ now (body .exit) ≡ overAt from (twos (now (numbers .entry))) (now (body .entry)) ⌝ }
+pub fn put_numbers(out: &mut [u8], w: Writer, numbers: &[u16]) -> Writer
+    requires { ⌜ w .at + 4 * length (now numbers) ≤ length (now out) ⌝ }
+    ensures next { λ r. ⌜ r .at ≡ w .at + 4 * length (now (numbers .entry)) ⌝ }
+    ensures sent { λ r. ⌜ Sent (twos (now (numbers .entry))) (output w (now (out .entry))) (output r (now (out .exit))) ⌝ }
 {
-    let mut at = from;
+    let mut next = w;
     let mut k: usize = 0;
     while k < numbers.len() {
-        at = put_two(&mut *body, at, numbers::wide16(numbers[k]));
+        next = writer::put_two(&mut *out, next, numbers::wide16(numbers[k]));
         k += 1;
     }
-    at
+    next
 }
 
 // 04, the steps and the phone count.
-fn put_front(body: &mut [u8], steps: usize, count: usize) -> usize
-    requires { ⌜ 5 ≤ length (now body) ⌝ }
-    ensures next { λ r. ⌜ r ≡ 5 ⌝ }
-    ensures bytes { λ _. ⌜ now (body .exit) ≡ over (spokenFront steps count) (now (body .entry)) ⌝ }
+fn put_front(out: &mut [u8], w: Writer, steps: usize, count: usize) -> Writer
+    requires { ⌜ w .at + 10 ≤ length (now out) ⌝ }
+    ensures next { λ r. ⌜ r .at ≡ w .at + 10 ⌝ }
+    ensures sent { λ r. ⌜ Sent (spokenFront steps count) (output w (now (out .entry))) (output r (now (out .exit))) ⌝ }
 {
-    let front = [
-        4,
-        low(steps / 256),
-        low(steps),
-        low(count / 256),
-        low(count),
-    ];
-    put_field(body, 0, &front)
+    let kind = writer::put(&mut *out, w, 4);
+    let stepped = writer::put_two(&mut *out, kind, steps);
+    writer::put_two(out, stepped, count)
 }
 
-// The body of what was spoken, and its length.
-fn put_spoken(body: &mut [u8], steps: usize, phones: &[u8], numbers: &[u16]) -> usize
-    requires { ⌜ 6 + length (now phones) + 2 * length (now numbers) ≤ length (now body) ⌝ }
-    ensures next { λ r. ⌜ r ≡ 6 + length (now (phones .entry)) + 2 * length (now (numbers .entry)) ⌝ }
-    ensures bytes { λ _. ⌜ now (body .exit) ≡ over (spokenBody steps (now (phones .entry)) (now (numbers .entry))) (now (body .entry)) ⌝ }
+// What was spoken.
+fn put_spoken(out: &mut [u8], w: Writer, steps: usize, phones: &[u8], numbers: &[u16]) -> Writer
+    requires { ⌜ w .at + 2 * (6 + length (now phones) + 2 * length (now numbers)) ≤ length (now out) ⌝ }
+    ensures next { λ r. ⌜ r .at ≡ w .at + 2 * (6 + length (now (phones .entry)) + 2 * length (now (numbers .entry))) ⌝ }
+    ensures sent { λ r. ⌜ Sent (spokenBody steps (now (phones .entry)) (now (numbers .entry))) (output w (now (out .entry))) (output r (now (out .exit))) ⌝ }
 {
-    let a = put_front(&mut *body, steps, phones.len());
-    let b = put_field(&mut *body, a, phones);
-    let count = [low(numbers.len())];
-    let c = put_field(&mut *body, b, &count);
-    put_numbers(&mut *body, c, numbers)
+    let front = put_front(&mut *out, w, steps, phones.len());
+    let said = writer::put_all(&mut *out, front, phones);
+    let count = writer::put(&mut *out, said, writer::low(numbers.len()));
+    put_numbers(out, count, numbers)
 }
 
 // The line of what was spoken, and its length.
@@ -114,9 +79,9 @@ pub fn spoken_line(steps: usize, phones: &[u8], numbers: &[u16], out: &mut [u8])
     ensures len { λ r. ⌜ r ≡ length (printed (spokenBody steps (now (phones .entry)) (now (numbers .entry)))) ⌝ }
     ensures bytes { λ _. ⌜ now (out .exit) ≡ over (printed (spokenBody steps (now (phones .entry)) (now (numbers .entry)))) (now (out .entry)) ⌝ }
 {
-    let mut body = [0u8; 390];
-    let n = put_spoken(&mut body, steps, phones, numbers);
-    frames::write_line(out, 0, &body[..n])
+    let start = writer::begin(0);
+    let body = put_spoken(&mut *out, start, steps, phones, numbers);
+    writer::end(out, body)
 }
 
 // The line of a walk's answer, and its length.

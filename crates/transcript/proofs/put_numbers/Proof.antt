@@ -1,21 +1,25 @@
--- `transcript::put_numbers` meets its contract. The loop's invariant: the numbers so far are laid from `from` on.
+-- `transcript::put_numbers` meets its contract. The loop's invariant: the numbers so far have gone out.
 -- Assumes nothing.
 use Prim.Native.Nat.{_-_}
+use mathlib.Core.Path.{ap}
 use native.Mathlib.Omega.{arith}
 use lib.ListN.{length}
+use Rattle.frames.specs.Output.{Output, output, bytes2}
+use Rattle.frames.proofs.Output.{Sending, sent-as, sent-next, sending-start, sending-next, sending-end, sending-length, sending-room}
+use Rattle.transcript.specs.Answers.{twos}
+use Rattle.transcript.proofs.Fields.{length-twos}
 use borrow.Author.Needs.{needs}
-use Rattle.transcript.proofs.Fields.{Put, put-start, put-length, put-next, put-end, put-done}
 use Rattle.transcript.proofs.put_numbers.Statement.{statement}
 use Rattle.transcript.proofs.put_numbers.Tie as tie
 
 abbrev Inv-loop : tie.InvT-loop
-Inv-loop body₀ from numbers at₀ k₀ body at k = Put body₀ numbers from at k body
+Inv-loop out₀ numbers next₀ k₀ out next k = Sending bytes2 numbers (output next₀ out₀) (output next out) k
 
 abbrev μ-loop : tie.MeasureT-loop
-μ-loop body₀ from numbers at₀ k₀ body at k = length numbers - k
+μ-loop out₀ numbers next₀ k₀ out next k = length numbers - k
 
 loop-holds : tie.Need-loop-holds Inv-loop μ-loop
-loop-holds c = let a = c .before .before .args in put-start (a .body .now) (a .numbers .now) (a .from) (c .before .before .pre)
+loop-holds c = let a = c .before .before .args in sending-start bytes2 (a .numbers .now) (output (a .w) (a .out .now))
 
 mul-wide16 : tie.Need-mul-wide16 Inv-loop μ-loop
 mul-wide16 c = search needs
@@ -30,8 +34,7 @@ put-two-requires : tie.Need-put-two-requires Inv-loop μ-loop
 put-two-requires c κs =
     let a = c .before .before .before .before .before .before .before .args in
     let l = c .before .before .before .before .loop in
-    let h = l .inv .here in
-    omega (arith, put-length (a .body .now) (a .numbers .now) (a .from) (c .before .before .before .before .before .before .before .pre) (l .at) (l .k) (l .body) (l .inv))
+    sending-room bytes2 (a .numbers .now) (output (a .w) (a .out .now)) _ (l .k) (l .inv) (omega (arith, c .before .before .before .before .before .before .before .pre, length-twos (a .numbers .now))) (c .before .before .before .loop-test .taken)
 
 add-k : tie.Need-add-k Inv-loop μ-loop
 add-k c = search needs
@@ -43,21 +46,17 @@ loop-again : tie.Need-loop-again Inv-loop μ-loop
 loop-again c =
     let a = c .before .before .before .before .before .before .before .before .before .before .args in
     let l = c .before .before .before .before .before .before .before .loop in
-    let e = c .before .before .before .wide16 .ensures .0 in
-    put-next (a .body .now) (a .numbers .now) (a .from) (c .before .before .before .before .before .before .before .before .before .before .pre) (l .at) (l .k) (l .body) (l .inv) (c .before .before .before .before .before .before .loop-test .taken) _ _ (c .before .before .put-two .ensures .0) (rw e at (c .before .before .put-two .ensures .1))
+    sending-next bytes2 (a .numbers .now) (output (a .w) (a .out .now)) _ (l .k) (l .inv) (c .before .before .before .before .before .before .loop-test .taken) _ (sent-as (ap bytes2 (c .before .before .before .wide16 .ensures .0)) (c .before .before .put-two .ensures .1))
 
 same-length : tie.Need-same-length Inv-loop μ-loop
-same-length c =
-    let a = c .before .before .before .before .args in
-    let l = c .before .loop in
-    put-length (a .body .now) (a .numbers .now) (a .from) (c .before .before .before .before .pre) (l .at) (l .k) (l .body) (l .inv)
+same-length c = let a = c .before .before .before .before .args in let l = c .before .loop in sending-length bytes2 (a .numbers .now) (output (a .w) (a .out .now)) _ (l .k) (l .inv) (omega (arith, c .before .before .before .before .pre, length-twos (a .numbers .now)))
 
 returns : tie.Need-returns Inv-loop μ-loop
 returns c =
     let a = c .before .before .before .before .args in
     let l = c .before .loop in
-    let h = c .loop-test .left in
-    (put-end (a .body .now) (a .numbers .now) (a .from) (c .before .before .before .before .pre) (l .at) (l .k) (l .body) (l .inv) h, put-done (a .body .now) (a .numbers .now) (a .from) (c .before .before .before .before .pre) (l .at) (l .k) (l .body) (l .inv) h)
+    let s = sending-end bytes2 (a .numbers .now) (output (a .w) (a .out .now)) _ (l .k) (l .inv) (c .loop-test .left) in
+    (omega (arith, ap (λ (o : Output). o .next) (s .equal), sent-next (twos (a .numbers .now)) (output (a .w) (a .out .now)), length-twos (a .numbers .now)), s)
 
 pub put-numbers-spec : {M : Type 1} → statement M
 put-numbers-spec =

@@ -1,56 +1,60 @@
--- `transcript::refusal_line` meets its contract.
+-- `transcript::refusal_line` meets its contract: its three fields go out.
 -- Assumes nothing.
-use Rattle.transcript.proofs.Printed.{refused-is}
+use Prim.Native.Nat.{ℕ}
+use mathlib.Core.Path.{ap₂}
+use mathlib.Core.List.{[], _∷_}
+use native.Mathlib.Omega.{arith}
+use Rattle.frames.proofs.Output.{sent-then, sent-as}
+use Rattle.transcript.specs.Answers.{refusedBody}
+use Rattle.transcript.proofs.Printed.{printed-sent}
 use borrow.Author.Needs.{needs}
 use Rattle.transcript.proofs.refusal_line.Statement.{statement}
 use Rattle.transcript.proofs.refusal_line.Tie as tie
 
-refusal-place-requires : tie.Need-refusal-place-requires
-refusal-place-requires c κs = search needs
+begin-requires : tie.Need-begin-requires
+begin-requires c κs = search needs
+
+put-requires : tie.Need-put-requires
+put-requires c κs = search needs
 
 refusal-number-requires : tie.Need-refusal-number-requires
 refusal-number-requires c κs = search needs
 
-low-requires : tie.Need-low-requires
-low-requires c κs = search needs
+put-requires-2 : tie.Need-put-requires-2
+put-requires-2 c κs = search needs
 
-low-requires-2 : tie.Need-low-requires-2
-low-requires-2 c κs = search needs
+refusal-place-requires : tie.Need-refusal-place-requires
+refusal-place-requires c κs = search needs
 
-low-requires-3 : tie.Need-low-requires-3
-low-requires-3 c κs = search needs
+put-four-requires : tie.Need-put-four-requires
+put-four-requires c κs = search needs
 
-low-requires-4 : tie.Need-low-requires-4
-low-requires-4 c κs = search needs
-
-slice-aggregate-write-line : tie.Need-slice-aggregate-write-line
-slice-aggregate-write-line c = search needs
-
-write-line-requires : tie.Need-write-line-requires
-write-line-requires c κs = search needs
+end-requires : tie.Need-end-requires
+end-requires c κs = search needs
 
 same-length : tie.Need-same-length
 same-length c = search needs
 
 returns : tie.Need-returns
 returns c =
-    let p = c .before .before .before .before .before .before .before .before .before .before .refusal-place .ensures in
-    let n = c .before .before .before .before .before .before .before .before .before .refusal-number .ensures in (
-      c .before .before .write-line .ensures .0,
-      refused-is _ _ _ _ _ _ _ _ (c .before .before .before .before .before .before .before .before .before .before .before .before .args .out .now) _ n p (c .before .before .before .before .before .before .before .before .low .ensures) (c .before .before .before .before .before .before .before .low2 .ensures) (c .before .before .before .before .before .before .low3 .ensures) (c .before .before .before .before .before .low4 .ensures) (c .before .before .write-line .ensures .1),
-    )
+    let a = c .before .before .before .before .before .before .before .before .before .before .before .before .before .before .before .before .before .before .before .before .args in
+    let b = c .before .before .before .before .before .before .before .before .before .before .before .before .before .before .before .before .before .before .begin .ensures in
+    let k = c .before .before .before .before .before .before .before .before .before .before .before .before .before .before .before .before .put .ensures in
+    let n = c .before .before .before .before .before .before .before .before .before .before .before .put2 .ensures in
+    let p = c .before .before .before .before .before .before .put-four .ensures in
+    let e = c .before .before .end .ensures in
+    (omega (arith, b .0, k .0, n .0, p .0, e .0), printed-sent (a .out .now) (b .1) (sent-as (ap₂ refusedBody (c .before .before .before .before .before .before .before .before .before .before .before .before .refusal-number .ensures) (c .before .before .before .before .before .before .before .refusal-place .ensures)) (sent-then (sent-then (k .1 .1) (n .1 .1)) (p .1))) (e .1))
 
 pub refusal-line-spec : {M : Type 1} → statement M
 refusal-line-spec =
     tie.close
     (tie.spec
-    refusal-place-requires
+    begin-requires
+    put-requires
     refusal-number-requires
-    low-requires
-    low-requires-2
-    low-requires-3
-    low-requires-4
-    slice-aggregate-write-line
-    write-line-requires
+    put-requires-2
+    refusal-place-requires
+    put-four-requires
+    end-requires
     same-length
     returns)
