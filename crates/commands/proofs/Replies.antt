@@ -1,12 +1,12 @@
--- The lines of answers, as the functions lay them, and an edit's outcome with its answer.
+-- The lines of answers, how long they are, and an edit's outcome with its answer.
 -- Assumes nothing.
-use Prim.Native.Nat.{ℕ, _/_, _%_, _≤_}
+use Prim.Native.Nat.{ℕ, _≤_}
 use mathlib.Core.Path.{_≡_, refl, sym, ap, _∙_, subst}
 use mathlib.Core.List.{List, [], _∷_, _++_}
 use mathlib.Core.Bool.{Bool, true, false}
 use native.Mathlib.Omega.{arith}
 use lib.ListN.{length, getD, drop, length-append}
-use Rattle.rules.specs.Memory.{over, overAt}
+use Rattle.rules.specs.Memory.{over}
 use Rattle.rules.specs.Refusals.{Reply, replyOf, refusalNumber, refusalPlace}
 use Rattle.rules.specs.declared.Refusal.{Refusal}
 use Rattle.rules.specs.declared.Answer.{Answer}
@@ -17,33 +17,11 @@ use Rattle.reading.specs.declared.Speech.{Speech}
 use Rattle.reading.specs.declared.Speech.the-variants as speeches
 use Rattle.tables.specs.Words.{Built, building}
 use Rattle.tables.specs.Walk.{Walked}
-use Rattle.frames.specs.Lines.{lineOf, framed}
-use Rattle.transcript.specs.Answers.{printed, toldBody, refusedBody, refusalLine, bytes2, bytes4}
-use Rattle.transcript.proofs.Printed.{printed-is, length-printed}
+use Rattle.frames.specs.Output.{bytes2, bytes4}
+use Rattle.transcript.specs.Answers.{printed, toldBody, refusedBody, refusalLine}
+use Rattle.transcript.proofs.Printed.{length-printed}
 use Rattle.commands.specs.Answers.{doneLine, lastLine, statesLine, walkRefusal, malformedLine, replyLine, editLine, Effect, leaving, Effects, sizedTo, bothSized, ruled, Answered, BothAnswered}
 use Rattle.commands.specs.Lent.{buildLine, buildEffects, plainLine, plainEffects, walkLine, walkEffects}
-
-module _ (xs z : List ℕ) where
-  pub done-is : z ≡ overAt 0 (lineOf (framed (6 ∷ []))) xs → z ≡ over doneLine xs
-  unfolding doneLine
-  done-is h = printed-is (6 ∷ []) (6 ∷ []) xs z refl h
-
-  pub last-is : (last a b : ℕ) → a ≡ last / 256 % 256 → b ≡ last % 256 → z ≡ overAt 0 (lineOf (framed (6 ∷ a ∷ b ∷ []))) xs
-      → z ≡ over (lastLine last) xs
-  unfolding lastLine
-  last-is last a b ea eb h = printed-is (6 ∷ bytes2 last) (6 ∷ a ∷ b ∷ []) xs z (rw (ea, eb)) h
-
-  pub states-is : (l r a b c d : ℕ) → a ≡ l / 256 % 256 → b ≡ l % 256 → c ≡ r / 256 % 256 → d ≡ r % 256
-      → z ≡ overAt 0 (lineOf (framed (6 ∷ a ∷ b ∷ c ∷ d ∷ []))) xs → z ≡ over (statesLine l r) xs
-  unfolding statesLine
-  states-is l r a b c d ea eb ec ed h = printed-is (6 ∷ bytes2 l ++ bytes2 r) (6 ∷ a ∷ b ∷ c ∷ d ∷ []) xs z (rw (ea, eb, ec, ed)) h
-
-  pub walk-refused-is : (steps number p s t n q a b c d : ℕ) → s ≡ steps / 256 % 256 → t ≡ steps % 256 → n ≡ number → q ≡ p
-      → a ≡ q / 16777216 % 256 → b ≡ q / 65536 % 256 → c ≡ q / 256 % 256 → d ≡ q % 256
-      → z ≡ overAt 0 (lineOf (framed (8 ∷ s ∷ t ∷ n ∷ a ∷ b ∷ c ∷ d ∷ []))) xs → z ≡ over (walkRefusal steps number p) xs
-  unfolding walkRefusal
-  walk-refused-is steps number p s t n q a b c d es et en eq ea eb ec ed h =
-      printed-is (8 ∷ bytes2 steps ++ (number ∷ bytes4 p)) (8 ∷ s ∷ t ∷ n ∷ a ∷ b ∷ c ∷ d ∷ []) xs z (rw (es, et, en, ea, eb, ec, ed, eq)) h
 
 length-last : (n : ℕ) → length (lastLine n) ≡ 9
 unfolding lastLine

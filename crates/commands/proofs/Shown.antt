@@ -1,19 +1,17 @@
--- Laws of the commands that store and show: a stored element, a shown part, and a body that starts with 0A.
+-- Laws of the commands that store and show: a stored element, a shown part.
 -- Assumes nothing.
-use Prim.Native.Nat.{ℕ, _+_, _-_, _*_, _≤_, _<_}
-use mathlib.Core.Path.{_≡_, sym, ap, _∙_, subst}
+use Prim.Native.Nat.{ℕ, _+_, _-_, _≤_, _<_}
+use mathlib.Core.Path.{_≡_, sym, _∙_, subst}
 use mathlib.Core.Bool.{Bool, true, false}
-use mathlib.Core.List.{List, [], _∷_, _++_}
+use mathlib.Core.List.{List, _∷_}
 use native.Mathlib.Omega.{arith}
 use borrow.Author.Tests.{le-ltb, lt-ltb, eq-eqb, leb-true, eqb-true}
 use lib.ListN.{length, getD, take, drop, set}
-use lib.Seq.{take-at}
 use lib.Dec.{eqb, ltb}
 use Rattle.rules.proofs.Cases.{and-l, and-r}
-use Rattle.rules.specs.Memory.{over, overAt}
-use Rattle.frames.specs.Lines.{lineOf, framed}
+use Rattle.rules.specs.Memory.{over}
 use Rattle.transcript.specs.Answers.{printed, refusedBody}
-use Rattle.transcript.proofs.Printed.{printed-is, length-printed}
+use Rattle.transcript.proofs.Printed.{length-printed}
 use Rattle.commands.specs.Fields.{four}
 use Rattle.commands.specs.Answers.{malformedLine, doneLine, leaving, sizedTo, Answered}
 use Rattle.commands.specs.Memory.{storedAt, shownIf, inside, shown}
@@ -57,15 +55,3 @@ module _ (bytes : List ℕ → List ℕ) (f xs : List ℕ) (len : ℕ) (out out�
       let d : i + k - i ≡ getD f 5 0 = omega arith in
       let e : take (i + k - i) (drop i xs) ≡ asked = rw (d, ei) in
       is-shown (inside f (length xs)) (bytes asked) len out out′ p (subst (λ (z : List ℕ). Gives (printed (10 ∷ bytes z)) len out out′) e g)
-
--- a body of 0A and ys, laid in the front of z
-module _ (ys xs z : List ℕ) (n : ℕ) (e : take 1 xs ≡ 10 ∷ []) (l : n ≡ 1 + length ys) (h : z ≡ overAt 1 ys xs) where
-  pub front-ten : take n z ≡ 10 ∷ ys
-  front-ten = ap (take n) (h ∙ ap (λ (t : List ℕ). t ++ over ys (drop 1 xs)) e) ∙ take-at (10 ∷ ys) (drop (length ys) (drop 1 xs)) n (omega arith)
-
-  pub front-length : length (take n z) ≡ n
-  front-length = ap length front-ten ∙ omega arith
-
-  pub front-shown : (len : ℕ) (out out′ : List ℕ) → len ≡ 0 + (2 * length (take n z) + 3) → out′ ≡ overAt 0 (lineOf (framed (take n z))) out
-      → Gives (printed (10 ∷ ys)) len out out′
-  front-shown len out out′ m b = (omega (arith, m, front-length, length-printed (10 ∷ ys)), printed-is (10 ∷ ys) (take n z) out out′ front-ten b)

@@ -15,7 +15,8 @@ use Rattle.image.specs.Image.{Edited, lastOf}
 use Rattle.edits.specs.Ledger.Edit.{Add, Drop, Move}
 use Rattle.edits.specs.Edits.{edited}
 use Rattle.file.specs.Layout.{lineSize, headLineSize, longestFrame}
-use Rattle.transcript.specs.Answers.{bytes2, bytes4, printed, refusedBody}
+use Rattle.frames.specs.Output.{bytes2, bytes4}
+use Rattle.transcript.specs.Answers.{printed, refusedBody}
 use Rattle.commands.specs.Fields.{addSized, addedRule}
 
 -- bytes of the longest rule file: a head line, and 512 rule lines with each field full. No answer has more

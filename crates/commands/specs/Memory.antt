@@ -1,13 +1,14 @@
 -- What the commands that reach into the monitor's memory leave there.
 -- Assumes nothing.
-use Prim.Native.Nat.{ℕ, _+_, _/_, _%_, _≤_}
+use Prim.Native.Nat.{ℕ, _+_, _/_, _≤_}
 use mathlib.Core.Bool.{Bool, cond, _&&_}
-use mathlib.Core.List.{List, [], _∷_, _++_}
+use mathlib.Core.List.{List, _∷_, _++_}
 use lib.ListN.{length, getD, take, drop, set}
 use lib.Dec.{leb, ltb, eqb}
 use Rattle.numbers.specs.Numbers.{two}
 use Rattle.rules.specs.Limits.{maxRules}
 use Rattle.image.specs.Image.{imageSize, withHead, withNumber, cleared}
+use Rattle.frames.specs.Output.{bytes4, fields}
 use Rattle.transcript.specs.Answers.{twos, printed}
 use Rattle.commands.specs.Fields.{four, eight}
 use Rattle.commands.specs.Answers.{longestFile, Effect, leaving, sizedTo, doneLine, malformedLine}
@@ -41,20 +42,10 @@ storedSet f sets = sizedTo (eqb (length f) 13) (storedAt (four 1 f) (eight 5 f) 
 
 -- a set word as eight bytes, high first
 abbrev pub bytes8 : ℕ → List ℕ
-bytes8 w =
-    w / 72057594037927936
-    ∷ w / 281474976710656 % 256
-    ∷ w / 1099511627776 % 256
-    ∷ w / 4294967296 % 256
-    ∷ w / 16777216 % 256
-    ∷ w / 65536 % 256
-    ∷ w / 256 % 256
-    ∷ w % 256
-    ∷ []
+bytes8 w = bytes4 (w / 4294967296) ++ bytes4 w
 
 abbrev pub eights : List ℕ → List ℕ
-eights [] = []
-eights (w ∷ l) = bytes8 w ++ eights l
+eights = fields bytes8
 
 -- 0A and the bytes that are asked for, where they are there
 abbrev pub shownIf : Bool → List ℕ → List ℕ

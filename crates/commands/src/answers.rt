@@ -1,4 +1,5 @@
 // The lines that a command answers.
+use frames::writer;
 use rules::Answer;
 use rules::Refusal;
 ghost use mathlib.Core.Path.{_≡_};
@@ -15,8 +16,9 @@ pub fn done_line(out: &mut [u8]) -> usize
     ensures len { λ r. ⌜ r ≡ 5 ⌝ }
     ensures bytes { λ _. ⌜ now (out .exit) ≡ over doneLine (now (out .entry)) ⌝ }
 {
-    let body = [6];
-    frames::write_line(out, 0, &body)
+    let start = writer::begin(0);
+    let body = writer::put(&mut *out, start, 6);
+    writer::end(out, body)
 }
 
 // 06, `last` (2).
@@ -25,8 +27,10 @@ pub fn last_line(last: usize, out: &mut [u8]) -> usize
     ensures len { λ r. ⌜ r ≡ 9 ⌝ }
     ensures bytes { λ _. ⌜ now (out .exit) ≡ over (lastLine last) (now (out .entry)) ⌝ }
 {
-    let body = [6, transcript::low(last / 256), transcript::low(last)];
-    frames::write_line(out, 0, &body)
+    let start = writer::begin(0);
+    let kind = writer::put(&mut *out, start, 6);
+    let body = writer::put_two(&mut *out, kind, last);
+    writer::end(out, body)
 }
 
 // 06, L (2), R (2).
@@ -35,14 +39,11 @@ pub fn states_line(l: usize, r: usize, out: &mut [u8]) -> usize
     ensures len { λ n. ⌜ n ≡ 13 ⌝ }
     ensures bytes { λ _. ⌜ now (out .exit) ≡ over (statesLine l r) (now (out .entry)) ⌝ }
 {
-    let body = [
-        6,
-        transcript::low(l / 256),
-        transcript::low(l),
-        transcript::low(r / 256),
-        transcript::low(r),
-    ];
-    frames::write_line(out, 0, &body)
+    let start = writer::begin(0);
+    let kind = writer::put(&mut *out, start, 6);
+    let left = writer::put_two(&mut *out, kind, l);
+    let body = writer::put_two(&mut *out, left, r);
+    writer::end(out, body)
 }
 
 // 08, steps (2), number, place (4).
@@ -51,18 +52,12 @@ pub fn walk_refusal(steps: usize, x: Refusal, out: &mut [u8]) -> usize
     ensures len { λ r. ⌜ r ≡ 19 ⌝ }
     ensures bytes { λ _. ⌜ now (out .exit) ≡ over (walkRefusal steps (refusalNumber x) (refusalPlace x)) (now (out .entry)) ⌝ }
 {
-    let place = rules::refusal_place(x);
-    let body = [
-        8,
-        transcript::low(steps / 256),
-        transcript::low(steps),
-        rules::refusal_number(x),
-        transcript::low(place / 16777216),
-        transcript::low(place / 65536),
-        transcript::low(place / 256),
-        transcript::low(place),
-    ];
-    frames::write_line(out, 0, &body)
+    let start = writer::begin(0);
+    let kind = writer::put(&mut *out, start, 8);
+    let stepped = writer::put_two(&mut *out, kind, steps);
+    let number = writer::put(&mut *out, stepped, rules::refusal_number(x));
+    let body = writer::put_four(&mut *out, number, rules::refusal_place(x));
+    writer::end(out, body)
 }
 
 // A line that is no command: 05 with 13, place 0.

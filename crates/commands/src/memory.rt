@@ -1,11 +1,14 @@
 // The commands that reach into the memory of the tables, the phones and the numbers.
 use crate::answers;
 use crate::fields;
+use frames::writer;
+use frames::writer::Writer;
 ghost use mathlib.Core.Path.{_≡_};
 ghost use mathlib.Core.List.{_∷_};
 ghost use Prim.Native.Nat.{_+_, _*_, _≤_};
 ghost use lib.ListN.{length};
-ghost use Rattle.rules.specs.Memory.{over, overAt};
+ghost use Rattle.rules.specs.Memory.{over};
+ghost use Rattle.frames.specs.Output.{output, Sent};
 ghost use Rattle.transcript.specs.Answers.{twos, printed};
 ghost use Rattle.commands.specs.Answers.{Answered};
 ghost use Rattle.commands.specs.Memory.{eights, bytes8, storedWord, storedSet, inside, shownWords, shownSets, shownPhones, shownNumbers};
@@ -48,9 +51,10 @@ fn words_line(words: &[u16], out: &mut [u8]) -> usize
     ensures len { λ r. ⌜ r ≡ length (printed (10 ∷ twos (now (words .entry)))) ⌝ }
     ensures bytes { λ _. ⌜ now (out .exit) ≡ over (printed (10 ∷ twos (now (words .entry)))) (now (out .entry)) ⌝ }
 {
-    let mut body = [10u8; 511];
-    let n = transcript::put_numbers(&mut body, 1, words);
-    frames::write_line(out, 0, &body[..n])
+    let start = writer::begin(0);
+    let kind = writer::put(&mut *out, start, 10);
+    let body = transcript::put_numbers(&mut *out, kind, words);
+    writer::end(out, body)
 }
 
 // Index (4), count (1): whether so many elements from there on are all among `n`.
@@ -77,36 +81,29 @@ pub fn show_words(f: &[u8], words: &[u16], out: &mut [u8]) -> usize
     words_line(&words[i..end], out)
 }
 
-// The bytes of a set word, high first.
-fn eight_bytes(w: u64) -> [u8; 8]
-    ensures { λ r. ⌜ r ≡ bytes8 w ⌝ }
+// A set word, high byte first.
+fn put_set(out: &mut [u8], w: Writer, set: u64) -> Writer
+    requires { ⌜ w .at + 16 ≤ length (now out) ⌝ }
+    ensures next { λ r. ⌜ r .at ≡ w .at + 16 ⌝ }
+    ensures sent { λ r. ⌜ Sent (bytes8 set) (output w (now (out .entry))) (output r (now (out .exit))) ⌝ }
 {
-    [
-        (w / 72057594037927936) as u8,
-        (w / 281474976710656 % 256) as u8,
-        (w / 1099511627776 % 256) as u8,
-        (w / 4294967296 % 256) as u8,
-        (w / 16777216 % 256) as u8,
-        (w / 65536 % 256) as u8,
-        (w / 256 % 256) as u8,
-        (w % 256) as u8,
-    ]
+    let high = writer::put_four(&mut *out, w, (set / 4294967296) as usize);
+    writer::put_four(out, high, set as usize)
 }
 
-// Set words, eight bytes each, from the second byte on; where they end.
-fn put_sets(body: &mut [u8], sets: &[u64]) -> usize
-    requires { ⌜ 1 + 8 * length (now sets) ≤ length (now body) ⌝ }
-    ensures next { λ r. ⌜ r ≡ 1 + 8 * length (now (sets .entry)) ⌝ }
-    ensures bytes { λ _. ⌜ now (body .exit) ≡ overAt 1 (eights (now (sets .entry))) (now (body .entry)) ⌝ }
+// Set words, eight bytes each.
+fn put_sets(out: &mut [u8], w: Writer, sets: &[u64]) -> Writer
+    requires { ⌜ w .at + 16 * length (now sets) ≤ length (now out) ⌝ }
+    ensures next { λ r. ⌜ r .at ≡ w .at + 16 * length (now (sets .entry)) ⌝ }
+    ensures sent { λ r. ⌜ Sent (eights (now (sets .entry))) (output w (now (out .entry))) (output r (now (out .exit))) ⌝ }
 {
-    let mut at: usize = 1;
+    let mut next = w;
     let mut k: usize = 0;
     while k < sets.len() {
-        let b = eight_bytes(sets[k]);
-        at = transcript::put_field(&mut *body, at, &b);
+        next = put_set(&mut *out, next, sets[k]);
         k += 1;
     }
-    at
+    next
 }
 
 // 0A and set words, eight bytes each.
@@ -115,9 +112,10 @@ fn sets_line(sets: &[u64], out: &mut [u8]) -> usize
     ensures len { λ r. ⌜ r ≡ length (printed (10 ∷ eights (now (sets .entry)))) ⌝ }
     ensures bytes { λ _. ⌜ now (out .exit) ≡ over (printed (10 ∷ eights (now (sets .entry)))) (now (out .entry)) ⌝ }
 {
-    let mut body = [10u8; 2041];
-    let n = put_sets(&mut body, sets);
-    frames::write_line(out, 0, &body[..n])
+    let start = writer::begin(0);
+    let kind = writer::put(&mut *out, start, 10);
+    let body = put_sets(&mut *out, kind, sets);
+    writer::end(out, body)
 }
 
 // 1B, index (4), count (1): so many set words are shown.
@@ -134,6 +132,18 @@ pub fn show_sets(f: &[u8], sets: &[u64], out: &mut [u8]) -> usize
     sets_line(&sets[i..end], out)
 }
 
+// 0A and bytes.
+pub fn bytes_line(bytes: &[u8], out: &mut [u8]) -> usize
+    requires { ⌜ 5 + 2 * length (now bytes) ≤ length (now out) ⌝ }
+    ensures len { λ r. ⌜ r ≡ length (printed (10 ∷ now (bytes .entry))) ⌝ }
+    ensures bytes { λ _. ⌜ now (out .exit) ≡ over (printed (10 ∷ now (bytes .entry))) (now (out .entry)) ⌝ }
+{
+    let start = writer::begin(0);
+    let kind = writer::put(&mut *out, start, 10);
+    let body = writer::put_all(&mut *out, kind, bytes);
+    writer::end(out, body)
+}
+
 // 1C: the phone bytes are shown.
 pub fn show_phones(f: &[u8], phones: &[u8], out: &mut [u8]) -> usize
     requires { ⌜ (length (now phones) ≤ 256) × (4085 ≤ length (now out)) ⌝ }
@@ -143,9 +153,7 @@ pub fn show_phones(f: &[u8], phones: &[u8], out: &mut [u8]) -> usize
     if f.len() != 1 {
         return answers::malformed(out);
     }
-    let mut body = [10u8; 257];
-    let n = transcript::put_field(&mut body, 1, phones);
-    frames::write_line(out, 0, &body[..n])
+    bytes_line(phones, out)
 }
 
 // 1D: the numbers are shown.

@@ -1,10 +1,10 @@
--- The lines of answers, as the functions lay them, by what a call said.
+-- The lines of answers, by what a call said.
 -- Assumes nothing.
-use Prim.Native.Nat.{ℕ, _/_, _%_}
+use Prim.Native.Nat.{ℕ}
 use mathlib.Core.Path.{_≡_, refl, sym, _∙_}
 use mathlib.Core.List.{List, [], _∷_}
 use mathlib.Core.Bool.{true}
-use Rattle.rules.specs.Memory.{over, overAt}
+use Rattle.rules.specs.Memory.{over}
 use Rattle.rules.specs.Refusals.{replyOf, reportOf, refusalNumber, refusalPlace}
 use Rattle.rules.specs.declared.Refusal.{Refusal}
 use Rattle.rules.specs.declared.Answer.{Answer}
@@ -12,16 +12,12 @@ use Rattle.rules.specs.declared.Answer.the-variants.{Accepted, Refused}
 use Rattle.rules.specs.declared.Written.{Written}
 use Rattle.rules.specs.declared.Written.the-variants.{Bytes, Refused as NotWritten}
 use Rattle.exceptions.specs.Calls.{nameCount, stateCount}
-use Rattle.frames.specs.Lines.{lineOf, framed}
-use Rattle.transcript.specs.Answers.{printed, refusedBody, refusalLine, bytes4}
-use Rattle.transcript.proofs.Printed.{printed-is, length-printed}
+use Rattle.frames.specs.Output.{bytes4}
+use Rattle.transcript.specs.Answers.{printed, refusedBody, refusalLine}
+use Rattle.transcript.proofs.Printed.{length-printed}
 use Rattle.commands.specs.Answers.{doneLine, statesLine, malformedLine}
 use Rattle.commands.proofs.Replies.{Gives, answered-done, gives-states}
 use Rattle.list_commands.specs.ListCommands.{changeLine, emptyLine, readOutLine}
-
-pub count-is : (xs z : List ℕ) (n a b c d : ℕ) → a ≡ n / 16777216 % 256 → b ≡ n / 65536 % 256 → c ≡ n / 256 % 256 → d ≡ n % 256
-    → z ≡ overAt 0 (lineOf (framed (6 ∷ a ∷ b ∷ c ∷ d ∷ []))) xs → z ≡ over (printed (6 ∷ bytes4 n)) xs
-count-is xs z n a b c d ea eb ec ed h = printed-is (6 ∷ bytes4 n) (6 ∷ a ∷ b ∷ c ∷ d ∷ []) xs z (rw (ea, eb, ec, ed)) h
 
 module _ (len : ℕ) (out out′ : List ℕ) where
   pub gives-malformed : len ≡ 15 → out′ ≡ over malformedLine out → Gives malformedLine len out out′

@@ -3,6 +3,7 @@ use commands::answers;
 use commands::fields;
 use commands::memory;
 use commands::speaking;
+use frames::writer;
 use rules::Written;
 ghost use mathlib.Core.Path.{_≡_};
 ghost use mathlib.Core.List.{_∷_};
@@ -10,7 +11,8 @@ ghost use Prim.Native.Nat.{_≤_};
 ghost use lib.ListN.{length};
 ghost use Rattle.rules.specs.Memory.{over};
 ghost use Rattle.rules.specs.Refusals.{reportOf};
-ghost use Rattle.transcript.specs.Answers.{bytes4, printed};
+ghost use Rattle.frames.specs.Output.{bytes4};
+ghost use Rattle.transcript.specs.Answers.{printed};
 ghost use Rattle.commands.specs.Answers.{Answered, leaving};
 ghost use Rattle.list_commands.specs.ListCommands.{longestAnswer, readOutLine, readOutIn, readOutBy, shownText};
 
@@ -20,14 +22,10 @@ fn count_line(n: usize, out: &mut [u8]) -> usize
     ensures len { λ r. ⌜ r ≡ 13 ⌝ }
     ensures bytes { λ _. ⌜ now (out .exit) ≡ over (printed (6 ∷ bytes4 n)) (now (out .entry)) ⌝ }
 {
-    let body = [
-        6,
-        transcript::low(n / 16777216),
-        transcript::low(n / 65536),
-        transcript::low(n / 256),
-        transcript::low(n),
-    ];
-    frames::write_line(out, 0, &body)
+    let start = writer::begin(0);
+    let kind = writer::put(&mut *out, start, 6);
+    let body = writer::put_four(&mut *out, kind, n);
+    writer::end(out, body)
 }
 
 // The answer of a read-out.
@@ -63,17 +61,6 @@ pub fn read_out_command(f: &[u8], list: &[u32], text: &mut [u8], out: &mut [u8])
     read_out_line(written, out)
 }
 
-// 0A and bytes.
-fn bytes_line(bytes: &[u8], out: &mut [u8]) -> usize
-    requires { ⌜ (length (now bytes) ≤ 255) × (longestAnswer ≤ length (now out)) ⌝ }
-    ensures len { λ r. ⌜ r ≡ length (printed (10 ∷ now (bytes .entry))) ⌝ }
-    ensures bytes { λ _. ⌜ now (out .exit) ≡ over (printed (10 ∷ now (bytes .entry))) (now (out .entry)) ⌝ }
-{
-    let mut body = [10u8; 256];
-    let n = transcript::put_field(&mut body, 1, bytes);
-    frames::write_line(out, 0, &body[..n])
-}
-
 // 23, index (4), count (1): so many read-out bytes are shown.
 pub fn show_command(f: &[u8], text: &[u8], out: &mut [u8]) -> usize
     requires { ⌜ longestAnswer ≤ length (now out) ⌝ }
@@ -85,5 +72,5 @@ pub fn show_command(f: &[u8], text: &[u8], out: &mut [u8]) -> usize
     }
     let i = fields::four_at(f, 1);
     let end = i + numbers::wide(f[5]);
-    bytes_line(&text[i..end], out)
+    memory::bytes_line(&text[i..end], out)
 }

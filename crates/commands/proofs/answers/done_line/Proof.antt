@@ -1,22 +1,31 @@
--- `commands::answers::done_line` meets its contract: the frame 06 as a line.
+-- `commands::answers::done_line` meets its contract: 06 goes out.
 -- Assumes nothing.
-use Rattle.commands.proofs.Replies.{done-is}
+use native.Mathlib.Omega.{arith}
+use Rattle.transcript.proofs.Printed.{printed-sent}
+use Rattle.commands.specs.Answers.{doneLine}
 use borrow.Author.Needs.{needs}
 use Rattle.commands.proofs.answers.done_line.Statement.{statement}
 use Rattle.commands.proofs.answers.done_line.Tie as tie
 
-slice-aggregate-write-line : tie.Need-slice-aggregate-write-line
-slice-aggregate-write-line c = search needs
+begin-requires : tie.Need-begin-requires
+begin-requires c κs = search needs
 
-write-line-requires : tie.Need-write-line-requires
-write-line-requires c κs = search needs
+put-requires : tie.Need-put-requires
+put-requires c κs = search needs
+
+end-requires : tie.Need-end-requires
+end-requires c κs = search needs
 
 same-length : tie.Need-same-length
 same-length c = search needs
 
 returns : tie.Need-returns
-returns c = (c .before .before .write-line .ensures .0, done-is (c .before .before .before .before .before .before .args .out .now) _ (c .before .before .write-line .ensures .1))
+unfolding doneLine
+returns c =
+    let b = c .before .before .before .before .before .before .before .before .begin .ensures in
+    let k = c .before .before .before .before .before .before .put .ensures in
+    let e = c .before .before .end .ensures in
+    (omega (arith, b .0, k .0, e .0), printed-sent (c .before .before .before .before .before .before .before .before .before .before .args .out .now) (b .1) (k .1 .1) (e .1))
 
 pub done-line-spec : {M : Type 1} → statement M
-done-line-spec =
-    tie.close (tie.spec slice-aggregate-write-line write-line-requires same-length returns)
+done-line-spec = tie.close (tie.spec begin-requires put-requires end-requires same-length returns)

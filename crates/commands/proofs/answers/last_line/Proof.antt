@@ -1,35 +1,38 @@
--- `commands::answers::last_line` meets its contract: the frame 06, `last` as a line.
+-- `commands::answers::last_line` meets its contract: 06 and `last` go out.
 -- Assumes nothing.
-use Rattle.commands.proofs.Replies.{last-is}
+use native.Mathlib.Omega.{arith}
+use Rattle.frames.proofs.Output.{sent-then}
+use Rattle.transcript.proofs.Printed.{printed-sent}
+use Rattle.commands.specs.Answers.{lastLine}
 use borrow.Author.Needs.{needs}
 use Rattle.commands.proofs.answers.last_line.Statement.{statement}
 use Rattle.commands.proofs.answers.last_line.Tie as tie
 
-low-requires : tie.Need-low-requires
-low-requires c κs = search needs
+begin-requires : tie.Need-begin-requires
+begin-requires c κs = search needs
 
-low-requires-2 : tie.Need-low-requires-2
-low-requires-2 c κs = search needs
+put-requires : tie.Need-put-requires
+put-requires c κs = search needs
 
-slice-aggregate-write-line : tie.Need-slice-aggregate-write-line
-slice-aggregate-write-line c = search needs
+put-two-requires : tie.Need-put-two-requires
+put-two-requires c κs = search needs
 
-write-line-requires : tie.Need-write-line-requires
-write-line-requires c κs = search needs
+end-requires : tie.Need-end-requires
+end-requires c κs = search needs
 
 same-length : tie.Need-same-length
 same-length c = search needs
 
 returns : tie.Need-returns
-returns c = (c .before .before .write-line .ensures .0, last-is (c .before .before .before .before .before .before .before .before .args .out .now) _ (c .before .before .before .before .before .before .before .before .args .last) _ _ (c .before .before .before .before .before .before .low .ensures) (c .before .before .before .before .before .low2 .ensures) (c .before .before .write-line .ensures .1))
+unfolding lastLine
+returns c =
+    let b = c .before .before .before .before .before .before .before .before .before .before .before .before .begin .ensures in
+    let k = c .before .before .before .before .before .before .before .before .before .before .put .ensures in
+    let l = c .before .before .before .before .before .before .put-two .ensures in
+    let e = c .before .before .end .ensures in
+    (omega (arith, b .0, k .0, l .0, e .0), printed-sent (c .before .before .before .before .before .before .before .before .before .before .before .before .before .before .args .out .now) (b .1) (sent-then (k .1 .1) (l .1)) (e .1))
 
 pub last-line-spec : {M : Type 1} → statement M
 last-line-spec =
     tie.close
-    (tie.spec
-    low-requires
-    low-requires-2
-    slice-aggregate-write-line
-    write-line-requires
-    same-length
-    returns)
+    (tie.spec begin-requires put-requires put-two-requires end-requires same-length returns)

@@ -1,43 +1,49 @@
--- `commands::answers::states_line` meets its contract: the frame 06, L, R as a line.
+-- `commands::answers::states_line` meets its contract: 06, L and R go out.
 -- Assumes nothing.
-use Rattle.commands.proofs.Replies.{states-is}
+use native.Mathlib.Omega.{arith}
+use Rattle.frames.proofs.Output.{sent-then}
+use Rattle.transcript.proofs.Printed.{printed-sent}
+use Rattle.commands.specs.Answers.{statesLine}
 use borrow.Author.Needs.{needs}
 use Rattle.commands.proofs.answers.states_line.Statement.{statement}
 use Rattle.commands.proofs.answers.states_line.Tie as tie
 
-low-requires : tie.Need-low-requires
-low-requires c κs = search needs
+begin-requires : tie.Need-begin-requires
+begin-requires c κs = search needs
 
-low-requires-2 : tie.Need-low-requires-2
-low-requires-2 c κs = search needs
+put-requires : tie.Need-put-requires
+put-requires c κs = search needs
 
-low-requires-3 : tie.Need-low-requires-3
-low-requires-3 c κs = search needs
+put-two-requires : tie.Need-put-two-requires
+put-two-requires c κs = search needs
 
-low-requires-4 : tie.Need-low-requires-4
-low-requires-4 c κs = search needs
+put-two-requires-2 : tie.Need-put-two-requires-2
+put-two-requires-2 c κs = search needs
 
-slice-aggregate-write-line : tie.Need-slice-aggregate-write-line
-slice-aggregate-write-line c = search needs
-
-write-line-requires : tie.Need-write-line-requires
-write-line-requires c κs = search needs
+end-requires : tie.Need-end-requires
+end-requires c κs = search needs
 
 same-length : tie.Need-same-length
 same-length c = search needs
 
 returns : tie.Need-returns
-returns c = (c .before .before .write-line .ensures .0, states-is (c .before .before .before .before .before .before .before .before .before .before .args .out .now) _ (c .before .before .before .before .before .before .before .before .before .before .args .l) (c .before .before .before .before .before .before .before .before .before .before .args .r) _ _ _ _ (c .before .before .before .before .before .before .before .before .low .ensures) (c .before .before .before .before .before .before .before .low2 .ensures) (c .before .before .before .before .before .before .low3 .ensures) (c .before .before .before .before .before .low4 .ensures) (c .before .before .write-line .ensures .1))
+unfolding statesLine
+returns c =
+    let b = c .before .before .before .before .before .before .before .before .before .before .before .before .before .before .before .before .begin .ensures in
+    let k = c .before .before .before .before .before .before .before .before .before .before .before .before .before .before .put .ensures in
+    let l = c .before .before .before .before .before .before .before .before .before .before .put-two .ensures in
+    let r = c .before .before .before .before .before .before .put-two2 .ensures in
+    let e = c .before .before .end .ensures in
+    (omega (arith, b .0, k .0, l .0, r .0, e .0), printed-sent (c .before .before .before .before .before .before .before .before .before .before .before .before .before .before .before .before .before .before .args .out .now) (b .1) (sent-then (sent-then (k .1 .1) (l .1)) (r .1)) (e .1))
 
 pub states-line-spec : {M : Type 1} → statement M
 states-line-spec =
     tie.close
     (tie.spec
-    low-requires
-    low-requires-2
-    low-requires-3
-    low-requires-4
-    slice-aggregate-write-line
-    write-line-requires
+    begin-requires
+    put-requires
+    put-two-requires
+    put-two-requires-2
+    end-requires
     same-length
     returns)

@@ -1,52 +1,59 @@
--- `commands::memory::put_sets` meets its contract: the loop has laid the first k set words.
+-- `commands::memory::put_sets` meets its contract. The loop's invariant: the set words so far have gone out.
 -- Assumes nothing.
 use Prim.Native.Nat.{_-_}
 use mathlib.Core.Path.{ap}
 use native.Mathlib.Omega.{arith}
-use borrow.Author.Needs.{needs}
 use lib.ListN.{length}
-use Rattle.commands.proofs.Eights.{Laid, laid-start, laid-length, laid-next, laid-end, laid-done}
+use Rattle.frames.specs.Output.{Output, output}
+use Rattle.frames.proofs.Output.{Sending, sent-next, sending-start, sending-next, sending-end, sending-length, sending-room}
+use Rattle.commands.specs.Memory.{bytes8, eights}
+use Rattle.commands.proofs.Eights.{length-eights}
+use borrow.Author.Needs.{needs}
 use Rattle.commands.proofs.memory.put_sets.Statement.{statement}
 use Rattle.commands.proofs.memory.put_sets.Tie as tie
 
 abbrev Inv-loop : tie.InvT-loop
-Inv-loop body₀ sets at₀ k₀ body at k = Laid body₀ sets at k body
+Inv-loop out₀ sets next₀ k₀ out next k = Sending bytes8 sets (output next₀ out₀) (output next out) k
 
 abbrev μ-loop : tie.MeasureT-loop
-μ-loop body₀ sets at₀ k₀ body at k = length sets - k
+μ-loop out₀ sets next₀ k₀ out next k = length sets - k
 
 loop-holds : tie.Need-loop-holds Inv-loop μ-loop
-loop-holds c = laid-start (c .before .before .args .body .now) (c .before .before .args .sets .now) (c .before .before .pre)
+loop-holds c = let a = c .before .before .args in sending-start bytes8 (a .sets .now) (output (a .w) (a .out .now))
 
-mul-eight-bytes : tie.Need-mul-eight-bytes Inv-loop μ-loop
-mul-eight-bytes c = search needs
+mul-put-set : tie.Need-mul-put-set Inv-loop μ-loop
+mul-put-set c = search needs
 
-shared-slice-read-eight-bytes : tie.Need-shared-slice-read-eight-bytes Inv-loop μ-loop
-shared-slice-read-eight-bytes c = search needs
+shared-slice-read-put-set : tie.Need-shared-slice-read-put-set Inv-loop μ-loop
+shared-slice-read-put-set c = search needs
 
-eight-bytes-requires : tie.Need-eight-bytes-requires Inv-loop μ-loop
-eight-bytes-requires c κs = search needs
-
-slice-aggregate-put-field : tie.Need-slice-aggregate-put-field Inv-loop μ-loop
-slice-aggregate-put-field c = search needs
-
-put-field-requires : tie.Need-put-field-requires Inv-loop μ-loop
-put-field-requires c κs = let i = c .before .before .before .before .before .loop .inv in omega (arith, laid-length (c .before .before .before .before .before .before .before .before .args .body .now) (c .before .before .before .before .before .before .before .before .args .sets .now) (c .before .before .before .before .before .before .before .before .pre) _ _ _ i, i .here, ap length (c .before .before .eight-bytes .ensures), c .before .before .before .before .loop-test .taken, c .before .before .before .before .before .before .before .before .pre)
+put-set-requires : tie.Need-put-set-requires Inv-loop μ-loop
+put-set-requires c κs =
+    let a = c .before .before .before .before .before .before .args in
+    let l = c .before .before .before .loop in
+    sending-room bytes8 (a .sets .now) (output (a .w) (a .out .now)) _ (l .k) (l .inv) (omega (arith, c .before .before .before .before .before .before .pre, length-eights (a .sets .now))) (c .before .before .loop-test .taken)
 
 add-k : tie.Need-add-k Inv-loop μ-loop
 add-k c = search needs
 
 loop-less : tie.Need-loop-less Inv-loop μ-loop
-loop-less c = omega arith
+loop-less c = search needs
 
 loop-again : tie.Need-loop-again Inv-loop μ-loop
-loop-again c = laid-next (c .before .before .before .before .before .before .before .before .before .before .before .args .body .now) (c .before .before .before .before .before .before .before .before .before .before .before .args .sets .now) (c .before .before .before .before .before .before .before .before .before .before .before .pre) _ _ _ (c .before .before .before .before .before .before .before .before .loop .inv) (c .before .before .before .before .before .before .before .loop-test .taken) _ _ _ (c .before .before .before .before .before .eight-bytes .ensures) (c .before .before .put-field .ensures .0) (c .before .before .put-field .ensures .1)
+loop-again c =
+    let a = c .before .before .before .before .before .before .before .before .before .args in
+    let l = c .before .before .before .before .before .before .loop in
+    sending-next bytes8 (a .sets .now) (output (a .w) (a .out .now)) _ (l .k) (l .inv) (c .before .before .before .before .before .loop-test .taken) _ (c .before .before .put-set .ensures .1)
 
 same-length : tie.Need-same-length Inv-loop μ-loop
-same-length c = laid-length (c .before .before .before .before .args .body .now) (c .before .before .before .before .args .sets .now) (c .before .before .before .before .pre) _ _ _ (c .before .loop .inv)
+same-length c = let a = c .before .before .before .before .args in let l = c .before .loop in sending-length bytes8 (a .sets .now) (output (a .w) (a .out .now)) _ (l .k) (l .inv) (omega (arith, c .before .before .before .before .pre, length-eights (a .sets .now)))
 
 returns : tie.Need-returns Inv-loop μ-loop
-returns c = (laid-end (c .before .before .before .before .args .body .now) (c .before .before .before .before .args .sets .now) (c .before .before .before .before .pre) _ _ _ (c .before .loop .inv) (c .loop-test .left), laid-done (c .before .before .before .before .args .body .now) (c .before .before .before .before .args .sets .now) (c .before .before .before .before .pre) _ _ _ (c .before .loop .inv) (c .loop-test .left))
+returns c =
+    let a = c .before .before .before .before .args in
+    let l = c .before .loop in
+    let s = sending-end bytes8 (a .sets .now) (output (a .w) (a .out .now)) _ (l .k) (l .inv) (c .loop-test .left) in
+    (omega (arith, ap (λ (o : Output). o .next) (s .equal), sent-next (eights (a .sets .now)) (output (a .w) (a .out .now)), length-eights (a .sets .now)), s)
 
 pub put-sets-spec : {M : Type 1} → statement M
 put-sets-spec =
@@ -55,11 +62,9 @@ put-sets-spec =
     Inv-loop
     μ-loop
     loop-holds
-    mul-eight-bytes
-    shared-slice-read-eight-bytes
-    eight-bytes-requires
-    slice-aggregate-put-field
-    put-field-requires
+    mul-put-set
+    shared-slice-read-put-set
+    put-set-requires
     add-k
     loop-less
     loop-again
