@@ -6,6 +6,7 @@ use mathlib.Core.List.{List, [], _∷_, _++_}
 use mathlib.Core.Bool.{Bool, true, false}
 use native.Mathlib.Omega.{arith}
 use lib.ListN.{length, getD, drop, length-append}
+use Rattle.numbers.specs.Numbers.{bytes2, bytes4}
 use Rattle.rules.specs.Memory.{over}
 use Rattle.rules.specs.Refusals.{Reply, replyOf, refusalNumber, refusalPlace}
 use Rattle.rules.specs.declared.Refusal.{Refusal}
@@ -17,7 +18,6 @@ use Rattle.reading.specs.declared.Speech.{Speech}
 use Rattle.reading.specs.declared.Speech.the-variants as speeches
 use Rattle.tables.specs.Words.{Built, building}
 use Rattle.tables.specs.Walk.{Walked}
-use Rattle.frames.specs.Output.{bytes2, bytes4}
 use Rattle.transcript.specs.Answers.{printed, toldBody, refusedBody, refusalLine}
 use Rattle.transcript.proofs.Printed.{length-printed}
 use Rattle.commands.specs.Answers.{doneLine, lastLine, statesLine, walkRefusal, malformedLine, replyLine, editLine, Effect, leaving, Effects, sizedTo, bothSized, ruled, Answered, BothAnswered}

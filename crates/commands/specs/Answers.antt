@@ -7,7 +7,7 @@ use mathlib.Core.List.{List, [], _∷_, _++_}
 use mathlib.Core.Bool.{Bool, cond}
 use lib.ListN.{length}
 use lib.Dec.{eqb}
-use Rattle.numbers.specs.Numbers.{two}
+use Rattle.numbers.specs.Numbers.{two, bytes2, bytes4}
 use Rattle.rules.specs.Memory.{over}
 use Rattle.rules.specs.Limits.{maxRules}
 use Rattle.rules.specs.Refusals.{Reply, accepted, declined}
@@ -15,7 +15,6 @@ use Rattle.image.specs.Image.{Edited, lastOf}
 use Rattle.edits.specs.Ledger.Edit.{Add, Drop, Move}
 use Rattle.edits.specs.Edits.{edited}
 use Rattle.file.specs.Layout.{lineSize, headLineSize, longestFrame}
-use Rattle.frames.specs.Output.{bytes2, bytes4}
 use Rattle.transcript.specs.Answers.{printed, refusedBody}
 use Rattle.commands.specs.Fields.{addSized, addedRule}
 

@@ -5,10 +5,10 @@ use mathlib.Core.Bool.{Bool, cond, _&&_}
 use mathlib.Core.List.{List, _∷_, _++_}
 use lib.ListN.{length, getD, take, drop, set}
 use lib.Dec.{leb, ltb, eqb}
-use Rattle.numbers.specs.Numbers.{two}
+use Rattle.numbers.specs.Numbers.{two, bytes4}
 use Rattle.rules.specs.Limits.{maxRules}
 use Rattle.image.specs.Image.{imageSize, withHead, withNumber, cleared}
-use Rattle.frames.specs.Output.{bytes4, fields}
+use Rattle.frames.specs.Output.{fields}
 use Rattle.transcript.specs.Answers.{twos, printed}
 use Rattle.commands.specs.Fields.{four, eight}
 use Rattle.commands.specs.Answers.{longestFile, Effect, leaving, sizedTo, doneLine, malformedLine}

@@ -5,10 +5,9 @@ use mathlib.Core.Path.{_≡_, refl, sym, ap, ap₂, _∙_}
 use mathlib.Core.List.{List, [], _∷_, _++_, append-assoc}
 use native.Mathlib.Omega.{arith}
 use lib.ListN.{length, take, drop, replicate}
-use lib.Seq.{paste, take-length, take-all, take-append-add, take-append-le, length-take-le, drop-drop}
+use lib.Seq.{paste, take-length, take-all, drop-drop}
 use Rattle.rules.specs.Memory.{over, overAt}
 use Rattle.rules.specs.Shape.{first}
-use Rattle.rules.proofs.Laws.{first-take}
 
 pasted : (d b : List ℕ) (at : ℕ) → paste d at b (length b) ≡ overAt at b d
 pasted d b at =

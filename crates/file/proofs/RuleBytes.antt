@@ -1,7 +1,7 @@
 -- The frame and the line of the rule at a place of an image, as the writer sends its parts.
 -- Assumes nothing.
 use Prim.Native.Nat.{ℕ, _+_, _*_, _%_, _≤_, _<_}
-use mathlib.Core.Path.{_≡_, refl, sym, ap, _∙_}
+use mathlib.Core.Path.{_≡_, sym, ap, _∙_}
 use mathlib.Core.List.{List, [], _∷_, _++_, append-assoc}
 use mathlib.Core.Bool.{true}
 use native.Mathlib.Omega.{arith}
@@ -13,7 +13,7 @@ use Rattle.image.proofs.Entries.{entry-shaped, number-is-at}
 use Rattle.frames.specs.Lines.{framed, sumByte}
 use Rattle.frames.proofs.Lines.{length-line}
 use Rattle.file.specs.Layout.{lineSize, frontSize, longestFrame}
-use Rattle.file.specs.File.{ruleFront, ruleBody, ruleLine}
+use Rattle.file.specs.File.{ruleBody, ruleLine}
 use Rattle.file.specs.Loading.{fieldBytes, bodyBytes}
 use Rattle.file.proofs.Accepts.{length-rule}
 

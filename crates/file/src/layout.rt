@@ -37,13 +37,12 @@ pub const PHONES_LEN: usize = 6;
 
 pub const FRONT: usize = 7;
 
-pub const LONGEST_BODY: usize = FRONT
+pub const LONGEST: usize = FRONT
     + rules::MAX_CONTEXT
     + rules::MAX_TARGET
     + rules::MAX_CONTEXT
-    + rules::MAX_PHONES;
-
-pub const LONGEST: usize = LONGEST_BODY + 1;
+    + rules::MAX_PHONES
+    + 1;
 
 // The bytes of a rule's frame without its checksum, by its lengths.
 pub fn body_size(f: &[u8]) -> usize

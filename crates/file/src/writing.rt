@@ -26,7 +26,7 @@ fn put_length(out: &mut [u8], w: Writer, pairs: &[u8], field: &[u8]) -> Writer
     ensures next { λ r. ⌜ r .at ≡ w .at + 2 ⌝ }
     ensures sent { λ r. ⌜ Sent (length (now (field .entry)) % 256 ∷ []) (output w (now (out .entry))) (output r (now (out .exit))) ⌝ }
 {
-    writer::put_from(out, w, pairs, writer::low(field.len()))
+    writer::put_from(out, w, pairs, numbers::low(field.len()))
 }
 
 // The lengths of a rule's fields.

@@ -5,7 +5,7 @@
 --     line-sent                             a frame that was begun, sent and ended: its line
 --     Sending                               a loop that sends the bytes of one element of a list after the other
 -- Assumes nothing.
-use Prim.Native.Nat.{ℕ, zero, suc, _+_, _*_, _/_, _%_, _≤_, _<_}
+use Prim.Native.Nat.{ℕ, _+_, _*_, _/_, _%_, _≤_, _<_}
 use mathlib.Core.Path.{_≡_, refl, sym, ap, subst, _∙_}
 use mathlib.Core.List.{List, [], _∷_, _++_, append-assoc, append-nil}
 use native.Mathlib.Omega.{arith}
@@ -17,7 +17,7 @@ use Rattle.rules.specs.Memory.{over, overAt}
 use Rattle.rules.proofs.Memory.{over-snoc, over-at, over-at-length}
 use Rattle.frames.specs.Lines.{digit, digits, lineOf, total, complement, sumByte, framed}
 use Rattle.frames.specs.declared.writer.Writer.{Writer}
-use Rattle.frames.specs.Output.{Output, output, begun, sentByte, sent, Sent, ended, fields, countFrom, digitPairs}
+use Rattle.frames.specs.Output.{Output, output, begun, sentByte, sent, Sent, ended, fields}
 use Rattle.frames.proofs.Lines.{total-append}
 
 -- ---- lent bytes, filled from a place on
@@ -90,14 +90,12 @@ sum-more bytes s b e =
     let t : total bytes + b ≡ total (bytes ++ (b ∷ [])) = omega (arith, total-append bytes (b ∷ [])) in
     ap (λ (n : ℕ). (n + b) % 256) e ∙ (mod-add-mod (total bytes) 256 b ∙ ap (λ (n : ℕ). n % 256) t)
 
-sums : (bytes p : List ℕ) (o : Output) → o .sum ≡ total p % 256 → sent bytes o .sum ≡ total (p ++ bytes) % 256
+-- the bytes of p have gone out, then further ones: wherever they go, the sum is that of all
+pub sum-so-far : (bytes p : List ℕ) (o : Output) → o .sum ≡ total p % 256 → sent bytes o .sum ≡ total (p ++ bytes) % 256
 unfolding sent
-sums [] p o e = e ∙ ap (λ (l : List ℕ). total l % 256) (sym (append-nil p))
-sums (b ∷ bytes) p o e =
-    sums bytes (p ++ (b ∷ [])) (sentByte b o) (sum-more p (o .sum) b e) ∙ ap (λ (l : List ℕ). total l % 256) (append-assoc p (b ∷ []) bytes)
-
-pub sum-so-far : (bytes text : List ℕ) (at : ℕ) → sent bytes (output (begun at) text) .sum ≡ total bytes % 256
-sum-so-far bytes text at = sums bytes [] (output (begun at) text) refl
+sum-so-far [] p o e = e ∙ ap (λ (l : List ℕ). total l % 256) (sym (append-nil p))
+sum-so-far (b ∷ bytes) p o e =
+    sum-so-far bytes (p ++ (b ∷ [])) (sentByte b o) (sum-more p (o .sum) b e) ∙ ap (λ (l : List ℕ). total l % 256) (append-assoc p (b ∷ []) bytes)
 
 -- ---- lines
 
@@ -105,7 +103,7 @@ digits-append : (f g : List ℕ) → digits (f ++ g) ≡ digits f ++ digits g
 digits-append [] g = refl
 digits-append (b ∷ f) g = ap (λ (l : List ℕ). digit (b / 16) ∷ digit (b % 16) ∷ l) (digits-append f g)
 
-length-digits : (f : List ℕ) → length (digits f) ≡ 2 * length f
+pub length-digits : (f : List ℕ) → length (digits f) ≡ 2 * length f
 length-digits [] = refl
 length-digits (b ∷ f) = omega (arith, length-digits f)
 
@@ -129,7 +127,7 @@ module _ (text : List ℕ) (at : ℕ) (h : at ≤ length text) where
       let e : o ≡ sent body begin = g .equal ∙ ap (λ (v : Writer). sent body (output v text)) b in
       let t : o .text ≡ overAt at (digits body) text = ap (λ (q : Output). q .text) e ∙ texts body [] begin (sym (take-append-drop at text)) (omega arith) in
       let n : o .next ≡ at + length (digits body) = omega (arith, ap (λ (q : Output). q .next) e, sent-next body begin, length-digits body) in
-      let s : o .sum ≡ total body % 256 = ap (λ (q : Output). q .sum) e ∙ sum-so-far body text at in
+      let s : o .sum ≡ total body % 256 = ap (λ (q : Output). q .sum) e ∙ sum-so-far body [] begin refl in
       let last = sumByte body ∷ [] in
       let d : digits body ++ lineOf last ≡ lineOf (framed body) =
       sym (append-assoc (digits body) (digits last) (10 ∷ [])) ∙ ap (λ (l : List ℕ). l ++ (10 ∷ [])) (sym (digits-append body last)) in
@@ -145,43 +143,6 @@ ended-by w r xs z b h e s =
     let n : r .at ≡ w .at + 2 = ap (λ (o : Output). o .next) (s .equal) in
     set-more xs (w .at) (omega arith) (digits (b ∷ [])) z (r .at) 10 t (omega arith) (omega arith)
     ∙ ap (λ (n : ℕ). overAt (w .at) (lineOf (n ∷ [])) xs) e
-
--- ---- the digits of every byte
-
-counted : (from n k : ℕ) → k < n → getD (countFrom from n) k 0 ≡ from + k
-counted from zero k h = absurd (omega arith)
-counted from (suc n) zero h = omega arith
-counted from (suc n) (suc k) h = counted (suc from) n k (omega arith) ∙ omega arith
-
-length-counted : (from n : ℕ) → length (countFrom from n) ≡ n
-length-counted from zero = refl
-length-counted from (suc n) = ap suc (length-counted (suc from) n)
-
-high-digit : (l : List ℕ) (k : ℕ) → k < length l → getD (digits l) (2 * k) 0 ≡ digit (getD l k 0 / 16)
-high-digit [] k h = absurd (omega arith)
-high-digit (b ∷ l) zero h = refl
-high-digit (b ∷ l) (suc k) h = let e : 2 * suc k ≡ suc (suc (2 * k)) = omega arith in rw e (high-digit l k (omega arith))
-
-low-digit : (l : List ℕ) (k : ℕ) → k < length l → getD (digits l) (2 * k + 1) 0 ≡ digit (getD l k 0 % 16)
-low-digit [] k h = absurd (omega arith)
-low-digit (b ∷ l) zero h = refl
-low-digit (b ∷ l) (suc k) h = let e : 2 * suc k + 1 ≡ suc (suc (2 * k + 1)) = omega arith in rw e (low-digit l k (omega arith))
-
-pub pairs-length : length digitPairs ≡ 512
-unfolding digitPairs
-pairs-length = omega (arith, length-digits (countFrom 0 256), length-counted 0 256)
-
-module _ (b : ℕ) (h : b < 256) where
-  itself : getD (countFrom 0 256) b 0 ≡ b
-  itself = counted 0 256 b h ∙ omega arith
-
-  pub pair-high : getD digitPairs (2 * b) 0 ≡ digit (b / 16)
-  unfolding digitPairs
-  pair-high = high-digit (countFrom 0 256) b (omega (arith, length-counted 0 256)) ∙ ap (λ (n : ℕ). digit (n / 16)) itself
-
-  pub pair-low : getD digitPairs (2 * b + 1) 0 ≡ digit (b % 16)
-  unfolding digitPairs
-  pair-low = low-digit (countFrom 0 256) b (omega (arith, length-counted 0 256)) ∙ ap (λ (n : ℕ). digit (n % 16)) itself
 
 -- ---- a loop over the elements of a list
 

@@ -48,13 +48,7 @@ SumKept w b r = (bytes : List ℕ) → SumOf bytes w → SumOf (bytes ++ (b ∷ 
 unfoldable pub ended : Output → List ℕ
 ended o = overAt (o .next) (lineOf (complement (o .sum) ∷ [])) (o .text)
 
--- ---- fields, high byte first
-
-abbrev pub bytes2 : ℕ → List ℕ
-bytes2 n = n / 256 % 256 ∷ n % 256 ∷ []
-
-abbrev pub bytes4 : ℕ → List ℕ
-bytes4 n = bytes2 (n / 65536) ++ bytes2 n
+-- ---- fields
 
 -- the bytes of the elements of a list, one after the other
 abbrev pub fields : (ℕ → List ℕ) → List ℕ → List ℕ

@@ -22,7 +22,7 @@ struct Pair {
     byte: u8,
 }
 
-// What the digit of a number has above it: one of two constants, so that the digits of many bytes are made at once.
+// What the digit of a number has above it: one of two constants, so that no test is mispredicted.
 fn digit_base(d: u8) -> u8
     ensures { λ r. ⌜ r ≡ cond (ltb d 10) 48 55 ⌝ }
 {

@@ -12,7 +12,7 @@ use Rattle.rules.specs.declared.Answer.the-variants.{Accepted, Refused}
 use Rattle.rules.specs.declared.Written.{Written}
 use Rattle.rules.specs.declared.Written.the-variants.{Bytes, Refused as NotWritten}
 use Rattle.exceptions.specs.Calls.{nameCount, stateCount}
-use Rattle.frames.specs.Output.{bytes4}
+use Rattle.numbers.specs.Numbers.{bytes4}
 use Rattle.transcript.specs.Answers.{printed, refusedBody, refusalLine}
 use Rattle.transcript.proofs.Printed.{length-printed}
 use Rattle.commands.specs.Answers.{doneLine, statesLine, malformedLine}

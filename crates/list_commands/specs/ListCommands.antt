@@ -13,7 +13,7 @@ use Rattle.exceptions.specs.Calls.{Emptied, emptied, nameCount, stateCount}
 use Rattle.change.specs.Change.{Change, Changed}
 use Rattle.change.specs.Change.Change.{Add, Remove}
 use Rattle.readout.specs.ReadOut.{ReadOut, readOut}
-use Rattle.frames.specs.Output.{bytes4}
+use Rattle.numbers.specs.Numbers.{bytes4}
 use Rattle.transcript.specs.Answers.{printed, refusedBody}
 use Rattle.commands.specs.Fields.{four}
 use Rattle.commands.specs.Answers.{Effect, leaving, sizedTo, doneLine, statesLine, malformedLine}

@@ -11,7 +11,7 @@ ghost use Prim.Native.Nat.{_≤_};
 ghost use lib.ListN.{length};
 ghost use Rattle.rules.specs.Memory.{over};
 ghost use Rattle.rules.specs.Refusals.{reportOf};
-ghost use Rattle.frames.specs.Output.{bytes4};
+ghost use Rattle.numbers.specs.Numbers.{bytes4};
 ghost use Rattle.transcript.specs.Answers.{printed};
 ghost use Rattle.commands.specs.Answers.{Answered, leaving};
 ghost use Rattle.list_commands.specs.ListCommands.{longestAnswer, readOutLine, readOutIn, readOutBy, shownText};

@@ -1,9 +1,16 @@
 -- Numbers in bytes, high byte first.
 -- Assumes nothing.
-use Prim.Native.Nat.{ℕ, _+_, _*_}
-use mathlib.Core.List.{List}
+use Prim.Native.Nat.{ℕ, _+_, _*_, _/_, _%_}
+use mathlib.Core.List.{List, [], _∷_, _++_}
 use lib.ListN.{getD}
 
 -- the number of the two bytes from `at` on
 abbrev pub two : ℕ → List ℕ → ℕ
 two at s = 256 * getD s at 0 + getD s (at + 1) 0
+
+-- a number as two bytes, and as four
+abbrev pub bytes2 : ℕ → List ℕ
+bytes2 n = n / 256 % 256 ∷ n % 256 ∷ []
+
+abbrev pub bytes4 : ℕ → List ℕ
+bytes4 n = bytes2 (n / 65536) ++ bytes2 n

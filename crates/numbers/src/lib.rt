@@ -1,7 +1,7 @@
 // Numbers of more than one byte, high byte first (document 01: "Two-byte fields are high byte first"), and numbers widened. A function
 // that widens asks only for the index where an element is widened in place; a cast there asks for the element's bound too.
 ghost use mathlib.Core.Path.{_≡_};
-ghost use Prim.Native.Nat.{_+_, _<_, min};
+ghost use Prim.Native.Nat.{_+_, _%_, _<_, min};
 ghost use lib.ListN.{length};
 ghost use Rattle.numbers.specs.Numbers.{two};
 
@@ -21,6 +21,13 @@ pub fn wide32(x: u32) -> usize
     ensures { λ r. ⌜ (r ≡ x) × (r < 4294967296) ⌝ }
 {
     x as usize
+}
+
+// The lowest byte of a number.
+pub fn low(n: usize) -> u8
+    ensures { λ r. ⌜ r ≡ n % 256 ⌝ }
+{
+    (n % 256) as u8
 }
 
 // The smaller of two numbers.

@@ -4,10 +4,11 @@
 use Prim.Native.Nat.{ℕ, _%_}
 use mathlib.Core.List.{List, [], _∷_, _++_}
 use lib.ListN.{length, take}
+use Rattle.numbers.specs.Numbers.{bytes2, bytes4}
 use Rattle.rules.specs.Refusals.{refusalNumber, refusalPlace}
 use Rattle.rules.specs.declared.Refusal.{Refusal}
 use Rattle.frames.specs.Lines.{lineOf, framed}
-use Rattle.frames.specs.Output.{bytes2, bytes4, fields}
+use Rattle.frames.specs.Output.{fields}
 use Rattle.reading.specs.Speech.{Told, spoken, refused}
 use Rattle.tables.specs.Walk.{Walked}
 

@@ -4,7 +4,8 @@ use Prim.Native.Nat.{_-_}
 use mathlib.Core.Path.{ap}
 use native.Mathlib.Omega.{arith}
 use lib.ListN.{length}
-use Rattle.frames.specs.Output.{Output, output, bytes2}
+use Rattle.numbers.specs.Numbers.{bytes2}
+use Rattle.frames.specs.Output.{Output, output}
 use Rattle.frames.proofs.Output.{Sending, sent-as, sent-next, sending-start, sending-next, sending-end, sending-length, sending-room}
 use Rattle.transcript.specs.Answers.{twos}
 use Rattle.transcript.proofs.Fields.{length-twos}

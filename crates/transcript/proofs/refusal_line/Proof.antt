@@ -1,8 +1,6 @@
 -- `transcript::refusal_line` meets its contract: its three fields go out.
 -- Assumes nothing.
-use Prim.Native.Nat.{ℕ}
 use mathlib.Core.Path.{ap₂}
-use mathlib.Core.List.{[], _∷_}
 use native.Mathlib.Omega.{arith}
 use Rattle.frames.proofs.Output.{sent-then, sent-as}
 use Rattle.transcript.specs.Answers.{refusedBody}

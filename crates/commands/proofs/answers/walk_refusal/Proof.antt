@@ -4,7 +4,7 @@ use Prim.Native.Nat.{ℕ}
 use mathlib.Core.Path.{ap₂}
 use mathlib.Core.List.{_∷_, _++_}
 use native.Mathlib.Omega.{arith}
-use Rattle.frames.specs.Output.{bytes2, bytes4}
+use Rattle.numbers.specs.Numbers.{bytes2, bytes4}
 use Rattle.frames.proofs.Output.{sent-then, sent-as}
 use Rattle.transcript.proofs.Printed.{printed-sent}
 use Rattle.commands.specs.Answers.{walkRefusal}

@@ -18,7 +18,7 @@ same-length : tie.Need-same-length
 same-length c = search needs
 
 returns : tie.Need-returns
-returns c = let p = c .before .before .put-from .ensures in (p .0, sent-as (ap (λ (n : ℕ). n ∷ []) (c .before .before .before .low .ensures)) (p .1))
+returns c = let p = c .before .before .put-from .ensures in (p .0, sent-as (ap (λ (n : ℕ). n ∷ []) (c .before .before .before .low .ensures)) (p .1 .1))
 
 pub put-length-spec : {M : Type 1} → statement M
 put-length-spec = tie.close (tie.spec low-requires put-from-requires same-length returns)

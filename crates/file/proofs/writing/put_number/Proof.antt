@@ -29,7 +29,7 @@ returns c =
     let t = c .before .before .before .before .before .before .before .before .before .before .put-from .ensures in
     let h = c .before .before .before .before .before .before .put-from2 .ensures in
     let l = c .before .before .put-from3 .ensures in
-    (omega (arith, t .0, h .0, l .0), sent-then (sent-then (t .1) (h .1)) (l .1))
+    (omega (arith, t .0, h .0, l .0), sent-then (sent-then (t .1 .1) (h .1 .1)) (l .1 .1))
 
 pub put-number-spec : {M : Type 1} → statement M
 put-number-spec =

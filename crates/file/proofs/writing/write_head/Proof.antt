@@ -4,7 +4,7 @@ use Prim.Native.Nat.{_/_, _%_}
 use mathlib.Core.Path.{_≡_}
 use mathlib.Core.List.{_∷_, _++_}
 use native.Mathlib.Omega.{arith}
-use Rattle.frames.specs.Output.{bytes2}
+use Rattle.numbers.specs.Numbers.{bytes2}
 use Rattle.frames.proofs.Output.{sent-then, sent-as, line-sent}
 use Rattle.file.specs.Layout.{headType, edition}
 use Rattle.file.specs.File.{headBody}

@@ -43,7 +43,7 @@ loop-again : tie.Need-loop-again Inv-loop μ-loop
 loop-again c =
     let a = c .before .before .before .before .before .before .before .before .before .before .args in
     let l = c .before .before .before .before .before .before .loop in
-    sending-next alone (a .bytes .now) (output (a .w) (a .out .now)) _ (l .k) (l .inv) (c .before .before .before .before .before .loop-test .taken) _ (c .before .before .put-from .ensures .1)
+    sending-next alone (a .bytes .now) (output (a .w) (a .out .now)) _ (l .k) (l .inv) (c .before .before .before .before .before .loop-test .taken) _ (c .before .before .put-from .ensures .1 .1)
 
 same-length : tie.Need-same-length Inv-loop μ-loop
 same-length c =

@@ -1,12 +1,12 @@
 -- `frames::writer::put_from` meets its contract: the table has the byte's digits.
 -- Assumes nothing.
 use Prim.Native.Nat.{ℕ, _*_, _+_}
-use mathlib.Core.Path.{_≡_, ap, ap₂, _∙_}
+use mathlib.Core.Path.{ap, ap₂, _∙_}
 use mathlib.Core.List.{List}
 use native.Mathlib.Omega.{arith}
 use lib.ListN.{length, getD}
 use borrow.Author.Needs.{needs}
-use Rattle.frames.proofs.Output.{pairs-length, pair-high, pair-low}
+use Rattle.frames.proofs.DigitPairs.{pairs-length, pair-high, pair-low}
 use Rattle.frames.proofs.writer.put_from.Statement.{statement}
 use Rattle.frames.proofs.writer.put_from.Tie as tie
 
@@ -29,8 +29,7 @@ put-digits-requires : tie.Need-put-digits-requires
 put-digits-requires c κs =
     let b = c .before .before .before .before .before .before .args .b in
     let p = c .before .before .before .before .before .before .pre in
-    let e = c .before .before .before .wide .ensures in
-    (
+    let e = c .before .before .before .wide .ensures .0 in (
       p .0,
       (
         ap₂ (λ (l : List ℕ) (i : ℕ). getD l (2 * i) 0) (p .1) e ∙ pair-high b (omega arith),
