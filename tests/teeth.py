@@ -53,6 +53,10 @@ FAULTS = [
     ("an unended last line", "    return ended + [None] if rest else ended\n", "    return ended + [rest] if rest else ended\n", "say"),
     ("lower-case digits", 'DIGITS = b"0123456789ABCDEF"\n', 'DIGITS = b"0123456789ABCDEFabcdef"\n', "say monitor"),
     ("a sum not looked at", "    return frame[:-1] if sum(frame) % 256 == 0 else None\n", "    return frame[:-1]\n", "say monitor"),
+    # The running sum of a frame that is written.
+    ("a byte that is not added", "bytes([-sum(body) % 256])", "bytes([-sum(body[1:]) % 256])", "say monitor"),
+    ("a sum begun anew inside a frame", "bytes([-sum(body) % 256])", "bytes([-sum(body[len(body) // 2:]) % 256])", "say monitor"),
+    ("a sum made from the length", "bytes([-sum(body) % 256])", "bytes([-len(body) % 256])", "say monitor"),
     ("the input's limit", "    if len(names) > LONGEST_INPUT:\n", "    if len(names) >= LONGEST_INPUT:\n", "say"),
     ("the file's limit", "    return TOO_LONG if len(data) > LONGEST_INPUT", "    return TOO_LONG if len(data) > LONGEST_INPUT + 1", "say"),
     ("say's words", "SAY_WORDS = 32_768\n", "SAY_WORDS = 32_770\n", "say"),
