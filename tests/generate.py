@@ -38,10 +38,10 @@ class Source:
 
     def alphabet(self):
         """Mostly few letters, so that contexts meet; sometimes all of them."""
-        size = self.pick([1, 2, 2, 2, 3, 3, 4, 8, 63])
-        if size == 63:
-            return bytes(range(1, 64))
-        return bytes(self.random.sample([1, 2, 3, 5, 11, 14, 26, 27, 62, 63], size))
+        size = self.pick([1, 2, 2, 2, 3, 3, 4, 8, 62])
+        if size == 62:
+            return bytes(range(1, ref.SPACE))
+        return bytes(self.random.sample([1, 2, 3, 5, 11, 14, 26, 27, 61, 62], size))
 
     def symbols(self, alphabet, length):
         return bytes(self.pick(alphabet) for _ in range(length))
@@ -50,9 +50,9 @@ class Source:
         deep = self.upto(6) if deep is None else deep
         left = self.symbols(alphabet, self.upto(deep))
         right = self.symbols(alphabet, self.upto(deep))
-        if left and self.chance(0.25):
+        if left and self.chance(0.35):
             left = b"\0" + left[1:]
-        if right and self.chance(0.25):
+        if right and self.chance(0.35):
             right = right[:-1] + b"\0"
         target = self.symbols(alphabet, self.pick([1, 1, 1, 1, 2, 2, 3, 4]))
         phones = bytes(self.random.randint(1, 255) for _ in range(self.pick([0, 1, 1, 1, 2, 3, 4])))
@@ -88,9 +88,9 @@ class Source:
             lambda: rule._replace(phones=many(self.pick([5, 6, 255]))),
             lambda: rule._replace(left=many(self.random.randint(1, 5)) + b"\0"),
             lambda: rule._replace(right=b"\0" + many(self.random.randint(1, 5))),
-            lambda: rule._replace(target=self.spoil(rule.target, [0, 0x40, 0xFF])),
-            lambda: rule._replace(left=self.spoil(rule.left + many(1), [0x40, 0x41, 0xFF])[:6]),
-            lambda: rule._replace(right=self.spoil(many(1) + rule.right, [0x40, 0x41, 0xFF])[-6:]),
+            lambda: rule._replace(target=self.spoil(rule.target, [0, 0x3F, 0x3F, 0x40, 0xFF])),
+            lambda: rule._replace(left=self.spoil(rule.left + many(1), [0x3F, 0x3F, 0x40, 0x41, 0xFF])[:6]),
+            lambda: rule._replace(right=self.spoil(many(1) + rule.right, [0x3F, 0x3F, 0x40, 0x41, 0xFF])[-6:]),
             lambda: rule._replace(phones=self.spoil((rule.phones + b"\1")[:4], [0])),
         ])()
 
@@ -155,7 +155,7 @@ class Source:
             memory[2:4] = two(self.upto(rs.last))
         else:
             at = 4 + ref.SLOT * self.upto(count - 1) + 2 + self.upto(ref.SLOT - 3)
-            memory[at] = self.pick([0, 5, 7, 0x40, 0xFF])
+            memory[at] = self.pick([0, 5, 7, 0x3F, 0x40, 0xFF])
         return bytes(memory)
 
     # Edits -------------------------------------------------------------------
@@ -191,22 +191,30 @@ class Source:
     # Names -------------------------------------------------------------------
 
     def name(self, rs):
-        """From the rules' own symbols, so that contexts are met; sometimes too long or with bad bytes."""
+        """From the rules' own symbols, so that contexts are met, often of several words; sometimes too long or with bad bytes."""
         held = bytes(sorted(set(b"".join(b"".join(r[:3]) for _, r in rs.rules)) - {0})) or b"\1\5"
         length = self.pick([0, 1, 2, 3, 5, 8, 12, 12, 30, 63, 64])
-        name = b""
+        name, spaces = b"", self.chance(0.6)
         while len(name) < length:
             if rs.rules and self.chance(0.6):
-                name += b"".join(self.pick(rs.rules).rule[:3]).replace(b"\0", b"")
+                name += b"".join(self.pick(rs.rules).rule[:3]).replace(b"\0", lists.SPACE if spaces else b"")
             else:
                 name += bytes([self.pick(held)])
-        name = name[:length]
+        name = self.spaced(name[:length]) if spaces else name[:length]
         if self.chance(0.04):
             name = self.spoil(name, range(1, 64)) if name else name
         if self.chance(0.05):
             name += self.symbols(held, self.random.randint(65, 70) - len(name))
         if name and self.chance(0.05):
             name = self.spoil(name, [0, 0x40, 0x41, 0x7F, 0x80, 0xFF])
+        return name
+
+    def spaced(self, name):
+        """Some of its letters become spaces: at the ends and in a row too, so that words have no letters."""
+        for _ in range(self.pick([0, 1, 1, 2, 4]) if name else 0):
+            at = self.pick([0, len(name) - 1, self.upto(len(name) - 1), self.upto(len(name) - 1)])
+            row = lists.SPACE * min(self.pick([1, 1, 1, 2, 3]), len(name) - at)
+            name = name[:at] + row + name[at + len(row):]
         return name
 
     # Files -------------------------------------------------------------------
@@ -224,7 +232,7 @@ class Source:
         else:
             at = self.pick([0, 1, 2, 3, 4, 5, 6, 7, len(body) - 1])
             at = min(at, len(body) - 1)
-            body = body[:at] + bytes([self.pick([0, 1, 2, 3, 5, 7, 0x40, 0xFF, self.upto(255)])]) + body[at + 1:]
+            body = body[:at] + bytes([self.pick([0, 1, 2, 3, 5, 7, 0x3F, 0x40, 0xFF, self.upto(255)])]) + body[at + 1:]
         return frame_line(body)
 
     def damaged(self, data):
@@ -262,8 +270,16 @@ class Source:
             other = ref.sound(lines[m].rstrip(b"\n")) or b"\0\0\0"
             lines[k] = frame_line(body[:1] + other[1:3] + body[3:])
             return b"".join(lines)
-        lines[k] = self.resummed(lines[k])
+        lines[k] = self.with_space(lines[k]) if kind == 14 else self.resummed(lines[k])
         return b"".join(lines)
+
+    def with_space(self, line):
+        """A rule line with a symbol that became 3F, summed again."""
+        body = ref.sound(line.rstrip(b"\n")) or b""
+        symbols = body[7:7 + sum(body[3:6])]
+        if body[:1] != b"\x02" or not symbols:
+            return line
+        return frame_line(body[:7] + self.spoil(symbols, lists.SPACE) + body[7 + len(symbols):])
 
     def other_head(self, line, count):
         body = ref.sound(line.rstrip(b"\n")) or b"\1\1\0\0\0\0"
@@ -444,16 +460,14 @@ class Source:
     def edit_body(self, edit):
         kind, *fields = edit
         if kind == "add":
-            rule, p = fields
-            return b"\x10" + two(p) + bytes(map(len, rule)) + b"".join(rule)
+            return lists.adding(*fields)
         if kind == "drop":
             return b"\x11" + two(fields[0])
         return b"\x12" + two(fields[0]) + two(fields[1])
 
     def speech_body(self, held, rs, valid, words, sets):
-        listed = lists.held_phones(held)
-        name = self.pick(list(listed)) if listed and self.chance(0.3) else self.name(rs)
-        said = ref.plain_reading(rs, name, 256, 64, ref.NO_EXCEPTIONS if held.listed is ref.UNKNOWN else held.listed)
+        name = lists.spoken_name(self, held, lambda: self.name(rs))
+        said = lists.said(held, name)
         phones, numbers = ((len(said.phones), len(said.numbers)) if isinstance(said, ref.Spoken) else (3, 3))
         room = two(self.room(phones)) + two(self.room(numbers))
         if self.chance(0.35):
@@ -532,7 +546,13 @@ def fixed_lists(bodies):
     return None, lines, ref.monitor(None, b"".join(lines))
 
 
-FIXED = {"say": {}, "monitor": {"long lines": long_lines},
+def short_names():
+    """Every name of up to four of k, n, e, a and the space bar, by the six rules."""
+    lines = [frame_line(b"\x03" + name) for name in lists.short_names()]
+    return ref.SIX_FILE, lines, ref.say(ref.SIX_FILE, b"".join(lines))
+
+
+FIXED = {"say": {"short names": short_names}, "monitor": {"long lines": long_lines},
          "lists": {name: lambda bodies=bodies: fixed_lists(bodies) for name, bodies in lists.FIXED.items()}}
 
 

@@ -9,10 +9,15 @@ import reference as ref
 from reference import LIST_UNITS, LONGEST_READ_OUT, MAX_NAME, MAX_STATES, four, frame_line, two
 
 ALL = 0xFFFFFFFF
+SPACE = bytes([ref.SPACE])
 KNEE = b"\x0B\x0E\x05\x05"
 
 
 # Commands -----------------------------------------------------------------------
+
+def adding(rule, place=0):
+    return b"\x10" + two(place) + bytes(map(len, rule)) + b"".join(rule)
+
 
 def listing(name, phones):
     return b"\x20" + bytes([len(name)]) + name + phones
@@ -41,8 +46,12 @@ def storing(index, value):
     return b"\x26" + four(index) + four(value)
 
 
-def walking(name, phones=256):
-    return b"\x16" + four(ALL) * 2 + two(phones) + two(64) + name
+def walking(name, phones=256, tables=ALL):
+    return b"\x16" + four(tables) * 2 + two(phones) + two(64) + name
+
+
+def without_tables(name, phones=256):
+    return walking(name, phones, 0)
 
 
 def plainly(name, phones=256):
@@ -59,6 +68,28 @@ def showing_all(size):
 def held_phones(held):
     """The listed names as far as they are known."""
     return held.listed.phones if isinstance(held.listed, ref.Exceptions) else {}
+
+
+def said(held, name):
+    """What a name gives with all the room there is, by the list as far as it is known."""
+    listed = held.listed if isinstance(held.listed, ref.Exceptions) else ref.NO_EXCEPTIONS
+    return ref.plain_reading(held.ruleset(), name, 256, 64, listed)
+
+
+def of_words(source, phones, other):
+    """A name of several words, listed ones among others; in half of the cases every word is listed."""
+    share = source.pick([0.6, 1])
+    words = [source.pick(list(phones)) if phones and source.chance(share) else other() for _ in range(source.pick([2, 2, 3, 5]))]
+    return SPACE.join(words)[:MAX_NAME]
+
+
+def spoken_name(source, held, other):
+    """Listed, of listed words, or another."""
+    phones = held_phones(held)
+    kind = source.random.random()
+    if not phones or kind < 0.4:
+        return other()
+    return source.pick(list(phones)) if kind < 0.6 else of_words(source, phones, other)
 
 
 def near(source, name, alphabet):
@@ -78,7 +109,8 @@ def some_name(source, phones, alphabet, longest=6):
     if phones and kind < 0.7:
         listed = source.pick(list(phones))
         return listed if kind < 0.35 else near(source, listed, alphabet)
-    return source.symbols(alphabet, source.random.randint(1, source.pick([longest, longest, longest, MAX_NAME])))
+    new = lambda: source.symbols(alphabet, source.random.randint(1, source.pick([longest, longest, longest, MAX_NAME])))
+    return new() if kind < 0.9 else of_words(source, phones, new)
 
 
 def some_phones(source):
@@ -94,8 +126,8 @@ def some_phones(source):
 # Random commands ----------------------------------------------------------------
 
 def change(source, held, alphabet, longest=6):
-    phones = held_phones(held)
-    name = some_name(source, phones, alphabet, longest)
+    """Of names that may hold spaces."""
+    name = some_name(source, held_phones(held), alphabet + SPACE, longest)
     return listing(name, some_phones(source)) if source.chance(0.6) else removal(name)
 
 
@@ -127,12 +159,12 @@ def command(source, held, alphabet):
 
 
 def speech(source, held, alphabet):
-    """A name, often a listed one, with about as much room as it needs."""
-    phones = held_phones(held)
-    name = source.pick(list(phones)) if phones and source.chance(0.7) else some_name(source, phones, alphabet)
-    need = len(phones.get(name, b""))
+    """A name, often a listed one or one of listed words, with about as much room as it needs."""
+    name = spoken_name(source, held, lambda: some_name(source, held_phones(held), alphabet))
+    answer = said(held, name)
+    need = len(answer.phones) if isinstance(answer, ref.Spoken) else 3
     room = source.pick([256, 256, need, max(0, need - 1), 0, 0xFFFF])
-    return source.pick([walking, plainly])(name, room)
+    return source.pick([walking, plainly, without_tables])(name, room)
 
 
 # Lists to start from --------------------------------------------------------------
@@ -180,13 +212,16 @@ def nearly_full(source, held):
         short = [name for name in phones if len(name) <= 3]
         name = source.pick(short if short and source.chance(0.8) else list(phones))
         return removal(name) if source.chance(0.5) else listing(name, some_phones(source))
-    return change(source, held, bytes([0x3D, 0x3E, 0x3F]), 3)
+    return change(source, held, bytes([0x3D, 0x3E]), 3)
 
 
 def session(source):
     """(lines, answers) of a long conversation about one list."""
     held, alphabet = ref.Monitor(), source.alphabet()[:source.pick([1, 2, 2, 3, 4])]
-    bodies = [b"\x10" + two(0) + bytes([0, 1, 0, 1]) + bytes([letter, 0x40 + letter]) for letter in alphabet] + [b"\x15" + four(ALL) * 2]
+    # In one of three conversations no rule covers the first letter. The last is silent at a word's end and another phone at its start.
+    rules = [ref.Rule(target=bytes([letter]), phones=bytes([0x40 + letter])) for letter in alphabet[source.pick([0, 0, 1]):]]
+    rules += [ref.Rule(b"\0", alphabet[-1:], b"", b"\x80"), ref.Rule(b"", alphabet[-1:], b"\0")]
+    bodies = [adding(rule) for rule in rules] + [b"\x15" + four(ALL) * 2]
     kind = source.random.random()
     start = many_names(source) if kind < 0.1 else many_states(source) if kind < 0.3 else []
     bodies += [listing(*entry) for entry in start]
@@ -221,7 +256,7 @@ def session(source):
 
 # Fixed runs -------------------------------------------------------------------------
 
-SIX = [b"\x10" + two(at) + bytes(map(len, rule)) + b"".join(rule) for at, rule in enumerate(ref.SIX_RULES)]
+SIX = [adding(rule, at) for at, rule in enumerate(ref.SIX_RULES)]
 NO_RULESET = b"\x1E" + two(0) + two(7) + two(6) + two(6)
 SIX_AGAIN = b"\x1E" + two(0) + two(1) + two(6) + two(6)
 
@@ -241,8 +276,22 @@ def every_order(names):
 
 
 def orders():
-    names = [b"\x40" * 65, b"\1" * 65, b"\1\x40\0", b"", KNEE, b"\x3F" * 64]
+    names = [b"\x40" * 65, b"\1" * 65, b"\1\x40\0", b"", KNEE, SPACE, KNEE + SPACE, SPACE * 64]
     return SIX + every_order(names) + [b"\x15" + four(ALL) * 2] + every_order(names)
+
+
+def short_names():
+    """Every name of up to four of k, n, e, a and the space bar."""
+    return [bytes(name) for length in range(5) for name in itertools.product(b"\x0B\x0E\5\1" + SPACE, repeat=length)]
+
+
+def words():
+    """Short names by a list of letters, of words and of names with spaces, with tables, without, and with one phone too few."""
+    entries = [b"\x0B", b"\x0B\x0E", b"\5", b"\5" + SPACE + b"\x0E", b"\5" + SPACE + b"\5", SPACE + b"\x0B", SPACE * 2, b"\1" + SPACE]
+    bodies = SIX + [b"\x15" + four(ALL) * 2] + [listing(name, b"\x61\x62\x63"[:1 + k % 3]) for k, name in enumerate(entries)]
+    for name in short_names():
+        bodies += [walking(name), plainly(name), without_tables(name), walking(name, 2), plainly(name, 3)]
+    return bodies + [reading_out()] + showing_all(60)
 
 
 def thousand_names():
@@ -281,7 +330,7 @@ def longest_read_out():
     return bodies + [removal(entries[0][0]), reading_out(LONGEST_READ_OUT - 131), reading_out(LONGEST_READ_OUT + 1), *at_end]
 
 
-FIXED = {"orders": orders, "1,000 names": thousand_names, "4,096 states": most_states, "longest read-out": longest_read_out}
+FIXED = {"orders": orders, "words": words, "1,000 names": thousand_names, "4,096 states": most_states, "longest read-out": longest_read_out}
 
 
 # Memory stored over -----------------------------------------------------------------

@@ -19,6 +19,7 @@ from hashlib import blake2b
 from typing import NamedTuple
 
 BOUNDARY = 0            # the symbol #
+SPACE = 0x3F            # separates the words of a name
 SYMBOLS = 64            # 00 to 3F
 MAX_CONTEXT = 6
 MAX_TARGET = 4
@@ -80,7 +81,7 @@ EMPTY = Ruleset()
 # Letters, rules, fitting ---------------------------------------------------
 
 def is_letter(byte):
-    return 0x01 <= byte <= 0x3F
+    return 0x01 <= byte <= 0x3E
 
 
 def has_shape(rule):
@@ -105,8 +106,23 @@ def is_ruleset(rs):
             and len(set(numbers)) == len(numbers))
 
 
-def frame_name(name):
-    return bytes([BOUNDARY]) + bytes(name) + bytes([BOUNDARY])
+def frame_word(letters):
+    return bytes([BOUNDARY]) + letters + bytes([BOUNDARY])
+
+
+class Word(NamedTuple):
+    before: int             # positions of the whole name before its first letter's
+    letters: bytes
+    framed: bytes
+
+
+def words_of(name):
+    """The words of a name: one more than its spaces, each with a frame of its own."""
+    words, before = [], 0
+    for letters in bytes(name).split(bytes([SPACE])):
+        words.append(Word(before, letters, frame_word(letters)))
+        before += len(letters) + 1
+    return words
 
 
 def fits(rule, framed, i):
@@ -122,9 +138,13 @@ def name_refusal(name):
     if len(name) > MAX_NAME:
         return Refusal(2, 0)
     for at, byte in enumerate(name):
-        if not is_letter(byte):
+        if not in_name(byte):
             return Refusal(1, at)
     return None
+
+
+def in_name(byte):
+    return is_letter(byte) or byte == SPACE
 
 
 def room_refusal(phones, numbers, phone_room, number_room):
@@ -202,7 +222,7 @@ def states_of(phones):
 
 
 def is_entry(name, phones):
-    return (1 <= len(name) <= MAX_NAME and all(map(is_letter, name))
+    return (1 <= len(name) <= MAX_NAME and all(map(in_name, name))
             and 1 <= len(phones) <= MAX_LISTED_PHONES and 0 not in phones)
 
 
@@ -273,7 +293,7 @@ def listed_in(data):
 
 
 def answer_before_rules(rs, listed, name, phone_room):
-    """0, 17, 2, 1, then the list, with 4; None where the rules are tried."""
+    """0, 17, 2, 1, then the whole name on the list, with 4; None where its words are tried."""
     if not is_ruleset(rs):
         return Refusal(0, 0)
     if listed is None:
@@ -287,14 +307,36 @@ def answer_before_rules(rs, listed, name, phone_room):
     return room_refusal(phones, (), phone_room, 0) or Spoken(phones, ())
 
 
-# The plain reading -------------------------------------------------------------
+# Words, and the plain reading ------------------------------------------------------
+
+def speak_words(name, listed, phone_room, number_room, speak_word):
+    """The words in turn, from the list or else by `speak_word`, joined; 4 and 5 for the whole name.
+
+    `speak_word` gives Spoken, or the position in its word that no rule fits.
+    """
+    phones, numbers = b"", ()
+    for word in words_of(name):
+        if word.letters in listed.phones:
+            phones += listed.phones[word.letters]
+            continue
+        said = speak_word(word)
+        if not isinstance(said, Spoken):
+            return Refusal(3, word.before + said)
+        phones += said.phones
+        numbers += said.numbers
+    return room_refusal(phones, numbers, phone_room, number_room) or Spoken(phones, numbers)
+
 
 def plain_reading(rs, name, phone_room, number_room, listed=NO_EXCEPTIONS):
     """Refusals 0, 17, 2, 1, 3, 4, 5 in that order; a listed name's only one is 4."""
     answer = answer_before_rules(rs, listed, name, phone_room)
     if answer:
         return answer
-    framed, n, i = frame_name(name), len(name), 1
+    return speak_words(name, listed, phone_room, number_room, lambda word: plain_word(rs, word))
+
+
+def plain_word(rs, word):
+    framed, n, i = word.framed, len(word.letters), 1
     phones, numbers = b"", []
     while i <= n:
         for number, rule in rs.rules:
@@ -304,9 +346,8 @@ def plain_reading(rs, name, phone_room, number_room, listed=NO_EXCEPTIONS):
                 i += len(rule.target)
                 break
         else:
-            return Refusal(3, i)
-    return (room_refusal(phones, numbers, phone_room, number_room)
-            or Spoken(phones, tuple(numbers)))
+            return i
+    return Spoken(phones, tuple(numbers))
 
 
 # The ledger ----------------------------------------------------------------
@@ -599,25 +640,30 @@ def step(words, base, count, state, symbol):
 def walk(rs, words, sets, name, phone_room, number_room, listed=NO_EXCEPTIONS):
     """(answer, steps) over lent words, built or not.
 
-    Order: 0, 17, 2, 1, the list with 4, 16 for lengths, left pass, right pass, reached letters (3 or 16), 4, 5.
+    Order: 0, 17, 2, 1, the whole name on the list with 4; of the words that are not listed 16 for lengths, left pass and
+    right pass; reached letters (3 or 16), 4, 5. Where every word is listed, no table is looked at.
     """
     answer = answer_before_rules(rs, listed, name, phone_room)
     if answer:
         return answer, 0
     try:
-        return walk_tables(rs, words, sets, name, phone_room, number_room)
+        passes = {word: both_passes(words, sets, word) for word in words_of(name) if word.letters not in listed.phones}
+        answer = speak_words(name, listed, phone_room, number_room,
+                             lambda word: walk_word(rs, words, sets, word, passes[word]))
     except Unusable:
         return Refusal(16, 0), 0
+    return answer, sum(steps for _, _, steps in passes.values())
 
 
-def walk_tables(rs, words, sets, name, phone_room, number_room):
+def both_passes(words, sets, word):
+    """(left states by position, right states by position, steps) of a word."""
     if len(words) < 2:
         raise Unusable
     lefts, rights = words[0], words[1]
     if (lefts == 0 or rights == 0 or len(words) < 2 + SYMBOLS * (lefts + rights)
             or len(sets) < 8 * (lefts + rights)):
         raise Unusable
-    framed, n, steps = frame_name(name), len(name), 0
+    framed, n, steps = word.framed, len(word.letters), 0
     left_after, state = {}, 0
     for position in range(0, n + 1):
         state = step(words, 2, lefts, state, framed[position])
@@ -628,19 +674,24 @@ def walk_tables(rs, words, sets, name, phone_room, number_room):
         state = step(words, 2 + SYMBOLS * lefts, rights, state, framed[position])
         right_after[position] = state
         steps += 1
-    phones, numbers, i = b"", [], 1
+    return left_after, right_after, steps
+
+
+def walk_word(rs, words, sets, word, passes):
+    left_after, right_after, _ = passes
+    lefts, n, i = words[0], len(word.letters), 1
+    phones, numbers = b"", []
     while i <= n:
         place = chosen(sets, 8 * left_after[i - 1], 8 * (lefts + right_after[i]))
         if place is None:
-            return Refusal(3, i), steps
-        if place >= len(rs.rules) or not fits(rs.rules[place].rule, framed, i):
+            return i
+        if place >= len(rs.rules) or not fits(rs.rules[place].rule, word.framed, i):
             raise Unusable
         number, rule = rs.rules[place]
         phones += rule.phones
         numbers.append(number)
         i += len(rule.target)
-    return (room_refusal(phones, numbers, phone_room, number_room)
-            or Spoken(phones, tuple(numbers))), steps
+    return Spoken(phones, tuple(numbers))
 
 
 def chosen(sets, left, right):
@@ -941,7 +992,7 @@ SIX_RULES = (
 
 
 def letters(text):
-    return bytes(ord(c) - ord("a") + 1 for c in text)
+    return bytes(SPACE if c == " " else ord(c) - ord("a") + 1 for c in text)
 
 
 class Check:
@@ -979,6 +1030,11 @@ def check_edits(check):
             ("6: # first in a longer right context", add(EMPTY, Rule(b"", b"\1", b"\0\1"), 0)[0], (6, 0)),
             ("6: # in a target", add(EMPTY, Rule(b"", b"\0"), 0)[0], (6, 0)),
             ("6: phone 00", add(EMPTY, Rule(b"", b"\1", b"", b"\0"), 0)[0], (6, 0)),
+            ("6: 3F in a left context", add(EMPTY, Rule(b"\x3F", b"\1"), 0)[0], (6, 0)),
+            ("6: 3F in a target", add(EMPTY, Rule(b"", b"\1\x3F"), 0)[0], (6, 0)),
+            ("6: 3F in a right context", add(EMPTY, Rule(b"", b"\1", b"\x3F"), 0)[0], (6, 0)),
+            ("3E everywhere", add(EMPTY, Rule(b"\x3E", b"\x3E", b"\x3E", b"\x3F"), 0)[0], None),
+            ("0: 3F in a rule", drop(Ruleset((Numbered(1, Rule(b"", b"\x3F")),), 1), 1)[0], (0, 0)),
             ("7: p = 1, empty list", add(EMPTY, rule, 1)[0], (7, 0)),
             ("8: drop 9 of six", drop(six, 9)[0], (8, 0)),
             ("9: 513th add", add(full, rule, 512)[0], (9, 0)),
@@ -1027,6 +1083,7 @@ def check_file(check, six):
             ("14: a repeated number, at its later line", head(2, 6) + lines[1] * 2, (14, 15 + 23)),
             ("14: lengths that don't add up", head(1, 1) + frame_line(b"\2\0\1\0\1\0\0\1\1"), (14, 15)),
             ("14: the shape", head(1, 1) + frame_line(rule_body(Numbered(1, Rule()))), (14, 15)),
+            ("14: 3F in a rule", head(1, 1) + frame_line(rule_body(Numbered(1, Rule(b"", b"\5", b"\x3F")))), (14, 15)),
             ("13 before 14 on one line", b"0102000000FE\n", (13, 0)),
             ("earlier line first", lines[0] + lines[0] + b"x", (14, starts[1]))]:
         check.equal(what, read_file(data), wanted)
@@ -1081,6 +1138,56 @@ def check_reading(check, six):
                        ("a place past the list", (words, array("Q", [64] * 80))),
                        ("a rule that doesn't fit", (words, array("Q", [1] * 80)))]:
         check.equal("16: " + what, walk(six, *lent, letters("ee"), *room), (Refusal(16, 0), 0))
+
+
+def check_words(check, six):
+    """Names of several words, without a list and with one; the steps beside each answer."""
+    words, sets = build(six, 642, 80)
+    knee, eke, nab = letters("knee"), letters("eke"), letters("nab")
+    listed = Exceptions({knee: b"\1\2", letters("eke nab"): b"\3", letters("e "): b"\4", letters("ab"): b"\5"})
+
+    def both(what, name, wanted, steps, rooms=(256, 64), exceptions=NO_EXCEPTIONS, tables=(words, sets)):
+        check.equal(f"words, {what}: walk", walk(six, *tables, name, *rooms, exceptions), (wanted, steps))
+        if tables == (words, sets):
+            check.equal(f"words, {what}: plain", plain_reading(six, name, *rooms, exceptions), wanted)
+
+    for name, parts in [(b"", 1), (b"\x3F", 2), (b"\x3F\x3F", 3), (b"\x3F" * 64, 65), (knee, 1), (b"\x3F" + knee, 2), (knee + b"\x3F", 2)]:
+        check.equal(f"words of {name.hex()}", len(words_of(name)), parts)
+    for text, phones, numbers in [
+            ("eke knee", "656B6E69", (5, 2, 3, 1, 6, 4)),       # a silent e before the space, a silent k after it
+            ("e e", "", (3, 3)), ("ee ee", "6969", (4, 4)), ("e kn", "6E", (3, 1, 6)), ("ke n", "6B6E", (2, 3, 6)),
+            ("", "", ()), (" ", "", ()), ("  ", "", ()), (" knee", "6E69", (1, 6, 4)), ("knee ", "6E69", (1, 6, 4)),
+            ("n  n", "6E6E", (6, 6)), (" " * 64, "", ())]:
+        both(f"'{text}'", letters(text), Spoken(bytes.fromhex(phones), numbers), 2 * len(text) + 2)
+    for text, place in [("knee nab", 7), ("nab nab", 2), (" a", 2), ("  nab ", 4), ("n a a", 3)]:
+        both(f"3 in '{text}'", letters(text), Refusal(3, place), 2 * len(text) + 2)
+    both("4 for the whole name", letters("knee knee"), Refusal(4, 4), 20, (3, 64))
+    both("5 for the whole name", letters("knee knee"), Refusal(5, 6), 20, (4, 5))
+    both("4 before 5", letters("knee knee"), Refusal(4, 4), 20, (3, 5))
+    both("room for all", letters("knee knee"), Spoken(b"\x6E\x69" * 2, (1, 6, 4) * 2), 20, (4, 6))
+    both("3 before 4", letters("knee a"), Refusal(3, 6), 14, (0, 0))
+    both("2", b"\x3F" * 65, Refusal(2, 0), 0)
+    both("1", b"\x3F\x40", Refusal(1, 1), 0)
+
+    for text, wanted, steps, room in [
+            ("eke knee eke", Spoken(b"\x65\x6B\1\2\x65\x6B", (5, 2, 3, 5, 2, 3)), 16, 6),
+            ("knee knee", Spoken(b"\1\2\1\2", ()), 0, 4), ("knee knee", Refusal(4, 4), 0, 3),
+            ("eke nab", Spoken(b"\3", ()), 0, 1), ("eke nab", Refusal(4, 1), 0, 0),      # the whole name before its words
+            ("knee eke nab", Refusal(3, 11), 16, 9), ("e ", Spoken(b"\4", ()), 0, 9),     # no part of several words is tried
+            ("e  ", Spoken(b"", (3,)), 8, 9), (" knee", Spoken(b"\1\2", ()), 2, 9), ("ab knee", Spoken(b"\5\1\2", ()), 0, 9),
+            ("nab ab", Refusal(3, 2), 8, 9), ("ab nab", Refusal(3, 5), 8, 9), ("knee n", Refusal(4, 3), 4, 2)]:
+        both(f"'{text}' with a list", letters(text), wanted, steps, (room, 64), listed)
+    both("5 of unlisted words", letters("knee eke"), Refusal(5, 3), 8, (9, 2), listed)
+    none, cut = (words[:1], sets), (words[:2] + array("H", [2]) + words[3:], sets)      # no tables; a first step past the count
+    both("no tables, every word listed", letters("ab knee"), Spoken(b"\5\1\2", ()), 0, (9, 0), listed, none)
+    both("4 without tables", letters("ab knee"), Refusal(4, 3), 0, (2, 0), listed, none)
+    both("no tables, a word of no letters", letters("knee "), Refusal(16, 0), 0, (9, 9), listed, none)
+    both("no tables, a word not listed", letters("ab e"), Refusal(16, 0), 0, (9, 9), listed, none)
+    late = words[:]
+    late[2 + SYMBOLS * 1 + 26] = 2      # the left state after # steps past the count under z
+    both("16 of a later word's pass before 3", nab + letters(" z"), Refusal(16, 0), 0, tables=(late, sets))
+    both("3 where no pass does that", nab + letters(" nz"), Refusal(3, 2), 14, tables=(late, sets))
+    both("a listed word makes no pass", letters("ab knee"), Spoken(b"\5\1\2", ()), 0, (9, 9), listed, cut)
 
 
 def check_list(check, six):
@@ -1204,9 +1311,13 @@ def check_programs(check, six):
             ("long rules.hex", b"\n" * 32_769, b"", refusal_line(Refusal(13, 32_768))),
             ("long input", SIX_FILE, b"\n" * 32_769, refusal_line(Refusal(13, 32_768))),
             ("rules before input", None, b"\n" * 32_769, refusal_line(Refusal(13, 0))),
-            ("input of 32,768 bytes", SIX_FILE, b"\n" * 32_768, UNSOUND * 32_768)]:
+            ("input of 32,768 bytes", SIX_FILE, b"\n" * 32_768, UNSOUND * 32_768),
+            ("two words", SIX_FILE, frame_line(b"\3" + letters("eke kn")), frame_line(bytes.fromhex("04000E0003656B6E0500050002000300010006"))),
+            ("3 in the second word", SIX_FILE, frame_line(b"\3" + letters("e nab")), refusal_line(Refusal(3, 4))),
+            ("a space", SIX_FILE, b"033FBE\n", frame_line(b"\4\0\4\0\0\0")),
+            ("a rule with 3F", SIX_FILE.replace(b"010E6E7A", b"013F6E49"), b"033FBE\n", refusal_line(Refusal(14, 124)))]:
         check.equal("say: " + what, say(rules, names), wanted)
-    wide = Ruleset(tuple(Numbered(k + 1, Rule(bytes([1 + k % 63, 1 + k // 63]) * 3, b"\1"))
+    wide = Ruleset(tuple(Numbered(k + 1, Rule(bytes([1 + k % 62, 1 + k // 62]) * 3, b"\1"))
                          for k in range(100)), 100)
     check.equal("say: tables above 32,768 words", say(file_text(wide), b"03FD\n"),
                 refusal_line(Refusal(11, needed(wide)[2])))
@@ -1261,6 +1372,13 @@ def check_programs(check, six):
             ("lend all", "25FFFFFFFF", "06"),
             ("remove", "210505", "0600010003"),
             ("remove again", "210505", "051200000000"),
+            ("build again", "15FFFFFFFFFFFFFFFF", "0600010002"),
+            ("walk of a listed word and another", "16FFFFFFFFFFFFFFFF010000400B053F0B", "0400040003" + "62636B" + "010001"),
+            ("read it", "17010000400B053F0B", "0400000003" + "62636B" + "010001"),
+            ("phones short for both words", "16FFFFFFFFFFFFFFFF000200400B053F0B", "080004" + "04" + "00000003"),
+            ("no tables, every word listed", "160000000000000000010000400B053F0B05", "0400000004" + "62636263" + "00"),
+            ("no tables, a word of no letters", "160000000000000000010000400B053F", "0800001000000000"),
+            ("add, 3F", "10000000010001" + "3F6B", "050600000000"),
             ("store outside", "2600008C2E00000000", "050D00000000"),
             ("store", "2600000000FFFFFFFF", "06"),
             ("empty the list", "24", "06"),
@@ -1278,6 +1396,7 @@ def self_test():
     six = check_edits(check)
     check_file(check, six)
     check_reading(check, six)
+    check_words(check, six)
     check_list(check, six)
     check_tables(check)
     check_programs(check, six)
