@@ -20,20 +20,20 @@ pub fn extremes(tally: &mut Tally, random: &mut Random) {
     every_number(tally, random);
 }
 
-/// 512 rules of full length whose patterns share no more than they must. There are only 64 first symbols,
+/// 512 rules of full length whose patterns share no more than they must. There are only 63 first symbols,
 /// so this is the most: the paper's bounds 3,073 and 5,121 hold, but no ruleset reaches them.
 fn greatest(tally: &mut Tally, random: &mut Random) {
     let rules = (0..512).map(|k| {
-        let (first, second) = ((k / 8) as u8, 1 + (k % 8) as u8);
+        let (first, second) = ((k % 63) as u8, 1 + (k / 63) as u8);
         let (left, right) = ([first, second, 1, 2, 3, 4], [1, 2, 3, 4, second, first]);
-        let rule = Rule::new([&left, &[5, 6, 7, 0x3F], &right, &[255; 4]]);
+        let rule = Rule::new([&left, &[5, 6, 7, 0x3E], &right, &[255; 4]]);
         (65_535 - k, rule.expect("the parts are short enough"))
     });
     let set = Ruleset { last: 65_535, rules: rules.collect() };
     let text = file::write(&set);
     tally.equal("the longest file", text.len(), 29_199);
 
-    let (left, right) = (1 + 64 + 512 * 5, 1 + 64 + 512 * 9);
+    let (left, right) = (1 + 63 + 512 * 5, 1 + 63 + 512 * 9);
     let (words, sets) = (words_needed(left, right), sets_needed(left, right));
     let loaded = Loaded::new(tally, &text, words, sets, random);
     tally.equal("L and R", loaded.compiled.words.contents()[..2].to_vec(), vec![left as u16, right as u16]);
@@ -66,7 +66,7 @@ fn too_many(tally: &mut Tally, random: &mut Random) {
 
 /// 512 rules of two letters each, and names in which every one of them is the only one that fits.
 fn every_place(tally: &mut Tally, random: &mut Random) {
-    let targets: Vec<[u8; 2]> = (0..512).map(|k| [1 + (k / 32) as u8, 0x20 + (k % 32) as u8]).collect();
+    let targets: Vec<[u8; 2]> = (0..512).map(|k| [1 + (k / 32) as u8, 0x1F + (k % 32) as u8]).collect();
     let rules = targets.iter().zip(1..).map(|(target, number)| {
         (number, Rule::new([&[], target, &[], &[target[1]]]).expect("the parts are short enough"))
     });
@@ -76,7 +76,7 @@ fn every_place(tally: &mut Tally, random: &mut Random) {
     let loaded = Loaded::new(tally, &file::write(&set), words, sets, random);
     for (row, named) in targets.chunks(32).enumerate() {
         let said = loaded.speak(tally, &named.concat(), 32, 32, random);
-        let phones = (0x20..0x40).collect();
+        let phones = (0x1F..0x3F).collect();
         let numbers = (1..=32).map(|k| 32 * row as u16 + k).collect();
         tally.equal("every place", said, Spoken::Said { phones, numbers, steps: 130 });
     }
@@ -102,18 +102,18 @@ fn most_states(tally: &mut Tally, random: &mut Random) {
     }
 }
 
-/// 64 letters, four phones each: all that one name can give.
+/// 64 letters, four phones each: all that the rules can give for one name.
 fn longest_name(tally: &mut Tally, random: &mut Random) {
     let text =
-        [file::line(&[1, 1, 0, 1, 0xFF, 0xFF]), file::line(&[2, 0xFF, 0xFF, 0, 1, 0, 4, 0x3F, 1, 2, 3, 255])];
+        [file::line(&[1, 1, 0, 1, 0xFF, 0xFF]), file::line(&[2, 0xFF, 0xFF, 0, 1, 0, 4, 0x3E, 1, 2, 3, 255])];
     let loaded = Loaded::new(tally, &text.concat(), 200, 30, random);
-    let said = loaded.speak(tally, &[0x3F; 64], 256, 64, random);
+    let said = loaded.speak(tally, &[0x3E; 64], 256, 64, random);
     let (phones, numbers) = ([1, 2, 3, 255].repeat(64), vec![65_535; 64]);
     tally.equal("the longest name", said, Spoken::Said { phones, numbers, steps: 130 });
     let refused = |number, place| Spoken::Refused { number, place, steps: 130 };
-    let said = loaded.speak(tally, &[0x3F; 64], 255, 0, random);
+    let said = loaded.speak(tally, &[0x3E; 64], 255, 0, random);
     tally.equal("255 phones lent", said, refused(4, 256));
-    let said = loaded.speak(tally, &[0x3F; 64], 256, 63, random);
+    let said = loaded.speak(tally, &[0x3E; 64], 256, 63, random);
     tally.equal("63 numbers lent", said, refused(5, 64));
 }
 

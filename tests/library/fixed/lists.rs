@@ -146,15 +146,10 @@ fn no_list(tally: &mut Tally, random: &mut Random) {
 /// A listed name by walk and plain reading: no rules, no steps, and of the later refusals only 4.
 fn spoken(tally: &mut Tally, random: &mut Random) {
     let mut six = Loaded::new(tally, SIX_RULES, SIX_WORDS, SIX_SETS, random);
-    let phones = Lent::new(&[1, 2, 3], random);
     for name in ["knee", "nab", "e"] {
-        calls::add(tally, &mut six.list, &Lent::new(&letters(name), random), &phones);
+        six.list(tally, name, &[1, 2, 3], random);
     }
-    let said = |phones: &[u8], numbers: &[u16], steps| {
-        let (phones, numbers) = (phones.to_vec(), numbers.to_vec());
-        Spoken::Said { phones, numbers, steps }
-    };
-    let refused = |number, place, steps| Spoken::Refused { number, place, steps };
+    let (said, refused) = (Spoken::said, Spoken::refused);
     let cases: [(&str, usize, usize, Spoken); 9] = [
         ("knee", 3, 0, said(&[1, 2, 3], &[], 0)),
         ("knee", 2, 9, refused(4, 3, 0)),
@@ -184,7 +179,7 @@ fn spoken(tally: &mut Tally, random: &mut Random) {
 /// Listed names among others: their phones stand in the row, they take no numbers and no steps.
 fn many(tally: &mut Tally, random: &mut Random) {
     let mut six = Loaded::new(tally, SIX_RULES, SIX_WORDS, SIX_SETS, random);
-    calls::add(tally, &mut six.list, &Lent::new(&letters("nab"), random), &Lent::new(&[7, 8, 9], random));
+    six.list(tally, "nab", &[7, 8, 9], random);
     let mut names = Vec::new();
     for name in ["knee", "nab", "e", "nab", "k"] {
         names.push(name.len() as u8);

@@ -5,11 +5,13 @@ mod lists;
 mod paper;
 mod refusals;
 mod threads;
+mod words;
 mod wrong;
 
 use crate::lent::{self, Compiled, Heard, Lent, List, Room};
 use crate::random::Random;
 use crate::reference::image::IMAGE;
+use crate::reference::rule::SPACE;
 use crate::reference::ACCEPTED;
 use crate::tally::Tally;
 
@@ -17,12 +19,13 @@ type Case = fn(&mut Tally, &mut Random);
 
 pub fn fixed(tally: &mut Tally) {
     let random = &mut Random::new(1);
-    let cases: [(&str, Case); 6] = [
+    let cases: [(&str, Case); 7] = [
         ("the paper's marks", paper::paper),
         ("the paper's refusals", refusals::refusals),
         ("the paper's ways to be wrong", wrong::wrong),
         ("extremes", extremes::extremes),
         ("exceptions lists", lists::lists),
+        ("names of several words", words::words),
         ("threads", threads::threads),
     ];
     for (subject, case) in cases {
@@ -54,6 +57,12 @@ impl Loaded {
         Loaded { image, compiled, list: List::empty(tally, random) }
     }
 
+    /// Lists a name as typed.
+    fn list(&mut self, tally: &mut Tally, name: &str, phones: &[u8], random: &mut Random) {
+        let (name, phones) = (Lent::new(&letters(name), random), Lent::new(phones, random));
+        lent::lists::add(tally, &mut self.list, &name, &phones);
+    }
+
     /// Speaks a name by the tables; the plain reading must say the same.
     fn speak(
         &self,
@@ -74,6 +83,14 @@ impl Loaded {
 }
 
 impl Spoken {
+    fn said(phones: &[u8], numbers: &[u16], steps: usize) -> Spoken {
+        Spoken::Said { phones: phones.to_vec(), numbers: numbers.to_vec(), steps }
+    }
+
+    fn refused(number: u8, place: usize, steps: usize) -> Spoken {
+        Spoken::Refused { number, place, steps }
+    }
+
     fn new(heard: Heard, steps: usize, room: &Room) -> Spoken {
         if heard.code != ACCEPTED {
             return Spoken::Refused { number: heard.code, place: heard.given, steps };
@@ -85,9 +102,9 @@ impl Spoken {
     }
 }
 
-/// "a is 01, b is 02, up to z, 1A."
+/// "a is 01, b is 02, up to z, 1A"; the space bar is 3F.
 fn letters(name: &str) -> Vec<u8> {
-    name.bytes().map(|letter| letter - b'a' + 1).collect()
+    name.bytes().map(|typed| if typed == b' ' { SPACE } else { typed - b'a' + 1 }).collect()
 }
 
 const SIX_RULES: &[u8] = b"010100060006F2

@@ -43,11 +43,8 @@ fn short(tally: &mut Tally, random: &mut Random) {
     }
 }
 
-fn refused(number: u8, place: usize, steps: usize) -> Spoken {
-    Spoken::Refused { number, place, steps }
-}
-
 fn names(tally: &mut Tally, random: &mut Random) {
+    let refused = Spoken::refused;
     let six = Loaded::new(tally, SIX_RULES, SIX_WORDS, SIX_SETS, random);
     let long_and_wrong = [0x40; 65];
     let cases: [(&[u8], usize, usize, Spoken); 9] = [

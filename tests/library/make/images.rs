@@ -2,6 +2,7 @@
 
 use crate::random::Random;
 use crate::reference::image::{put, HEAD, IMAGE, SLOT};
+use crate::reference::rule::SPACE;
 use crate::reference::ruleset::Ruleset;
 
 /// A sound image. What lies past its rules and past its length may be anything.
@@ -32,7 +33,7 @@ pub fn damaged(set: &Ruleset, random: &mut Random) -> Vec<u8> {
         7 => put_field(&mut image, 0, (held + random.within(1, 3)) as u16),
         8 => put_field(&mut image, 2, random.below(held + 2) as u16),
         9 => image[slot + 2 + random.below(4)] = random.pick(&[0, 1, 4, 5, 6, 7, 255]),
-        10 => image[slot + 6 + random.below(20)] = random.pick(&[0x00, 0x3F, 0x40, 0xFF]),
+        10 => image[slot + 6 + random.below(20)] = random.pick(&[0x00, SPACE, SPACE, 0x40, 0xFF]),
         11 => image = random.bytes(IMAGE),
         _ => {
             // A sound count over random rules.

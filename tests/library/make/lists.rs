@@ -3,21 +3,47 @@
 use crate::lent::{lists, Lent, List};
 use crate::random::Random;
 use crate::reference::exceptions::{Exceptions, LIST};
+use crate::reference::rule::SPACE;
 use crate::tally::Tally;
 
-/// A name to list, remove or speak: listed, near a listed one, or new; seldom none that can be listed.
+/// A name to list, remove or speak, with spaces or without: listed, near a listed one, of listed words, or new;
+/// seldom none that can be listed.
 pub fn name(list: &Exceptions, letters: &[u8], random: &mut Random) -> Vec<u8> {
     let held = list.phones.len();
+    let symbols = &[letters, &[SPACE]].concat();
     match random.below(24) {
         0 => random.pick(&[&[][..], &[5; 65], &[0x40; 65], &[5, 0x40, 0], &[0], &[5, 5, 0xFF]]).to_vec(),
-        1 => word(letters, random.within(60, 64), random),
+        1 => word(symbols, random.within(60, 64), random),
         2..=9 if held > 0 => any_listed(list, random),
-        10..=16 if held > 0 => near(&any_listed(list, random), letters, random),
+        10..=14 if held > 0 => near(&any_listed(list, random), symbols, random),
+        15..=16 if held > 0 => of_words(list, letters, random),
         _ => {
             let length = random.within(1, 5);
-            word(letters, length, random)
+            word(symbols, length, random)
         }
     }
+}
+
+/// A name to speak: as above, or of several words, listed ones among others or all of them listed.
+pub fn spoken(list: &Exceptions, letters: &[u8], random: &mut Random) -> Vec<u8> {
+    match random.below(3) {
+        0 => of_words(list, letters, random),
+        _ => name(list, letters, random),
+    }
+}
+
+fn of_words(list: &Exceptions, letters: &[u8], random: &mut Random) -> Vec<u8> {
+    let all = random.one_in(2);
+    let words: Vec<Vec<u8>> = (0..random.within(2, 5))
+        .map(|_| match random.below(3) {
+            _ if list.phones.is_empty() => word(letters, random.below(3), random),
+            0 if !all => word(letters, random.below(3), random),
+            _ => any_listed(list, random),
+        })
+        .collect();
+    let mut name = words.join(&SPACE);
+    name.truncate(64);
+    name
 }
 
 fn word(letters: &[u8], length: usize, random: &mut Random) -> Vec<u8> {
@@ -56,7 +82,7 @@ pub fn phones(random: &mut Random) -> Vec<u8> {
     }
 }
 
-/// A list that knows some of these names, or names near them; seldom memory that is none.
+/// A list that knows some of these names, words of them, or names near them; seldom memory that is none.
 pub fn some_list(tally: &mut Tally, names: &[Vec<u8>], letters: &[u8], random: &mut Random) -> List {
     if random.one_in(30) {
         let words: Vec<u32> = (0..random.pick(&[0, 1, LIST - 1])).map(|_| random.next() as u32).collect();
@@ -64,12 +90,20 @@ pub fn some_list(tally: &mut Tally, names: &[Vec<u8>], letters: &[u8], random: &
     }
     let mut list = List::empty(tally, random);
     for _ in 0..random.pick(&[0, 0, 1, 2, 4, 8]) {
-        let mut name =
-            if names.is_empty() { word(letters, 2, random) } else { random.pick_one(names).clone() };
-        if !name.is_empty() && random.one_in(4) {
-            name = near(&name, letters, random);
+        let name = if names.is_empty() { word(letters, 2, random) } else { random.pick_one(names).clone() };
+        let entries = match random.below(4) {
+            0 if !name.is_empty() => vec![near(&name, letters, random)],
+            // All of its words, or one of them.
+            1 => name.split(|byte| *byte == SPACE).map(<[u8]>::to_vec).collect(),
+            2 => {
+                let words: Vec<&[u8]> = name.split(|byte| *byte == SPACE).collect();
+                vec![random.pick(&words).to_vec()]
+            }
+            _ => vec![name],
+        };
+        for entry in entries {
+            lists::add(tally, &mut list, &Lent::new(&entry, random), &Lent::new(&phones(random), random));
         }
-        lists::add(tally, &mut list, &Lent::new(&name, random), &Lent::new(&phones(random), random));
     }
     list
 }

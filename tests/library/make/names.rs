@@ -1,6 +1,8 @@
-//! Names: of the ruleset's own letters, with wrong bytes, too long; and many of them in one memory.
+//! Names: of the ruleset's own letters, of several words, with wrong bytes, too long; and many of them in one
+//! memory.
 
 use crate::random::Random;
+use crate::reference::rule::SPACE;
 use crate::reference::ruleset::Ruleset;
 
 pub fn name(set: &Ruleset, letters: &[u8], random: &mut Random) -> Vec<u8> {
@@ -12,18 +14,23 @@ pub fn name(set: &Ruleset, letters: &[u8], random: &mut Random) -> Vec<u8> {
         4..=6 => random.within(20, 64),
         _ => random.within(1, 20),
     };
+    let several = random.one_in(2);
     let mut name = Vec::new();
     while name.len() < length {
-        // Pieces of the rules make their long contexts come true.
+        // Pieces of the rules make their long contexts come true; a boundary is a space inside a name.
         if !set.rules.is_empty() && random.one_in(2) {
             let (_, rule) = random.pick(&set.rules);
             let pieces = [rule.left(), rule.target(), rule.right()].concat();
-            name.extend(pieces.iter().filter(|symbol| **symbol != 0));
+            let symbols = pieces.into_iter().map(|symbol| if symbol == 0 { SPACE } else { symbol });
+            name.extend(symbols.filter(|symbol| several || *symbol != SPACE));
         } else {
             name.push(random.pick(letters));
         }
     }
     name.truncate(length);
+    if several {
+        put_spaces(&mut name, random);
+    }
     if length > 0 && random.one_in(8) {
         for _ in 0..random.within(1, 3) {
             let at = random.below(length);
@@ -31,6 +38,20 @@ pub fn name(set: &Ruleset, letters: &[u8], random: &mut Random) -> Vec<u8> {
         }
     }
     name
+}
+
+/// Some letters become spaces: at the ends and in a row too, so that words have no letters.
+fn put_spaces(name: &mut [u8], random: &mut Random) {
+    if name.is_empty() {
+        return;
+    }
+    let last = name.len() - 1;
+    for _ in 0..random.below(4) {
+        let inside = random.below(name.len());
+        let at = random.pick(&[0, last, inside, inside]);
+        let row = random.pick(&[1, 1, 1, 2, 3]).min(name.len() - at);
+        name[at..at + row].fill(SPACE);
+    }
 }
 
 /// The names that stand so after one another.

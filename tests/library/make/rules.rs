@@ -1,14 +1,14 @@
 //! Random rules and rulesets. Few letters, so that patterns overlap, repeat and share their prefixes.
 
 use crate::random::Random;
-use crate::reference::rule::Rule;
+use crate::reference::rule::{Rule, SPACE};
 use crate::reference::ruleset::{Ruleset, MOST_RULES};
 use std::collections::HashSet;
 
 /// The letters that a ruleset and its names use.
 pub fn letters(random: &mut Random) -> Vec<u8> {
-    let most = random.pick(&[1, 2, 3, 3, 4, 6, 63]);
-    let mut all: Vec<u8> = (1..=0x3F).collect();
+    let most = random.pick(&[1, 2, 3, 3, 4, 6, 62]);
+    let mut all: Vec<u8> = (1..SPACE).collect();
     random.shuffle(&mut all);
     all.truncate(random.within(1, most));
     all
@@ -31,11 +31,11 @@ pub fn rule(letters: &[u8], earlier: &[(u16, Rule)], random: &mut Random) -> Rul
             _ => target = model.target().to_vec(),
         }
     }
-    if random.one_in(4) && left.len() < 6 {
+    if random.one_in(3) && left.len() < 6 {
         left.retain(|symbol| *symbol != 0);
         left.insert(0, 0);
     }
-    if random.one_in(4) && right.len() < 6 {
+    if random.one_in(3) && right.len() < 6 {
         right.retain(|symbol| *symbol != 0);
         right.push(0);
     }
@@ -120,7 +120,7 @@ fn numbers(count: usize, random: &mut Random) -> (Vec<u16>, u16) {
     (numbers, last as u16)
 }
 
-/// 24 bytes, often of broken shape; sometimes not 24.
+/// 24 bytes, often of broken shape, by 3F in one of its symbols too; sometimes not 24.
 pub fn any_rule(letters: &[u8], earlier: &[(u16, Rule)], random: &mut Random) -> Vec<u8> {
     let mut bytes = rule(letters, earlier, random).0.to_vec();
     match random.below(12) {
@@ -128,7 +128,8 @@ pub fn any_rule(letters: &[u8], earlier: &[(u16, Rule)], random: &mut Random) ->
         1 => bytes.truncate(random.below(24)),
         2 => bytes.push(random.byte()),
         3 => bytes[random.below(4)] = random.pick(&[0, 1, 4, 5, 6, 7, 255]),
-        4 => bytes[random.within(4, 23)] = random.pick(&[0x00, 0x3F, 0x40, 0xFF]),
+        4 => bytes[random.within(4, 23)] = random.pick(&[0x00, SPACE, 0x40, 0xFF]),
+        5 => bytes[random.pick(&[4, 10, 14])] = SPACE,
         _ => {}
     }
     bytes

@@ -1,5 +1,6 @@
 //! Ways to make the reference wrong on purpose, to see that the trials notice: the paper's "Ways to be
-//! wrong that pass a short trial", two more, and ways to mistake the exceptions list.
+//! wrong that pass a short trial", two more, and ways to mistake the exceptions list and names of several
+//! words.
 
 use std::sync::OnceLock;
 
@@ -31,9 +32,31 @@ pub enum Break {
     OneMore,
     /// The read-out has short names first.
     ShortFirst,
+    /// 3F may stand in rules.
+    SpaceInRules,
+    /// No boundary stands before a word that follows a space.
+    NoStart,
+    /// No boundary stands after a word that a space follows.
+    NoEnd,
+    /// The place of refusal 3 is counted within its word.
+    WordPlace,
+    /// Refusals 4 and 5 are judged after each word, by what was said so far.
+    WordRoom,
+    /// A listed word is the last that is said.
+    ListedEnds,
+    /// The list is tried for words alone, not for a name of several.
+    WordsAlone,
+    /// The list is tried for the whole name alone.
+    NameAlone,
+    /// Tables are judged although every word is listed.
+    TablesAlways,
+    /// A word of no letters takes no steps.
+    EmptyFree,
+    /// A word is read before the passes of the next.
+    LatePasses,
 }
 
-pub const BREAKS: [(&str, Break); 13] = [
+pub const BREAKS: [(&str, Break); 24] = [
     ("early", Break::Early),
     ("longest", Break::Longest),
     ("inside", Break::Inside),
@@ -47,6 +70,17 @@ pub const BREAKS: [(&str, Break); 13] = [
     ("unshared", Break::Unshared),
     ("one-more", Break::OneMore),
     ("short-first", Break::ShortFirst),
+    ("space-in-rules", Break::SpaceInRules),
+    ("no-start", Break::NoStart),
+    ("no-end", Break::NoEnd),
+    ("word-place", Break::WordPlace),
+    ("word-room", Break::WordRoom),
+    ("listed-ends", Break::ListedEnds),
+    ("words-alone", Break::WordsAlone),
+    ("name-alone", Break::NameAlone),
+    ("tables-always", Break::TablesAlways),
+    ("empty-free", Break::EmptyFree),
+    ("late-passes", Break::LatePasses),
 ];
 
 static CHOSEN: OnceLock<Break> = OnceLock::new();

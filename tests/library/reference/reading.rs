@@ -1,8 +1,9 @@
-//! The plain reading: the list, then the rules tried in order, without tables.
+//! The words of a name, and the plain reading: the list for the name and for each word, else the rules tried
+//! in order, without tables.
 
 use super::broken::{broken, Break};
 use super::exceptions::Exceptions;
-use super::rule::{is_letter, Rule};
+use super::rule::{is_letter, Rule, SPACE};
 use super::ruleset::Ruleset;
 use super::{refuse, Answer};
 
@@ -19,6 +20,11 @@ impl Said {
         self.numbers.push(number);
         let onward = if broken(Break::Onward) { rule.right().len() } else { 0 };
         rule.target().len() + onward
+    }
+
+    fn join(&mut self, word: Said) {
+        self.phones.extend(word.phones);
+        self.numbers.extend(word.numbers);
     }
 
     /// Refusals 4 and 5, which come when all is read: their places are the full needs.
@@ -38,26 +44,89 @@ pub fn sound_name(name: &[u8]) -> Answer<()> {
     if name.len() > 64 {
         return refuse(2, 0);
     }
-    match name.iter().position(|&byte| !is_letter(byte)) {
+    match name.iter().position(|&byte| !is_letter(byte) && byte != SPACE) {
         Some(index) => refuse(1, index),
         None => Ok(()),
     }
 }
 
-pub fn framed(name: &[u8]) -> Vec<u8> {
-    [&[0], name, &[0]].concat()
+/// A word in its frame, and how many positions of the whole name stand before its letters.
+pub struct Word<'a> {
+    pub before: usize,
+    pub letters: &'a [u8],
+    pub frame: Vec<u8>,
+}
+
+/// "Each word is framed with # by itself." Two spaces in a row, and one at an end, make a word of no letters.
+pub fn words(name: &[u8]) -> Vec<Word<'_>> {
+    let mut before = 0;
+    let mut words = Vec::new();
+    for letters in name.split(|&byte| byte == SPACE) {
+        let after = before + letters.len();
+        let first = if broken(Break::NoStart) && before > 0 { SPACE } else { 0 };
+        let last = if broken(Break::NoEnd) && after < name.len() { SPACE } else { 0 };
+        words.push(Word { before, letters, frame: [&[first], letters, &[last]].concat() });
+        before = after + 1;
+    }
+    words
 }
 
 /// What a listed name says: its phones, by no rules. None where it is not listed.
-pub fn listed(list: &Exceptions, name: &[u8]) -> Option<Said> {
+pub fn listed_name(list: &Exceptions, name: &[u8]) -> Option<Said> {
+    if broken(Break::WordsAlone) && name.contains(&SPACE) {
+        return None;
+    }
+    listed(list, name)
+}
+
+pub fn listed_word(list: &Exceptions, word: &Word) -> Option<Said> {
+    if broken(Break::NameAlone) {
+        return None;
+    }
+    listed(list, word.letters)
+}
+
+fn listed(list: &Exceptions, letters: &[u8]) -> Option<Said> {
     if broken(Break::Unlisted) {
         return None;
     }
-    let phones = list.phones.get(name)?.clone();
+    let phones = list.phones.get(letters)?.clone();
     Some(Said { phones, numbers: Vec::new() })
 }
 
-/// Whether reading goes on at position i of n letters.
+/// The words in turn, from the list or else as `speak` says them, joined; then 4 and 5 for the whole name.
+pub fn joined(
+    list: &Exceptions,
+    name: &[u8],
+    phones_lent: usize,
+    numbers_lent: usize,
+    mut speak: impl FnMut(&Word) -> Answer<Said>,
+) -> Answer<Said> {
+    let mut said = Said::default();
+    for word in words(name) {
+        let known = listed_word(list, &word);
+        let ends = known.is_some() && broken(Break::ListedEnds);
+        match known {
+            Some(known) => said.join(known),
+            None => said.join(speak(&word)?),
+        }
+        if broken(Break::WordRoom) {
+            said = said.within(phones_lent, numbers_lent)?;
+        }
+        if ends {
+            break;
+        }
+    }
+    said.within(phones_lent, numbers_lent)
+}
+
+/// Refusal 3 at position i of a word: its place is the position in the whole name.
+pub fn no_fit<T>(word: &Word, i: usize) -> Answer<T> {
+    let before = if broken(Break::WordPlace) { 0 } else { word.before };
+    refuse(3, before + i)
+}
+
+/// Whether reading goes on at position i of a word of n letters.
 pub fn reached(i: usize, n: usize) -> bool {
     if broken(Break::Early) {
         return i < n;
@@ -73,19 +142,22 @@ pub fn plain(
     numbers_lent: usize,
 ) -> Answer<Said> {
     sound_name(name)?;
-    if let Some(said) = listed(list, name) {
+    if let Some(said) = listed_name(list, name) {
         return said.within(phones_lent, numbers_lent);
     }
-    let frame = framed(name);
+    joined(list, name, phones_lent, numbers_lent, |word| plain_word(set, word))
+}
+
+fn plain_word(set: &Ruleset, word: &Word) -> Answer<Said> {
     let mut said = Said::default();
     let mut i = 1;
-    while reached(i, name.len()) {
-        let Some((number, rule)) = first_fitting(set, &frame, i) else {
-            return refuse(3, i);
+    while reached(i, word.letters.len()) {
+        let Some((number, rule)) = first_fitting(set, &word.frame, i) else {
+            return no_fit(word, i);
         };
         i += said.apply(*number, rule);
     }
-    said.within(phones_lent, numbers_lent)
+    Ok(said)
 }
 
 fn first_fitting<'a>(set: &'a Ruleset, frame: &[u8], i: usize) -> Option<&'a (u16, Rule)> {

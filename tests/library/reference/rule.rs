@@ -1,5 +1,7 @@
 //! A rule, its shape, and where it fits.
 
+use super::broken::{broken, Break};
+
 /// The 24 bytes in which a rule is handed over: four lengths, then 6, 4, 6 and 4 bytes. They are held
 /// whole, because an edit carries the bytes past a part's length along.
 #[derive(Clone, Copy)]
@@ -10,8 +12,11 @@ const STARTS: [usize; 4] = [4, 10, 14, 20];
 const MOST: [usize; 4] = [6, 4, 6, 4];
 
 pub fn is_letter(byte: u8) -> bool {
-    (0x01..=0x3F).contains(&byte)
+    (0x01..=0x3E).contains(&byte) || broken(Break::SpaceInRules) && byte == SPACE
 }
+
+/// Separates the words of a name, and stands in no rule.
+pub const SPACE: u8 = 0x3F;
 
 impl Rule {
     /// None where a part is longer than there are bytes for it; the shape is not judged.
@@ -59,7 +64,7 @@ impl Rule {
             && self.phones().iter().all(|&phone| phone != 0)
     }
 
-    /// Whether it fits at position i of a framed name.
+    /// Whether it fits at position i of a framed word.
     pub fn fits(&self, frame: &[u8], i: usize) -> bool {
         frame[..i].ends_with(self.left())
             && frame[i..].starts_with(self.target())

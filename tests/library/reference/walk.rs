@@ -1,11 +1,13 @@
-//! The walk: the list, then a function of the ruleset and of the words lent to it, built or not.
+//! The walk: the list for the name and for each word, else a function of the ruleset and of the words lent to
+//! it, built or not.
 
 use super::broken::{broken, Break};
 use super::exceptions::Exceptions;
-use super::reading::{framed, listed, reached, sound_name, Said};
+use super::reading::{self, joined, listed_name, listed_word, no_fit, reached, sound_name, Said, Word};
 use super::ruleset::Ruleset;
 use super::tables::{sets_needed, words_needed};
 use super::{refuse, Answer};
+use std::collections::HashMap;
 
 /// One pass over one table: its rows, and how many states it may step to.
 struct Pass<'a> {
@@ -39,8 +41,7 @@ pub fn walk(
     numbers_lent: usize,
 ) -> (Answer<Said>, usize) {
     let mut steps = 0;
-    let said = spoken(set, list, words, sets, name, &mut steps);
-    let answer = said.and_then(|said| said.within(phones_lent, numbers_lent));
+    let answer = spoken(set, list, words, sets, name, phones_lent, numbers_lent, &mut steps);
     match answer {
         Err(refused) if [1, 2, 16].contains(&refused.number) => (answer, 0),
         _ => (answer, steps),
@@ -53,14 +54,33 @@ fn spoken(
     words: &[u16],
     sets: &[u64],
     name: &[u8],
+    phones_lent: usize,
+    numbers_lent: usize,
     steps: &mut usize,
 ) -> Answer<Said> {
     sound_name(name)?;
-    if let Some(said) = listed(list, name) {
+    if let Some(said) = listed_name(list, name) {
         *steps = if broken(Break::ListedSteps) { 2 * name.len() + 2 } else { 0 };
-        return Ok(said);
+        return said.within(phones_lent, numbers_lent);
     }
-    let frame = framed(name);
+    if broken(Break::TablesAlways) {
+        usable(words, sets)?;
+    }
+    // "All passes of unlisted words come first."
+    let mut passed = HashMap::new();
+    for word in reading::words(name) {
+        if listed_word(list, &word).is_none() && !broken(Break::LatePasses) {
+            passed.insert(word.before, Passed::of(&word, words, sets, steps)?);
+        }
+    }
+    joined(list, name, phones_lent, numbers_lent, |word| match passed.get(&word.before) {
+        Some(passed) => passed.read(word, set, words, sets),
+        None => Passed::of(word, words, sets, steps)?.read(word, set, words, sets),
+    })
+}
+
+/// L and R, or 16 where the words and set words are too few for them.
+fn usable(words: &[u16], sets: &[u64]) -> Answer<(usize, usize)> {
     let &[left, right, ..] = words else {
         return refuse(16, 0);
     };
@@ -69,34 +89,52 @@ fn spoken(
     if left == 0 || right == 0 || !enough {
         return refuse(16, 0);
     }
+    Ok((left, right))
+}
 
-    // The states after each position: left from 0 to n, right from n + 1 down to 1.
-    let n = name.len();
-    let (mut left_after, mut right_after) = ([0; 66], [0; 66]);
-    let mut pass = Pass { rows: &words[2..], states: left, state: 0, steps: 0 };
-    for i in 0..=n {
-        left_after[i] = pass.step(frame[i])?;
-    }
-    pass = Pass { rows: &words[2 + 64 * left..], states: right, state: 0, steps: pass.steps };
-    for i in (1..=n + 1).rev() {
-        right_after[i] = pass.step(frame[i])?;
-    }
-    *steps = pass.steps;
+/// The states after each position of a word: left from 0 to n, right from n + 1 down to 1.
+struct Passed {
+    left_after: [usize; 66],
+    right_after: [usize; 66],
+}
 
-    let mut said = Said::default();
-    let mut i = 1;
-    while reached(i, n) {
-        let left_set = &sets[8 * left_after[i - 1]..][..8];
-        let right_set = &sets[8 * (left + right_after[i])..][..8];
-        let Some(place) = chosen(left_set, right_set) else {
-            return refuse(3, i);
-        };
-        match set.rules.get(place) {
-            Some((number, rule)) if rule.fits(&frame, i) => i += said.apply(*number, rule),
-            _ => return refuse(16, 0),
+impl Passed {
+    /// Both passes over a word, whose steps are counted.
+    fn of(word: &Word, words: &[u16], sets: &[u64], steps: &mut usize) -> Answer<Passed> {
+        let (left, right) = usable(words, sets)?;
+        let n = word.letters.len();
+        let mut passed = Passed { left_after: [0; 66], right_after: [0; 66] };
+        let mut pass = Pass { rows: &words[2..], states: left, state: 0, steps: 0 };
+        for i in 0..=n {
+            passed.left_after[i] = pass.step(word.frame[i])?;
         }
+        pass = Pass { rows: &words[2 + 64 * left..], states: right, state: 0, steps: pass.steps };
+        for i in (1..=n + 1).rev() {
+            passed.right_after[i] = pass.step(word.frame[i])?;
+        }
+        if n > 0 || !broken(Break::EmptyFree) {
+            *steps += pass.steps;
+        }
+        Ok(passed)
     }
-    Ok(said)
+
+    /// The word's reached letters in turn: 3 or 16.
+    fn read(&self, word: &Word, set: &Ruleset, words: &[u16], sets: &[u64]) -> Answer<Said> {
+        let mut said = Said::default();
+        let mut i = 1;
+        while reached(i, word.letters.len()) {
+            let left_set = &sets[8 * self.left_after[i - 1]..][..8];
+            let right_set = &sets[8 * (words[0] as usize + self.right_after[i])..][..8];
+            let Some(place) = chosen(left_set, right_set) else {
+                return no_fit(word, i);
+            };
+            match set.rules.get(place) {
+                Some((number, rule)) if rule.fits(&word.frame, i) => i += said.apply(*number, rule),
+                _ => return refuse(16, 0),
+            }
+        }
+        Ok(said)
+    }
 }
 
 /// "The rule of lowest place is the lowest set bit of the eight words."

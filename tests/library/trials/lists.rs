@@ -6,8 +6,10 @@ use crate::make::{lists as make, rules};
 use crate::random::Random;
 use crate::reference::exceptions::Exceptions;
 use crate::reference::image::{put, IMAGE};
+use crate::reference::reading::plain;
 use crate::reference::rule::Rule;
 use crate::reference::ruleset::Ruleset;
+use crate::reference::tables::build;
 use crate::tally::Tally;
 
 /// Changes of one list in any order, few letters; its names are spoken meanwhile.
@@ -55,33 +57,41 @@ pub fn some_read_out(tally: &mut Tally, list: &List, random: &mut Random) {
     lists::read_out(tally, list, &mut Lent::any(lending(needed, random), random));
 }
 
-/// A ruleset with a rule for each letter but the first, and its tables.
+/// A ruleset with a rule for each letter but the first, and others for the last at the ends of a word; its
+/// tables.
 pub struct Speakers {
     letters: Vec<u8>,
+    set: Ruleset,
     image: Lent<u8>,
     compiled: Compiled,
 }
 
 impl Speakers {
     pub fn new(tally: &mut Tally, letters: &[u8], random: &mut Random) -> Speakers {
-        let rule = |letter: &u8| Rule::new([&[], &[*letter], &[], &[0x70]]).expect("the parts are short");
-        let rules: Vec<(u16, Rule)> = letters[1..].iter().map(rule).zip(1..).map(|(r, n)| (n, r)).collect();
+        let last = &letters[letters.len() - 1..];
+        let mut parts: Vec<[&[u8]; 4]> = vec![[&[], last, &[0], &[]], [&[0], last, &[], &[0x71]]];
+        parts.extend(letters[1..].chunks(1).map(|letter| [&[], letter, &[], &[0x70]]));
+        let rules = parts.into_iter().map(|parts| Rule::new(parts).expect("the parts are short"));
+        let rules: Vec<(u16, Rule)> = (1..).zip(rules).collect();
+        let set = Ruleset { last: rules.len() as u16, rules };
         let mut bytes = vec![0; IMAGE];
-        put(&Ruleset { last: rules.len() as u16, rules }, &mut bytes);
+        put(&set, &mut bytes);
         let image = Lent::new(&bytes, random);
-        let mut compiled = Compiled::any(2 + 64 * (letters.len() + 1), 8 * (letters.len() + 1), random);
+        let tables = build(&set);
+        let mut compiled = Compiled::any(tables.words.len(), tables.sets.len(), random);
         lent::build(tally, &image, &mut compiled);
-        Speakers { letters: letters.to_vec(), image, compiled }
+        Speakers { letters: letters.to_vec(), set, image, compiled }
     }
 
     /// A name by all three calls, with about as much room as its phones need.
     pub fn speak(&self, tally: &mut Tally, list: &List, random: &mut Random) {
         let none = Exceptions::default();
         let held = list.held().unwrap_or(&none);
-        let name = make::name(held, &self.letters, random);
-        let needed = held.phones.get(&name).map_or(name.len(), Vec::len);
+        let name = make::spoken(held, &self.letters, random);
+        let said = plain(&self.set, held, &name, usize::MAX, usize::MAX);
+        let needed = said.map_or(name.len(), |said| said.phones.len());
         let mut many = Vec::new();
-        for name in [&name, &make::name(held, &self.letters, random), &name] {
+        for name in [&name, &make::spoken(held, &self.letters, random), &name] {
             many.push(name.len() as u8);
             many.extend(name);
         }
@@ -89,7 +99,7 @@ impl Speakers {
         let name = Lent::new(&name, random);
         lent::read_name(tally, &self.image, list, &name, &mut room(random));
         lent::speak(tally, &self.image, list, &self.compiled, &name, &mut room(random));
-        // Without tables, a listed name is spoken all the same.
+        // Without tables, a listed name and one of listed words are spoken all the same.
         lent::speak(tally, &self.image, list, &Compiled::any(0, 0, random), &name, &mut room(random));
         let (mut room, mut replies) = (Room::any(2 * needed, 64, random), Lent::any(12, random));
         let many = Lent::new(&many, random);

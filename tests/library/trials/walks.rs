@@ -67,6 +67,7 @@ fn spoken(
 }
 
 fn room_near(heard: Heard, random: &mut Random) -> Room {
-    let (phones, numbers) = (lending(heard.given.min(256), random), lending(heard.applied.min(64), random));
+    // A refusal 4 says what listed words need beyond the 256 that were lent.
+    let (phones, numbers) = (lending(heard.given.min(2_048), random), lending(heard.applied.min(64), random));
     Room::any(phones, numbers, random)
 }
