@@ -109,6 +109,13 @@ static void apply(const struct base_rule *r, struct base_spoken *out)
     out->numbers[out->rule_count++] = r->number;
 }
 
+/* A space is the boundary of the words on both its sides: # stands only first in a left context and last in a right
+   one, so that no rule and, in built tables, no state reaches across it. */
+static uint8_t symbol(uint8_t byte)
+{
+    return byte == BASE_SPACE ? 0 : byte;
+}
+
 /* The lowest place that both sets hold, or BASE_RULES. */
 static size_t lowest_common(const uint64_t *a, const uint64_t *b)
 {
@@ -131,13 +138,17 @@ int base_walk(const struct base_ruleset *rs, const uint16_t *words, const uint64
     out->phone_count = out->rule_count = out->steps = out->position = 0;
     after_left[0] = (uint16_t)(q = left[0]);            /* the boundary, from state 0 */
     for (size_t i = 1; i <= n; i++)
-        after_left[i] = (uint16_t)(q = left[BASE_SYMBOLS * q + name[i - 1]]);
+        after_left[i] = (uint16_t)(q = left[BASE_SYMBOLS * q + symbol(name[i - 1])]);
     after_right[n + 1] = (uint16_t)(q = right[0]);
     for (size_t i = n; i > 0; i--)
-        after_right[i] = (uint16_t)(q = right[BASE_SYMBOLS * q + name[i - 1]]);
+        after_right[i] = (uint16_t)(q = right[BASE_SYMBOLS * q + symbol(name[i - 1])]);
     out->steps = (uint32_t)(2 * n + 2);
 
     for (size_t i = 1; i <= n;) {
+        if (name[i - 1] == BASE_SPACE) {
+            i++;
+            continue;
+        }
         size_t place = lowest_common(sets + BASE_SET_WORDS * (size_t)after_left[i - 1],
                                      right_sets + BASE_SET_WORDS * (size_t)after_right[i]);
         if (place == BASE_RULES) {
@@ -173,9 +184,14 @@ int base_plain(const struct base_ruleset *rs, const uint8_t *name, size_t n, str
     uint8_t framed[BASE_NAME + 2];
 
     framed[0] = framed[n + 1] = 0;
-    memcpy(framed + 1, name, n);
+    for (size_t i = 1; i <= n; i++)
+        framed[i] = symbol(name[i - 1]);
     out->phone_count = out->rule_count = out->steps = out->position = 0;
     for (size_t i = 1; i <= n;) {
+        if (framed[i] == 0) {
+            i++;
+            continue;
+        }
         size_t p = 0;
         while (p < rs->count && !fits(&rs->rules[p], framed, n + 2, i))
             p++;
@@ -247,9 +263,9 @@ static int well_shaped(const struct base_rule *r)
 {
     size_t boundary = r->left_len > 0 && r->left[0] == 0;
     size_t letters = r->right_len - (size_t)(r->right_len > 0 && r->right[r->right_len - 1] == 0);
-    return between(r->left + boundary, r->left_len - boundary, 1, 0x3F)
-        && between(r->target, r->target_len, 1, 0x3F)
-        && between(r->right, letters, 1, 0x3F)
+    return between(r->left + boundary, r->left_len - boundary, 1, BASE_LETTERS)
+        && between(r->target, r->target_len, 1, BASE_LETTERS)
+        && between(r->right, letters, 1, BASE_LETTERS)
         && between(r->phones, r->phone_len, 1, 0xFF);
 }
 

@@ -1,8 +1,8 @@
 /*
  * The yardstick of the benchmark: the same tables, walk, plain reading and rule file as document 01,
- * written by hand in plain C. It trusts its caller: rulesets are valid, names are 1 to 63 in at most
- * 64 bytes, memory is long enough and tables are built. Only base_read judges what it is given,
- * since a file comes from outside.
+ * written by hand in plain C, with document 02's names of several words but without its exceptions list.
+ * It trusts its caller: rulesets are valid, names are 1 to 63 in at most 64 bytes, memory is long enough
+ * and tables are built. Only base_read judges what it is given, since a file comes from outside.
  */
 #ifndef BASELINE_H
 #define BASELINE_H
@@ -14,6 +14,8 @@ enum {
     BASE_RULES = 512,
     BASE_NAME = 64,
     BASE_SYMBOLS = 64,
+    BASE_LETTERS = 0x3E,        /* the highest letter */
+    BASE_SPACE = 0x3F,          /* separates the words of a name */
     BASE_SET_WORDS = 8,         /* 512 bits */
     BASE_LEFT_STATES = 3073,    /* most states of either side */
     BASE_RIGHT_STATES = 5121,
@@ -34,7 +36,7 @@ struct base_ruleset {
     struct base_rule rules[BASE_RULES];
 };
 
-/* Phones and rule numbers of a name; position is 0, or the letter that no rule fits. */
+/* Phones and rule numbers of a name; position is 0, or that of the letter that no rule fits, in the whole name. */
 struct base_spoken {
     uint32_t phone_count, rule_count, steps, position;
     uint8_t phones[BASE_PHONES];

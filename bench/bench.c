@@ -10,7 +10,13 @@
 #include <string.h>
 #include <time.h>
 
-enum { NAMES = 2000, ROUNDS = 40 };
+enum {
+    NAMES = 2000,
+    ROUNDS = 40,
+    EIGHT = 8,                              /* words of a long name */
+    LONG = 8 * EIGHT - 1,                   /* its bytes: words of seven letters and the spaces between them */
+    LONG_NAMES = NAMES * 12 / LONG          /* whose rule numbers have room where those of NAMES names have */
+};
 
 static uint8_t image[PIRROZKETA_IMAGE], back[PIRROZKETA_IMAGE], file[PIRROZKETA_FILE], other[PIRROZKETA_FILE];
 static uint16_t words[PIRROZKETA_WORDS], base_words[BASE_WORDS];
@@ -102,13 +108,15 @@ static void build(void) { build_in(PIRROZKETA_WORDS, PIRROZKETA_SETS); }
 
 static void check_ruleset(void) { accept(pirrozketa_check(image, sizeof image), "no ruleset"); }
 
-static void many(size_t length)
+static void speak(const uint8_t *names, size_t length, size_t of)
 {
     accept(pirrozketa_speak_many(image, sizeof image, list, PIRROZKETA_LIST, words, PIRROZKETA_WORDS, sets, PIRROZKETA_SETS,
            names, length, phones, sizeof phones, numbers, sizeof numbers / 2, replies, sizeof replies / sizeof *replies, &count),
            "no ruleset");
-    must(count == NAMES, "names are not all answered");
+    must(count == of, "names are not all answered");
 }
+
+static void many(size_t length) { speak(names, length, NAMES); }
 
 static void base_many(void)
 {
@@ -116,11 +124,11 @@ static void base_many(void)
         base_walk(&rs, base_words, base_sets, names + starts[k] + 1, names[starts[k]], &spoken[k]);
 }
 
-/* The last many() and base_many() gave the same. */
-static void compare(void)
+/* The last speak() of so many names and the baseline gave the same. */
+static void compare(int of)
 {
     size_t at = 0, from = 0;
-    for (int k = 0; k < NAMES; k++) {
+    for (int k = 0; k < of; k++) {
         const size_t *r = replies + PIRROZKETA_REPLY * k;
         must(PIRROZKETA_OK(r[0]) && r[1] == spoken[k].phone_count && r[2] == spoken[k].rule_count
              && r[3] == spoken[k].steps && !memcmp(phones + at, spoken[k].phones, r[1])
@@ -128,6 +136,47 @@ static void compare(void)
         at += r[1];
         from += r[2];
     }
+}
+
+/* ---- names of one word and of eight, equally long */
+
+static uint8_t one_word[LONG_NAMES][1 + LONG], eight_words[LONG_NAMES][1 + LONG];
+
+static void draw_long_names(void)
+{
+    for (int k = 0; k < LONG_NAMES; k++) {
+        one_word[k][0] = LONG;
+        for (int i = 1; i <= LONG; i++)
+            one_word[k][i] = letter();
+        memcpy(eight_words[k], one_word[k], sizeof one_word[k]);
+        for (int i = EIGHT; i <= LONG; i += EIGHT)
+            eight_words[k][i] = BASE_SPACE;
+    }
+}
+
+static void speak_long(uint8_t names[LONG_NAMES][1 + LONG]) { speak(names[0], sizeof one_word, LONG_NAMES); }
+
+static void base_long(uint8_t names[LONG_NAMES][1 + LONG])
+{
+    for (int k = 0; k < LONG_NAMES; k++)
+        base_walk(&rs, base_words, base_sets, names[k] + 1, LONG, &spoken[k]);
+}
+
+/* Both kinds by turns, through the library and through the baseline, with the rules and tables that stand. */
+static void word_rows(void)
+{
+    double one, eight, base_one, base_eight;
+    draw_long_names();
+    speak_long(one_word);
+    base_long(one_word);
+    compare(LONG_NAMES);
+    speak_long(eight_words);
+    base_long(eight_words);
+    compare(LONG_NAMES);
+    PAIR(eight, one, LONG_NAMES, speak_long(eight_words), speak_long(one_word));
+    PAIR(base_eight, base_one, LONG_NAMES, base_long(eight_words), base_long(one_word));
+    printf("| library | %.0f ns | %.0f ns | %.2f |\n", eight, one, eight / one);
+    printf("| baseline | %.0f ns | %.0f ns | %.2f |\n", base_eight, base_one, base_eight / base_one);
 }
 
 /* ---- the exceptions list */
@@ -213,7 +262,7 @@ int main(void)
     must(!memcmp(sets, base_sets, 8 * 8 * (size_t)(words[0] + words[1])), "the sets differ");
     many(length);
     base_many();
-    compare();
+    compare(NAMES);
     for (double start = now(); now() - start < 3e8;)    /* until the processor runs at its speed */
         many(length);
     PAIR(mine, base, NAMES, many(length), base_many());
@@ -267,7 +316,7 @@ int main(void)
         base_build(&rs, base_words, base_sets);
         many(length);
         base_many();
-        compare();
+        compare(NAMES);
         snprintf(what, sizeof what, "%d", sizes[k]);
         PAIR(mine, base, NAMES, many(length), base_many());
         row(what, mine, base);
@@ -279,5 +328,13 @@ int main(void)
     list_rows(100, 8);
     list_rows(950, 8);
     list_rows(950, PIRROZKETA_LISTED_PHONES);
+
+    /* drawn last, so that what is measured above is drawn as before */
+    accept(pirrozketa_list_clear(list, PIRROZKETA_LIST), "no empty list");
+    rules(320, 0);
+    build();
+    base_build(&rs, base_words, base_sets);
+    printf("\n| %d bytes a name, many at once, 320 rules | eight words | one word | ratio |\n|---|---|---|---|\n", LONG);
+    word_rows();
     return 0;
 }
