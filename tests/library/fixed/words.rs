@@ -21,8 +21,8 @@ pub fn words(tally: &mut Tally, random: &mut Random) {
     rules(tally, random);
 }
 
-/// Each word has its own boundaries: e is silent before a space, k before n after one. Words of no letters take
-/// two steps each.
+/// Each word has its own boundaries: e is silent before a space, k before n after one. Words of no letters
+/// take two steps each.
 fn boundaries(tally: &mut Tally, random: &mut Random) {
     let six = Loaded::new(tally, SIX_RULES, SIX_WORDS, SIX_SETS, random);
     let cases: [(&str, &[u8], &[u16]); 12] = [
@@ -71,8 +71,8 @@ fn refusals(tally: &mut Tally, random: &mut Random) {
     tally.equal("a space and 40", heard, Spoken::refused(1, 1, 0));
 }
 
-/// Listed words amid others, a listed name before its words, and the rooms: a listed word takes no steps and no
-/// numbers, and no run of several words is looked for.
+/// Listed words amid others, a listed name before its words, and the rooms: a listed word takes no steps and
+/// no numbers, and no run of several words is looked for.
 fn listed(tally: &mut Tally, random: &mut Random) {
     let mut six = Loaded::new(tally, SIX_RULES, SIX_WORDS, SIX_SETS, random);
     let entries: [(&str, &[u8]); 6] =
@@ -108,8 +108,8 @@ fn listed(tally: &mut Tally, random: &mut Random) {
     }
 }
 
-/// Tables that are none, and tables that a word starting with z leaves: judged only where a word is not listed,
-/// and by all passes before the first letter.
+/// Tables that are none, and tables that a word starting with z leaves: judged only where a word is not
+/// listed, and by all passes before the first letter.
 fn unusable_tables(tally: &mut Tally, random: &mut Random) {
     let mut six = Loaded::new(tally, SIX_RULES, SIX_WORDS, SIX_SETS, random);
     six.list(tally, "knee", &[1, 2], random);

@@ -6,8 +6,8 @@ use crate::reference::exceptions::{Exceptions, LIST};
 use crate::reference::rule::SPACE;
 use crate::tally::Tally;
 
-/// A name to list, remove or speak, with spaces or without: listed, near a listed one, of listed words, or new;
-/// seldom none that can be listed.
+/// A name to list, remove or speak, with spaces or without: listed, near a listed one, of listed words, or
+/// new; seldom none that can be listed.
 pub fn name(list: &Exceptions, letters: &[u8], random: &mut Random) -> Vec<u8> {
     let held = list.phones.len();
     let symbols = &[letters, &[SPACE]].concat();
