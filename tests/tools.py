@@ -6,6 +6,7 @@
 Ends with a message at the first difference.
 """
 
+import itertools
 import os
 import pty
 import shutil
@@ -15,9 +16,15 @@ import tempfile
 import termios
 
 ROOT = os.path.dirname(os.path.dirname(os.path.realpath(__file__)))
+sys.path.insert(0, os.path.join(ROOT, "tools"))
+
+import frames
+import ruletext
+
 SAY = os.path.join(ROOT, "target", "bin", "say")
 KNEE, NAB = "knee -> 6E 69 by rules 1 6 4, 10 steps\n", "nab -> refused 3 at 2: no rule fits the letter at that position\n"
 UNSOUND = "a line is missing, not ended, or not sound"
+SPACE_IN_RULE = "the space bar, 3F, separates words and stands in no rule; # is a word's boundary"
 PROVING = "Proving and building `say` from its sources. This is done once and takes some minutes.\n"
 
 
@@ -106,14 +113,21 @@ def names(tools):
     tools.expect(["speak.py", "ça", "knee"], 2, "ça -> not sent: " + cedilla + KNEE)
     tools.expect(["speak.py", "a\tb"], 2, "a\tb -> not sent: no letter for U+0009\n")
     tools.expect(["speak.py", b"\xE7"], 2, "\\udce7 -> not sent: no letter for the byte E7, which is not UTF-8\n")
-    tools.expect(["speak.py", "\\40"], 0, "\\40 -> refused 1 at 0: a byte of the name is no letter\n")
+    tools.expect(["speak.py", "\\40"], 0, "\\40 -> refused 1 at 0: a byte of the name is no letter and no space\n")
+    tools.expect(["speak.py", "eke knee", "e_nab", " ", "k  n"], 0,
+                 "eke knee -> 65 6B 6E 69 by rules 5 2 3 1 6 4, 18 steps\n"
+                 "e_nab -> refused 3 at 4: no rule fits the letter at that position\n"
+                 "  -> nothing by no rules, 4 steps\nk  n -> 6B 6E by rules 2 6, 10 steps\n")
+    tools.expect(["speak.py"], 0, "e e -> nothing by rules 3 3, 8 steps\n_e -> nothing by rule 3, 6 steps\n", given=b" e e ; two words\n_e\n")
+    tools.expect(["speak.py", "--rules", os.path.join(ROOT, "examples", "silent_e.hex"), "stone barn"], 0,
+                 "stone barn -> 73 74 4F 6E 62 52 6E [stəʊnbɑːn] by rules 69 70 20 64 28 52 48 64, 22 steps\n")
     # `say` takes 32,768 bytes: 2,519 lines of 13 bytes and one of 21 are just that; 2,520 and one of 9 are a byte more.
     for count, last, said in [(2519, b"kkkkkkkk", "kkkkkkkk -> 6B 6B 6B 6B 6B 6B 6B 6B by rules 2 2 2 2 2 2 2 2, 18 steps\n"),
                               (2520, b"kk", "kk -> 6B 6B by rules 2 2, 6 steps\n")]:
         tools.expect(["speak.py"], 0, (KNEE * count + said) * 2, given=(b"knee\n" * count + last + b"\n") * 2)
     long = "k" * 16_382
     tools.expect(["speak.py"], 2, f"{long} -> not sent: its line has 32,769 bytes, `say` takes 32,768\n", given=long.encode())
-    tools.expect(["speak.py"], 0, f"{long[1:]} -> refused 2 at 0: the name has more than 64 letters\n", given=long[1:].encode())
+    tools.expect(["speak.py"], 0, f"{long[1:]} -> refused 2 at 0: the name has more than 64 letters and spaces\n", given=long[1:].encode())
 
 
 def rule_files(tools):
@@ -160,9 +174,13 @@ def readable_rules(tools):
             ("e [kkkkk] = 6B", "line 1, column 4", "at most 4 in the target, not 5"),
             ("e [] = 6B", "line 1, column 4", "the target is empty"),
             ("[k]  #e = 6B", "line 1, column 6", "# may stand only first in a left context or last in a right one"),
-            ("[k] \\40 = 6B", "line 1, column 5", "letters are 01 to 3F"),
+            ("[k] \\40 = 6B", "line 1, column 5", "letters are 01 to 3E"),
+            ("[k] = 6B\n[e] _k = 6B", "line 2, column 5", SPACE_IN_RULE),
+            ("_ [k] = 6B", "line 1, column 1", SPACE_IN_RULE),
+            ("[k\\3F] = 6B", "line 1, column 2", SPACE_IN_RULE),
             ("[k] = 6B 00", "line 1, column 7", "phones are 01 to FF"),
-            ("letter 40 x", "line 1, column 8", "'40' is no byte from 01 to 3F"),
+            ("letter 40 x", "line 1, column 8", "'40' is no byte from 01 to 3E"),
+            ("letter 3F x", "line 1, column 8", "'3F' is no byte from 01 to 3E"),
             ("letter 1B xy", "line 1, column 11", "a letter is one character, not 'xy'"),
             ("phone 69", "line 1, column 1", "write phone, a byte, its text"),
             ("[k] = 6B\n" * 513, "line 513, column 1", "at most 512 rules")]:
@@ -189,9 +207,19 @@ def monitor(tools):
             ("repeat 1 exception @@ = @61", "20040101010101016175")]:
         tools.expect(["monitor.py", "--frames"], 0, frames + "\n", given=text.encode())
     tools.expect(["monitor.py"], 0, "> exception k n = 61\ndone, names 1, states 4\n> exception \\1D = 6263\ndone, names 2, states 5\n"
-                                    "> exceptions\nk_n = 61\n\\1D = 62 63\n> plain k_n\n61 by no rules, 0 steps\n"
+                                    "> exceptions\nk n = 61\n\\1D = 62 63\n> plain k_n\n61 by no rules, 0 steps\n"
                                     "> remove k n\ndone, names 1, states 2\n> clear list\ndone\n> exceptions\nno names\n",
                  given=b"exception k n = 61\nexception \\1D = 6263\nexceptions\nplain k_n\nremove k n\nclear list\nexceptions\n")
+    # What is read out can be typed, spaces at the ends and in a row too.
+    spaced = ["e", "k n", "k n_", "k__n", "_", "_k"]
+    listed = "".join(f"{name} = 61\n" for name in spaced)
+    status, out, _ = tools.run(["monitor.py"], "".join(f"exception {name} = 61\n" for name in spaced).encode() + b"exceptions\n")
+    tools.compare("names with spaces", (status, out.partition("> exceptions\n")[2]), (0, listed))
+    tools.expect(["monitor.py", "--rules", "six.hex"], 0,
+                 "> read\ndone, last 6\n> add 0 [_] = 20\nrefused 6 at 0: the rule breaks the shape of a rule\n"
+                 "> plain eke  nab\nrefused 3 at 6: no rule fits the letter at that position\n> exception nab = 61\ndone, names 1, states 4\n"
+                 "> plain eke nab\n65 6B 61 by rules 5 2 3, 0 steps\n> plain eke_nab phones=2\nrefused 4 at 3: more phones than the lent bytes hold\n",
+                 given=b"read\nadd 0 [_] = 20\nplain eke  nab\nexception nab = 61\nplain eke nab\nplain eke_nab phones=2\n")
     tools.expect(["monitor.py", "--rules", os.path.join(tools.root, "examples", "basque.hex")], 0,
                  "> exception ñ = 61\ndone, names 1, states 2\n> exceptions\nñ = 61 [a]\n", given="exception ñ = 61\nexceptions\n".encode())
     names = "".join(f"{letter}{letter}{letter} = 61 62 63\n" for letter in "abcdefghijklmnopqrstuvwxyz")
@@ -205,6 +233,15 @@ def monitor(tools):
                         ("store list 0 0", "store word, store set or store unit"), ("exceptions now", "exceptions has other fields: see help"),
                         ("show readout", "show words, sets or readout INDEX COUNT, show phones or show numbers")]:
         tools.expect(["monitor.py"], 2, f"> {text}\nmonitor: {fault}\n", given=text.encode() + b"\n")
+
+
+def typed_names(tools):
+    """Every short name of k, the letter 1D and the space bar, printed and typed again, is the same bytes."""
+    names = [bytes(name) for length in range(5) for name in itertools.product(b"\x0B\x1D\x3F", repeat=length)]
+    alphabet = ruletext.Alphabet()
+    tools.expect(["monitor.py", "--frames"], 0, b"".join(frames.frame(b"\x21" + name) for name in names).decode(),
+                 given="".join(f"remove {alphabet.text(name)}\n" for name in names).encode())
+    tools.compare("one space prints as a space", alphabet.text(b"\x0B\x3F\x0E"), "k n")
 
 
 def terminal(tools):
@@ -259,7 +296,7 @@ def main():
             with open(os.path.join(folder, name), "wb") as file:
                 file.write(data)
         tools = Tools(ROOT, folder)
-        for part in (names, rule_files, readable_rules, monitor, terminal):
+        for part in (names, rule_files, readable_rules, monitor, typed_names, terminal):
             part(tools)
         print(f"tools: {tools.passed + proving(other)} passed")
 

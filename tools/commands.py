@@ -160,6 +160,7 @@ def repeated(text):
 
 def counted(command, k):
     """@ stands for two letters, behind = for two phones, that are others each time."""
-    pair = 1 + k // ruletext.SPACE % ruletext.SPACE, 1 + k % ruletext.SPACE
+    letters = ruletext.LAST_LETTER
+    pair = 1 + k // letters % letters, 1 + k % letters
     symbols, equals, phones = command.partition("=")
     return symbols.replace("@", "\\%02X\\%02X" % pair) + equals + phones.replace("@", "%02X%02X" % pair)

@@ -6,8 +6,8 @@ from inputs import Failure
 
 REFUSALS = {
     0: "this is no ruleset: over 512 rules, a broken shape, or numbers equal or outside 1 to last",
-    1: "a byte of the name is no letter",
-    2: "the name has more than 64 letters",
+    1: "a byte of the name is no letter and no space",
+    2: "the name has more than 64 letters and spaces",
     3: "no rule fits the letter at that position",
     4: "more phones than the lent bytes hold",
     5: "more rules applied than the lent numbers hold",

@@ -27,6 +27,7 @@
     help                          quit
 
 Numbers are decimal or 0x hexadecimal. All that is not lent by name=N is lent whole.
+A space separates the words of a name; _ is one too, at an end or beside another.
 \\40 in a name or rule stands for the byte 40. ; starts a comment.
 
     python3 tools/monitor.py --rules examples/six.hex

@@ -4,9 +4,10 @@
     python3 tools/rules2hex.py examples/basque.rules > rules.hex
 
 A rule a line, numbered from 1 in order: left [target] right = phones, e.g.  # [k] n =  or, in
-Festival's writing, ( [ e e ] = 69 ). # is the word boundary, _ the space bar, \\1D the letter 1D,
-phones are hexadecimal, ; starts a comment. 'letter 1B ñ' names a letter of the team's own,
-'phone 69 i' the sound of a phone (for speak.py and monitor.py).
+Festival's writing, ( [ e e ] = 69 ). # is the word boundary, \\1D the letter 1D, phones are
+hexadecimal, ; starts a comment. The space bar separates words and stands in no rule.
+'letter 1B ñ' names a letter of the team's own, 'phone 69 i' the sound of a phone (for speak.py
+and monitor.py).
 """
 
 import argparse

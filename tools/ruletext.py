@@ -7,7 +7,8 @@ Rules as text, one a line, or in Festival's writing in parentheses; ; starts a c
     letter 1B ñ                a letter of the team's own
     phone 69 i                 what a phone byte sounds like, for readable answers
 
-# is the word boundary, _ the space bar (3F), \\1D the letter 1D. Spaces between symbols are free.
+# is the word boundary, \\1D the letter 1D. Spaces between symbols are free. The space bar, 3F, separates the words of a
+name and stands in no rule; where a space alone would be lost, in a name, _ is typed for it.
 """
 
 import os
@@ -18,7 +19,7 @@ import inputs
 from frames import frame, two
 from inputs import Mistake
 
-BOUNDARY, SPACE = 0x00, 0x3F
+BOUNDARY, LAST_LETTER, SPACE = 0x00, 0x3E, 0x3F
 LIMITS = {"left context": 6, "target": 4, "right context": 6, "phones": 4}
 MOST_RULES = 512
 
@@ -30,21 +31,21 @@ class Alphabet:
 
     def __init__(self):
         self.letters = {chr(ord("a") + k): k + 1 for k in range(26)}
-        self.letters.update({" ": SPACE, "_": SPACE})
         self.phones = {}
 
     def name(self, text):
         """The bytes of a typed name."""
-        return codes(composed(text), ".", self.letters)
+        return codes(composed(text), ".", {**self.letters, " ": SPACE, "_": SPACE})
 
     def text(self, name):
-        """A name as it can be typed."""
-        typed = {code: letter for letter, code in self.letters.items()}
-        return "".join(typed.get(code, f"\\{code:02X}") for code in name)
+        """A name as it can be typed. Spaces at an end or in a row are _: where words are typed they would be lost."""
+        typed = {SPACE: " ", **{code: letter for letter, code in self.letters.items()}}
+        text = "".join(typed.get(code, f"\\{code:02X}") for code in name)
+        return re.sub(r"^ +| {2,}| +$", lambda spaces: "_" * len(spaces[0]), text)
 
     def symbols(self, text, at=0):
-        """A context or target: letters, # and _, spaces between them free."""
-        return codes(text, r"\S", {**self.letters, "#": BOUNDARY}, at)
+        """A context or target: letters and #, spaces between them free; _ and \\3F are for the shape to refuse."""
+        return codes(text, r"\S", {**self.letters, "_": SPACE, "#": BOUNDARY}, at)
 
 
 def codes(text, character, letters, at=0):
@@ -126,8 +127,10 @@ def shape_fault(rule):
     for which, ((what, most), field) in enumerate(zip(LIMITS.items(), rule)):
         if len(field) > most:
             return which, f"at most {most} in the {what}, not {len(field)}"
-        if which < 3 and field and max(field) > SPACE:
-            return which, f"letters are 01 to {SPACE:02X}"
+        if which < 3 and SPACE in field:
+            return which, f"the space bar, {SPACE:02X}, separates words and stands in no rule; # is a word's boundary"
+        if which < 3 and field and max(field) > LAST_LETTER:
+            return which, f"letters are 01 to {LAST_LETTER:02X}"
     left, target, right, phones = rule
     if not target:
         return 1, "the target is empty"
@@ -174,7 +177,7 @@ def name_letter_or_phone(statement, alphabet, at):
     elif len(text) != 1:
         raise Mistake(f"a letter is one character, not '{text}'", text_place)
     else:
-        alphabet.letters[text.lower()] = byte_of(byte, 0x01, SPACE, place)
+        alphabet.letters[text.lower()] = byte_of(byte, 0x01, LAST_LETTER, place)
 
 
 def parse_rules(text):

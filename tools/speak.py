@@ -10,7 +10,7 @@
 tools/try proves and builds `say` first, if that was not done; tools/speak.py takes it as it was built.
 Names come from the command line or a file or, where none are given, from standard input: one a line,
 ; starts a comment. At a terminal they are asked for; Ctrl-D ends. A refused name is an answered one.
-\\40 in a name stands for the byte 40, _ or a space for the space bar.
+A space separates the words of a name; _ is one too, at an end. \\40 in a name stands for the byte 40.
 """
 
 import argparse
