@@ -51,7 +51,13 @@ def agrees(line, ruleset):
     if not isinstance(came, ref.Spoken) or list(came.numbers) != [int(n) for n in numbers.split()]:
         return False
     rules = {numbered.number: numbered.rule for numbered in ruleset.rules}
-    return all(ref.fits(rules[int(n)], ref.frame_name(name), int(position)) for n in (first, second) if n)
+    return all(fits_at(rules[int(n)], name, int(position)) for n in (first, second) if n)
+
+
+def fits_at(rule, name, position):
+    """Whether a rule fits at a position of a whole name."""
+    return any(ref.fits(rule, word.framed, position - word.before) for word in ref.words_of(name)
+               if 1 <= position - word.before <= len(word.letters))
 
 
 def fault(program, rules_hex):
@@ -75,7 +81,7 @@ def main():
     given = arguments.parse_args()
     program = os.path.abspath(given.program)
     files = [ref.file_text(ref.EMPTY), b"", b"01\n"]
-    for name in ("six.hex", "basque.hex"):
+    for name in ("six.hex", "basque.hex", "silent_e.hex"):
         with open(os.path.join(ROOT, "examples", name), "rb") as file:
             files.append(file.read())
     files += [generate.say_case(f"{given.seed} {k}")[0] or b"" for k in range(given.count)]

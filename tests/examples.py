@@ -1,6 +1,6 @@
 #!/usr/bin/env python3
 """The example rulesets: the .hex files are what their readable sources say, and each name sounds
-as basque.names says, by plain reading and by walk. The examples of docs/MONITOR.md: one conversation,
+as its .names file says, by plain reading and by walk. The examples of docs/MONITOR.md: one conversation,
 answered as it stands there."""
 
 import os
@@ -37,37 +37,52 @@ def check_monitor(check):
     check.equal("the last answer of docs/MONITOR.md", answers, [])
 
 
+def spoken(check, what, rs, letters):
+    """What a name gives; without a list, each of its words gives its part alone."""
+    said = ref.plain_reading(rs, letters, 256, 64)
+    check.equal(what + " is spoken", isinstance(said, ref.Spoken), True)
+    if not isinstance(said, ref.Spoken):
+        return ref.Spoken(b"", ())
+    alone = [ref.plain_reading(rs, word.letters, 256, 64) for word in ref.words_of(letters)]
+    check.equal(what + ", word by word", said, ref.Spoken(b"".join(word.phones for word in alone),
+                                                          sum((word.numbers for word in alone), ())))
+    return said
+
+
+def check_names(check, example_name, alphabet):
+    """Each name of NAME.names sounds as it says there, and every letter that can be typed is spoken alone."""
+    rs = ref.read_file(example(example_name + ".hex"))
+    check.equal(example_name + ".hex is a ruleset", isinstance(rs, ref.Ruleset), True)
+    for letter in sorted(set(alphabet.letters.values())):
+        spoken(check, f"{example_name}: letter {letter:02X} alone", rs, bytes([letter]))
+    words, sets = ref.build(rs, ref.SAY_WORDS, ref.SAY_SETS)
+    applied = set()
+    for line in example_text(example_name + ".names").splitlines():
+        name, _, rest = line.partition(";")
+        name = name.strip()
+        if not name:
+            continue
+        letters = alphabet.name(name)
+        said = spoken(check, name, rs, letters)
+        check.equal(name + ", walk", ref.walk(rs, words, sets, letters, 256, 64), (said, 2 * len(letters) + 2))
+        check.equal(name, "".join(alphabet.phones[p] for p in said.phones), rest.split(";")[0].strip())
+        applied.update(said.numbers)
+    states = words[0] + words[1]
+    print(f"{example_name}: {len(rs.rules)} rules, {states} states, {len(words)} words, {len(applied)} rules applied by the names")
+    return rs
+
+
 def main():
     check = ref.Check()
     check_monitor(check)
     alphabets = {}
-    for name in ("six", "basque"):
+    for name in ("six", "basque", "silent_e"):
         alphabets[name], rules = ruletext.read_rules(example_text(name + ".rules"), name)
         check.equal(name + ".hex is its source's", example(name + ".hex"), ruletext.rule_file(rules))
     check.equal("six.hex", example("six.hex"), ref.SIX_FILE)
-    rs = ref.read_file(example("basque.hex"))
-    check.equal("basque.hex is a ruleset", isinstance(rs, ref.Ruleset), True)
-    check.equal("100 rules or more", len(rs.rules) >= 100, True)
-    for letter in sorted(set(alphabets["basque"].letters.values())):
-        alone = ref.plain_reading(rs, bytes([letter]), 256, 64)
-        check.equal(f"letter {letter:02X} alone is spoken", isinstance(alone, ref.Spoken), True)
-    words, sets = ref.build(rs, ref.SAY_WORDS, ref.SAY_SETS)
-    applied = set()
-    for line in example_text("basque.names").splitlines():
-        name, _, rest = line.partition(";")
-        if not name.strip():
-            continue
-        letters = alphabets["basque"].name(name.strip())
-        said = ref.plain_reading(rs, letters, 256, 64)
-        check.equal(name.strip() + ", walk", ref.walk(rs, words, sets, letters, 256, 64), (said, 2 * len(letters) + 2))
-        if not isinstance(said, ref.Spoken):
-            check.equal(name.strip() + " is spoken", said, "phones")
-            continue
-        applied.update(said.numbers)
-        sounds = "".join(alphabets["basque"].phones[p] for p in said.phones)
-        check.equal(name.strip(), sounds, rest.split(";")[0].strip())
-    states = words[0] + words[1]
-    print(f"basque: {len(rs.rules)} rules, {states} states, {len(words)} words, {len(applied)} rules applied by the names")
+    basque = check_names(check, "basque", alphabets["basque"])
+    check.equal("100 rules or more", len(basque.rules) >= 100, True)
+    check_names(check, "silent_e", alphabets["silent_e"])
     print(f"{check.passed} passed, {check.failed} failed")
     return 1 if check.failed else 0
 
