@@ -1,10 +1,10 @@
 /*
  * A small host: it reads a rule file, adds a rule, writes the file back, builds the tables, lists exceptions and
- * speaks names, one at a time and many at once. Built and run by host/build, or by hand:
+ * speaks names, of one word or several, one at a time and many at once. Built and run by host/build, or by hand:
  *
  *     rt staticlib host
  *     gcc -O2 -Wall -Ihost host/example.c target/staticlib/libhost.a -o target/example
- *     target/example examples/six.hex knee keen nab
+ *     target/example examples/six.hex knee "eke knee" nab
  */
 #include "pirrozketa.h"
 
@@ -46,8 +46,8 @@ static void judge(const char *what, uint8_t code, size_t place)
     exit(1);
 }
 
-/* The typed name's letters and their number: a is 1, b is 2, a space is 63; another byte becomes 0, which no
-   name may have, so that the library refuses it. False for a name over LONGEST, which is said to be skipped. */
+/* The typed name's bytes and their number: a is 1, b is 2, a space between words is 63; another byte becomes 0, which
+   no name may have, so that the library refuses it. False for a name over LONGEST, which is said to be skipped. */
 static int letters(const char *typed, uint8_t name[LONGEST], size_t *length)
 {
     *length = strlen(typed);

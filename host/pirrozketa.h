@@ -16,9 +16,16 @@
  * [a] 61 and [x] 58 are built, rule 1 is dropped and [a]x 62 added at place 0. Not built again, "ax" is
  * spoken 61 58; by the rules it is 62 58. pirrozketa_read_name uses no tables, so it is right at once.
  *
+ * NAMES. A name has up to 64 bytes: letters from 1, a, to 62, and 63, the space bar, which separates words. Each
+ * word has boundaries of its own, so that a rule for the end of a word fits before a space too; two spaces in a
+ * row, or one at an end, make a word of no letters. The phones of the words are joined in order, and so are the
+ * rule numbers; places and rooms are those of the whole name. No rule may have 63.
+ *
  * LIST. A name on the exceptions list is said from it, by pirrozketa_speak, pirrozketa_speak_many and
- * pirrozketa_read_name alike, with no rule numbers and 0 steps, whatever the rules and tables; any other name
- * goes by the rules. A host without exceptions lends an empty list. A change of the list needs no build.
+ * pirrozketa_read_name alike; else each of its words that is listed is said from it, and only the other words go
+ * by the rules. What is listed gives no rule numbers and takes no steps; where that is all of the name, the tables
+ * are not looked at. A listed name may have spaces. A host without exceptions lends an empty list. A change of the
+ * list needs no build.
  *
  * MEMORY. Whatever the lent memory holds, every call ends and stays inside it: memory that is no ruleset is
  * refusal 0, and memory that is no list is 17; tables that lead to a state or rule that is none, or to a rule that does not fit, are refusal
@@ -42,11 +49,13 @@
 
 /*
  * The version of this interface. MAJOR rises where a host has to change: a call is withdrawn or means
- * something else. MINOR rises where something is added. 3.0 lends the exceptions list to pirrozketa_read_name,
- * pirrozketa_speak and pirrozketa_speak_many, after the ruleset. 2.0 withdrew pirrozketa_load of 1.0, which could
- * refuse after it had replaced the ruleset: call pirrozketa_read_file, look at its code, then pirrozketa_build.
+ * something else. MINOR rises where something is added. 4.0 takes 63 for the space between the words of a name: rules
+ * and rule files with it are refused, and a name can give more phones, since each of its words may be listed. 3.0 lends
+ * the exceptions list to pirrozketa_read_name, pirrozketa_speak and pirrozketa_speak_many, after the ruleset. 2.0
+ * withdrew pirrozketa_load of 1.0, which could refuse after it had replaced the ruleset: call pirrozketa_read_file, look
+ * at its code, then pirrozketa_build.
  */
-#define PIRROZKETA_VERSION_MAJOR 3
+#define PIRROZKETA_VERSION_MAJOR 4
 #define PIRROZKETA_VERSION_MINOR 0
 
 /* The library is compiled for x86-64, and its lengths are numbers of 8 bytes. */
@@ -79,10 +88,11 @@ enum {
                                      that are equal or not from 1 to `last`; place 0 */
     PIRROZKETA_NAME_BYTE = 1,     /* the name has a byte outside 01 to 3F; place: the first, counted from 0 */
     PIRROZKETA_NAME_LENGTH = 2,   /* the name has over 64 bytes; place 0 */
-    PIRROZKETA_NO_FIT = 3,        /* no rule fits at a letter that reading reaches; place: its position, from 1 */
-    PIRROZKETA_PHONES_ROOM = 4,   /* too few bytes lent for the phones; place: bytes needed */
-    PIRROZKETA_NUMBERS_ROOM = 5,  /* too few numbers lent for the rules applied; place: numbers needed */
-    PIRROZKETA_SHAPE = 6,         /* the added rule breaks the shape, or is not 24 bytes; place 0 */
+    PIRROZKETA_NO_FIT = 3,        /* no rule fits at a letter that reading reaches; place: its position in the whole
+                                     name, from 1 */
+    PIRROZKETA_PHONES_ROOM = 4,   /* too few bytes lent for the phones; place: bytes that the whole name needs */
+    PIRROZKETA_NUMBERS_ROOM = 5,  /* too few numbers lent for the rules applied; place: numbers that it needs */
+    PIRROZKETA_SHAPE = 6,         /* the added rule breaks the shape, as 63 in it does, or is not 24 bytes; place 0 */
     PIRROZKETA_PLACE = 7,         /* the place lies beyond the list; place 0 */
     PIRROZKETA_NO_NUMBER = 8,     /* no rule has the number; place 0 */
     PIRROZKETA_FULL = 9,          /* 512 rules are held; place 0 */
@@ -116,8 +126,8 @@ enum {
 enum {
     PIRROZKETA_WORDS = 524418,      /* 2 + 64 (L + R) words of 16 bits, for L and R states of the two tables */
     PIRROZKETA_SETS = 65552,        /* 8 (L + R) set words of 64 bits */
-    PIRROZKETA_NAME = 64,           /* letters of a name; a longer one is refusal 2 */
-    PIRROZKETA_PHONES = 256,        /* phones that one name can give */
+    PIRROZKETA_NAME = 64,           /* bytes of a name; a longer one is refusal 2 */
+    PIRROZKETA_PHONES = 2048,       /* phones that one name can give, by 32 listed words; by rules alone 256 */
     PIRROZKETA_NUMBERS = 64,        /* rules that one name can apply */
     PIRROZKETA_FILE = 29199,        /* bytes of the longest rule file */
     PIRROZKETA_LISTED_PHONES = 64,  /* phones of a listed name */
@@ -126,10 +136,10 @@ enum {
 
 /*
  * Stack: no call uses more than 32,768 bytes, to which host/build holds what host/stack.c measures with 512
- * rules, a name of 64 letters and lists of long names. In bytes: clear, count, last, list_clear none to speak of;
- * check 8,216; drop 8,248; move 8,312; add 8,376; read_file 8,588; write_file 8,856; build 13,976; list_check
- * 16,464; list_states 16,480; list_read_out 16,624; speak 16,720; speak_many 16,752; read_name 16,864; list_names
- * 24,688; list_remove 31,192; list_add 31,248.
+ * rules, a name of several words, 64 bytes, and lists of long names. In bytes: clear, count, last, list_clear
+ * none to speak of; check 8,216; drop 8,248; move 8,312; add 8,376; read_file 8,588; write_file 8,856; build
+ * 13,976; list_check 16,464; list_states 16,480; list_read_out 16,624; speak 16,720; speak_many 16,752;
+ * read_name 16,864; list_names 24,688; list_remove 31,192; list_add 31,248.
  */
 
 /* ---- the ruleset: `image` is PIRROZKETA_IMAGE bytes or more. Tables built before a change of it are old. */
@@ -180,7 +190,7 @@ uint8_t pirrozketa_read_file(const uint8_t *file, size_t file_len, uint8_t *imag
 PIRROZKETA_MUST_CHECK
 uint8_t pirrozketa_write_file(const uint8_t *image, size_t image_len, uint8_t *out, size_t out_len, size_t *bytes);
 
-/* ---- the exceptions list: `list` is PIRROZKETA_LIST words or more. Up to 1,000 whole names of 1 to 64 letters, each
+/* ---- the exceptions list: `list` is PIRROZKETA_LIST words or more. Up to 1,000 names of 1 to 64 letters and spaces, each
    with 1 to 64 phones, kept as the smallest automaton that says them, of at most 4,096 states. */
 
 /*
@@ -226,18 +236,21 @@ PIRROZKETA_MUST_CHECK
 uint8_t pirrozketa_build(const uint8_t *image, size_t image_len, uint16_t *words, size_t words_len, uint64_t *sets,
                          size_t sets_len, size_t *place);
 
-/* ---- names: letters from 1, a, to 63; phones from 1 to 255 */
+/* ---- names: letters from 1, a, to 62, and 63, the space; phones from 1 to 255 */
 
-/* Reads a name from the list, or else by trying the rules in order, without tables. *given: the phones given,
-   or the refusal's place; *applied: the rule numbers given, 0 with a refusal and for a listed name. Refusals 0, 17,
-   2, 1, 3, 4, 5. */
+/* Reads a name from the list, or else its words in turn, from the list or by trying the rules in order, without tables.
+   *given: the phones given, or the refusal's place; *applied: the rule numbers given, 0 with a refusal and where all is
+   listed. Refusals 0, 17, 2, 1; for a listed name 4 alone; else 3, 4, 5. */
 PIRROZKETA_MUST_CHECK
 uint8_t pirrozketa_read_name(const uint8_t *image, size_t image_len, const uint32_t *list, size_t list_len,
                              const uint8_t *name, size_t name_len, uint8_t *phones, size_t phones_len,
                              uint16_t *numbers, size_t numbers_len, size_t *given, size_t *applied);
 
-/* Speaks a name from the list, or else by the tables. *given and *applied as above; *steps: the table entries
-   looked up, 0 for a listed name and with the refusals 0, 17, 1, 2 and 16. Refusals 0, 17, 2, 1, 16, 3, 4, 5. */
+/* Speaks a name from the list, or else its words, from the list or by the tables. *given and *applied as above; *steps:
+   the table entries looked up, of a word that is not listed two for each letter and two more: 2 n + 2 for a name of n
+   bytes without a listed word, 0 where all is listed and with the refusals 0, 17, 1, 2 and 16. Refusals 0, 17, 2, 1; for
+   a listed name 4 alone; else, where a word is not listed, 16 for tables too short and for the passes of all such words,
+   then 3 or 16 at each letter that is reached; 4, 5. */
 PIRROZKETA_MUST_CHECK
 uint8_t pirrozketa_speak(const uint8_t *image, size_t image_len, const uint32_t *list, size_t list_len,
                          const uint16_t *words, size_t words_len, const uint64_t *sets, size_t sets_len,

@@ -140,7 +140,20 @@ static void prepare_list(uint32_t *filled, size_t most)
     }
 }
 
-/* 512 long rules; the last fits every a, so that a name of 64 times a applies it 64 times. */
+/* Words of a and the spaces between them, one word of no letters, and one that is listed: bb. */
+static void prepare_name(void)
+{
+    static const size_t spaces[] = { 32, 40, 41, 48, 51 };
+    names[0] = PIRROZKETA_NAME;
+    memset(name, 1, PIRROZKETA_NAME);
+    for (size_t k = 0; k < sizeof spaces / sizeof *spaces; k++)
+        name[spaces[k]] = 63;
+    name[49] = name[50] = 2;
+    must(PIRROZKETA_OK(pirrozketa_list_add(list, PIRROZKETA_LIST, name + 49, 2, phones, PIRROZKETA_LISTED_PHONES, &place)),
+         "a word is not listed");
+}
+
+/* 512 long rules; the last fits every a of the name. */
 static void prepare(void)
 {
     must(PIRROZKETA_OK(pirrozketa_clear(image, sizeof image)), "no empty ruleset");
@@ -152,12 +165,11 @@ static void prepare(void)
         must(PIRROZKETA_OK(pirrozketa_add(image, sizeof image, k + 1 < RULES ? longest : rule, sizeof rule, k, &place)),
              "a rule is refused");
     }
-    names[0] = PIRROZKETA_NAME;
-    memset(name, 1, PIRROZKETA_NAME);
     memcpy(copy, image, sizeof copy);
     memset(phones, 9, sizeof phones);
     prepare_list(list, 60);
     prepare_list(full, 1000);
+    prepare_name();
 }
 
 int main(void)
