@@ -1,4 +1,5 @@
-"""The exceptions list in conversations with `monitor`: random changes, lists near their limits, fixed runs at them, stores into its memory.
+"""The exceptions list in conversations with `monitor`: random changes, names of listed and other words, lists near their limits, fixed runs
+at them, stores into its memory.
 
 Every function that chooses takes a generate.Source, so that a conversation can be named by its seed.
 """
@@ -286,12 +287,17 @@ def short_names():
 
 
 def words():
-    """Short names by a list of letters, of words and of names with spaces, with tables, without, and with one phone too few."""
+    """Short names by a list of words and of names with spaces: with tables, without, and with room for few phones. Then names of
+    listed words alone about the 256 phones that are lent, up to the most that a name can give."""
     entries = [b"\x0B", b"\x0B\x0E", b"\5", b"\5" + SPACE + b"\x0E", b"\5" + SPACE + b"\5", SPACE + b"\x0B", SPACE * 2, b"\1" + SPACE]
     bodies = SIX + [b"\x15" + four(ALL) * 2] + [listing(name, b"\x61\x62\x63"[:1 + k % 3]) for k, name in enumerate(entries)]
     for name in short_names():
         bodies += [walking(name), plainly(name), without_tables(name), walking(name, 2), plainly(name, 3)]
-    return bodies + [reading_out()] + showing_all(60)
+    bodies += [reading_out(), *showing_all(60), EMPTYING, listing(b"\1", b"\xFF" * 64)]
+    for count in (4, 5, 32):
+        name = SPACE.join([b"\1"] * count)
+        bodies += [walking(name), plainly(name), without_tables(name), walking(name + SPACE), without_tables(name + SPACE)]
+    return bodies
 
 
 def thousand_names():
