@@ -291,8 +291,8 @@ def words():
     listed words alone about the 256 phones that are lent, up to the most that a name can give."""
     entries = [b"\x0B", b"\x0B\x0E", b"\5", b"\5" + SPACE + b"\x0E", b"\5" + SPACE + b"\5", SPACE + b"\x0B", SPACE * 2, b"\1" + SPACE]
     bodies = SIX + [b"\x15" + four(ALL) * 2] + [listing(name, b"\x61\x62\x63"[:1 + k % 3]) for k, name in enumerate(entries)]
-    for name in short_names():
-        bodies += [walking(name), plainly(name), without_tables(name), walking(name, 2), plainly(name, 3)]
+    for k, name in enumerate(short_names()):
+        bodies += [walking(name, (256, 2)[k % 2]), plainly(name, (2, 256)[k % 2]), without_tables(name)]
     bodies += [reading_out(), *showing_all(60), EMPTYING, listing(b"\1", b"\xFF" * 64)]
     for count in (4, 5, 32):
         name = SPACE.join([b"\1"] * count)
