@@ -65,7 +65,7 @@ fn full_lists() -> &'static [Full] {
         };
         fill(&mut names, (0..MOST_NAMES - 1).map(|k| of_ten(k, random)));
 
-        let mut states = made(random, &[61, 62, 63]);
+        let mut states = made(random, &[61, 62]);
         let shared = (0..9).map(|k| (vec![61 + k / 3, 61 + k % 3], vec![0x61]));
         let own = (0..64).map(|k| {
             let mut name = vec![1 + k % 60; 64];
