@@ -13,8 +13,9 @@
 enum {
     NAMES = 2000,
     ROUNDS = 40,
-    EIGHT = 8,                              /* words of a long name */
-    LONG = 8 * EIGHT - 1,                   /* its bytes: words of seven letters and the spaces between them */
+    WORDS = 8,                              /* of a long name, with spaces between them */
+    LETTERS = 7,                            /* of each */
+    LONG = WORDS * (LETTERS + 1) - 1,       /* bytes of a long name */
     LONG_NAMES = NAMES * 12 / LONG          /* whose rule numbers have room where those of NAMES names have */
 };
 
@@ -149,7 +150,7 @@ static void draw_long_names(void)
         for (int i = 1; i <= LONG; i++)
             one_word[k][i] = letter();
         memcpy(eight_words[k], one_word[k], sizeof one_word[k]);
-        for (int i = EIGHT; i <= LONG; i += EIGHT)
+        for (int i = LETTERS + 1; i <= LONG; i += LETTERS + 1)
             eight_words[k][i] = BASE_SPACE;
     }
 }
