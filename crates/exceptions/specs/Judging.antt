@@ -105,6 +105,19 @@ listingOf list = cond (isList list) (some (phonesFor (wordsOf list))) none
 abbrev pub noList : Listing
 noList = some (λ w. [])
 
+-- what lent words say of each name where they are judged already: nothing where they are too few for a list
+unfoldable pub saysOf : List ℕ → Str → Str
+saysOf list w = cond (leb listSize (length list)) (phonesFor (wordsOf list) w) []
+
+-- they are a list, or too few for one
+abbrev pub KnownList : List ℕ → Type 0
+KnownList list = listSize ≤ length list → isList list ≡ true
+
+-- q is a state of a list
+pub record StateOf (list : List ℕ) (q : ℕ) : Type 0 where
+  pub lent : isList list ≡ true
+  pub inside : q ≤ startOf (wordsOf list)
+
 -- the list says m of every name
 abbrev pub Says : List ℕ → (Str → Str) → Type 0
 Says list m = (w : Str) → Letters w → phonesFor (wordsOf list) w ≡ m w

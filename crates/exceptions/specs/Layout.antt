@@ -10,7 +10,7 @@ use mathlib.Core.List.{List}
 use lib.ListN.{getD, take}
 use Rattle.automaton.specs.Automaton.{Str, rowsOf, look}
 use Rattle.automaton.specs.Totals.{total}
-use Rattle.packing.specs.Packing.{unpack}
+use Rattle.packing.specs.Packing.{unpack, said}
 
 -- the words that a list needs: 4,200 before the cells, 26,096 cells of the largest list, 5,590 that one change takes for a while
 unfoldable pub listSize : ℕ
@@ -30,6 +30,10 @@ startOf ws = getD ws startWord 0
 -- what the words say of a name: its phones, none where it is not listed
 unfoldable pub phonesFor : List ℕ → Str → Str
 phonesFor ws w = unpack (look (rowsOf ws) (startOf ws) w)
+
+-- the phones of the names that end in state q
+abbrev pub phonesEnding : List ℕ → ℕ → Str
+phonesEnding ws q = said (rowsOf ws) q
 
 -- how many names are listed
 unfoldable pub namesIn : List ℕ → ℕ

@@ -3,18 +3,22 @@
 mod judging;
 
 use phone_strings::phone_groups;
+use phone_strings::phone_groups::Located;
 use rules::Answer;
 use rules::Refusal;
 ghost use mathlib.Core.Path.{_≡_};
 ghost use mathlib.Core.Bool.{true};
-ghost use Prim.Native.Nat.{_≤_};
+ghost use Prim.Native.Nat.{_+_, _≤_};
 ghost use lib.ListN.{length};
+ghost use lib.Seq.{paste};
+ghost use Rattle.rules.specs.Limits.{maxListedPhones};
 ghost use Rattle.rules.specs.Refusals.{replyOf};
 ghost use Rattle.rules.specs.Names.{SoundName};
 ghost use Rattle.automaton.specs.Automaton.{Letters};
-ghost use Rattle.exceptions.specs.Layout.{listSize, wordsOf, startOf, phonesFor};
-ghost use Rattle.exceptions.specs.Judging.{IsList, isList};
-ghost use Rattle.exceptions.specs.Calls.{emptying, emptied, nameCount, stateCount, lookingUp, lookedUp};
+ghost use Rattle.phone_strings.specs.Groups.{HoldsPhones};
+ghost use Rattle.exceptions.specs.Layout.{listSize, wordsOf, startOf, phonesFor, phonesEnding};
+ghost use Rattle.exceptions.specs.Judging.{IsList, isList, KnownList, StateOf};
+ghost use Rattle.exceptions.specs.Calls.{emptying, emptied, nameCount, stateCount, lookingUp, lookedUp, EndsIn, EndsInList, StateIn};
 
 // Words of a list.
 pub const SIZE: usize = 35886;
@@ -27,6 +31,12 @@ pub enum Lookup {
     Unlisted,
     Given(usize),
     NoRoom(usize),
+}
+
+// The state in which a listed name ends; any other name is absent.
+pub enum Ending {
+    State(usize),
+    Absent,
 }
 
 // The number of the start.
@@ -110,4 +120,67 @@ pub fn look_up(list: &[u32], name: &[u8], phones: &mut [u8]) -> Lookup
     ensures { λ r. ⌜ lookingUp r (now (phones .exit)) ≡ lookedUp (phonesFor (wordsOf (now (list .entry))) (now (name .entry))) (now (phones .entry)) ⌝ }
 {
     look_up_words(&list[..SIZE], name, phones)
+}
+
+// The state in which a name ends, of words which are a list.
+fn end_state_words(words: &[u32], name: &[u8]) -> Ending
+    requires { ⌜ (listSize ≤ length (now words)) × IsList (now words) × Letters (now name) ⌝ }
+    ensures { λ r. ⌜ EndsIn (now (words .entry)) (now (name .entry)) r ⌝ }
+{
+    let n = start_of(words);
+    let q = states::end_state(words, n, name);
+    let found = phone_groups::locate(words, n, q);
+    if found.count == 0 {
+        return Ending::Absent;
+    }
+    Ending::State(q)
+}
+
+// The state in which a sound name ends, for a caller that knows the list to be one, or lends too few words for any.
+pub fn end_state(list: &[u32], name: &[u8]) -> Ending
+    requires { ⌜ KnownList (now list) × SoundName (now name) ⌝ }
+    ensures { λ r. ⌜ EndsInList (now (list .entry)) (now (name .entry)) r ⌝ }
+{
+    if list.len() < SIZE {
+        return Ending::Absent;
+    }
+    end_state_words(&list[..SIZE], name)
+}
+
+// Where the phones of a state stand.
+fn located(words: &[u32], q: usize) -> Located
+    requires { ⌜ StateIn (now words) q ⌝ }
+    ensures { λ r. ⌜ HoldsPhones (now (words .entry)) q (r .from) (r .count) ⌝ }
+{
+    phone_groups::locate(words, start_of(words), q)
+}
+
+// How many phones the names have that end in a state.
+pub fn phone_count(list: &[u32], q: usize) -> usize
+    requires { ⌜ StateOf (now list) q ⌝ }
+    ensures { λ r. ⌜ (r ≡ length (phonesEnding (wordsOf (now (list .entry))) q)) × (r ≤ maxListedPhones) ⌝ }
+{
+    let found = located(&list[..SIZE], q);
+    found.count
+}
+
+// The phones of a state of words which are a list, from a place on.
+fn write_phones_words(words: &[u32], q: usize, phones: &mut [u8], at: usize) -> usize
+    requires { ⌜ StateIn (now words) q × (at + length (phonesEnding (now words) q) ≤ length (now phones)) ⌝ }
+    ensures count { λ r. ⌜ r ≡ length (phonesEnding (now (words .entry)) q) ⌝ }
+    ensures phones { λ _. ⌜ now (phones .exit) ≡ paste (now (phones .entry)) at (phonesEnding (now (words .entry)) q) (length (phonesEnding (now (words .entry)) q)) ⌝ }
+{
+    let found = located(words, q);
+    let count = found.count;
+    phone_groups::write(words, found.from, count, phones, at);
+    count
+}
+
+// The phones of the names that end in a state, from a place of the lent bytes on; how many they are.
+pub fn write_phones(list: &[u32], q: usize, phones: &mut [u8], at: usize) -> usize
+    requires { ⌜ StateOf (now list) q × (at + length (phonesEnding (wordsOf (now list)) q) ≤ length (now phones)) ⌝ }
+    ensures count { λ r. ⌜ r ≡ length (phonesEnding (wordsOf (now (list .entry))) q) ⌝ }
+    ensures phones { λ _. ⌜ now (phones .exit) ≡ paste (now (phones .entry)) at (phonesEnding (wordsOf (now (list .entry))) q) (length (phonesEnding (wordsOf (now (list .entry))) q)) ⌝ }
+{
+    write_phones_words(&list[..SIZE], q, phones, at)
 }
