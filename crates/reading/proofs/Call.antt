@@ -21,7 +21,7 @@ use Rattle.exceptions.specs.Judging.{isList, Listing, listingOf}
 use Rattle.image.specs.Image.{valid}
 use Rattle.reading.specs.Fitting.{Str}
 use Rattle.reading.specs.Reading.{listed}
-use Rattle.reading.specs.Speech.{Outcome, speaks, atOnce, saidFrom, listedOr, judgedCall, Unlisted, ListedAs}
+use Rattle.reading.specs.Speech.{Outcome, speaks, atOnce, saidFrom, listedOr, Following, judgedCall, saidOf, Unlisted, ListedAs}
 
 -- ---- what was found
 
@@ -46,7 +46,7 @@ pub from-listed : (p : Str) (o : Outcome) → 1 ≤ length p → saidFrom p o �
 from-listed [] o h = absurd (omega arith)
 from-listed (x ∷ p) o h = refl
 
-module _ (image : List ℕ) (name : Str) (o : Outcome) where
+module _ (image : List ℕ) (name : Str) (o : Following) where
   pub call-invalid : (l : Listing) → valid image ≡ false → judgedCall image l name o ≡ atOnce 0 0
   call-invalid l e = rw e
 
@@ -57,24 +57,24 @@ module _ (image : List ℕ) (name : Str) (o : Outcome) where
     pub call-refused : (l : Listing) (m : Str → Str) → l ≡ some m → (n p : ℕ) → judgedName name ≡ declined n p → judgedCall image l name o ≡ atOnce n p
     call-refused l m e n p h = rw (ok, e, h)
 
-    pub call-sound : (l : Listing) (m : Str → Str) → l ≡ some m → SoundName name → judgedCall image l name o ≡ listedOr m name o
+    pub call-sound : (l : Listing) (m : Str → Str) → l ≡ some m → SoundName name → judgedCall image l name o ≡ listedOr m name (o m)
     call-sound l m e s = rw (ok, e, sound-judged name s)
 
-    pub call-unlisted : (l : Listing) → SoundName name → Unlisted l name → judgedCall image l name o ≡ o
+    pub call-unlisted : (l : Listing) → SoundName name → Unlisted l name → judgedCall image l name o ≡ o (saidOf l)
     call-unlisted none s u = absurd u
     call-unlisted (some m) s u = rw (ok, sound-judged name s, u)
 
     pub call-listed : (l : Listing) (p : Str) → SoundName name → ListedAs l name p → judgedCall image l name o ≡ speaks (listed p ∷ []) 0
     call-listed none p s u = absurd u
-    call-listed (some m) p s u = rw (ok, sound-judged name s, u .0) (from-listed p o (u .1))
+    call-listed (some m) p s u = rw (ok, sound-judged name s, u .0) (from-listed p (o m) (u .1))
 
 -- ---- its cases
 
--- the call is refused at once, not with 3 to 5; or the name is said from the list; or it is what follows
+-- the call is refused at once, not with 3 to 5; or the name is said from the list; or it is what follows, with the list
 pub data CallCase (image : List ℕ) (l : Listing) (name : Str) : Type 0 where
-  refuses : (n p : ℕ) → (leb 3 n && leb n 5) ≡ false → ((o : Outcome) → judgedCall image l name o ≡ atOnce n p) → CallCase image l name
-  lists : (p : Str) → ListedAs l name p → ((o : Outcome) → judgedCall image l name o ≡ speaks (listed p ∷ []) 0) → CallCase image l name
-  follows : valid image ≡ true → SoundName name → Unlisted l name → ((o : Outcome) → judgedCall image l name o ≡ o) → CallCase image l name
+  refuses : (n p : ℕ) → (leb 3 n && leb n 5) ≡ false → ((o : Following) → judgedCall image l name o ≡ atOnce n p) → CallCase image l name
+  lists : (p : Str) → ListedAs l name p → ((o : Following) → judgedCall image l name o ≡ speaks (listed p ∷ []) 0) → CallCase image l name
+  follows : valid image ≡ true → SoundName name → Unlisted l name → ((o : Following) → judgedCall image l name o ≡ o (saidOf l)) → CallCase image l name
 
 pub call-case : (image : List ℕ) (l : Listing) (name : Str) → CallCase image l name
 call-case image l name = byBool (valid image) (λ v. lent v l) (λ v. refuses 0 0 refl (λ o. call-invalid image name o l v))
@@ -94,7 +94,7 @@ call-case image l name = byBool (valid image) (λ v. lent v l) (λ v. refuses 0 
     lent v (some m) = judged v m (judgement name)
 
 -- two calls agree in what f makes of them, if they do for a sound name that is not on the list
-pub call-alike : {A : Type 0} (f : Outcome → A) (image : List ℕ) (l : Listing) (name : Str) (o p : Outcome) → (SoundName name → f o ≡ f p)
+pub call-alike : {A : Type 0} (f : Outcome → A) (image : List ℕ) (l : Listing) (name : Str) (o p : Following) → (SoundName name → f (o (saidOf l)) ≡ f (p (saidOf l)))
     → f (judgedCall image l name o) ≡ f (judgedCall image l name p)
 call-alike f image l name o p h = by (call-case image l name)
   where

@@ -13,8 +13,8 @@ use Rattle.rules.specs.Names.{SoundName}
 use Rattle.exceptions.specs.Judging.{Listing}
 use Rattle.image.specs.Image.{valid, entriesOf}
 use Rattle.reading.specs.Fitting.{Str}
-use Rattle.reading.specs.Reading.{listed, plain}
-use Rattle.reading.specs.Speech.{Outcome, speaks, answered, ListedAs, spoken, refused, Said as Told, saying, delivered, plainSaid}
+use Rattle.reading.specs.Reading.{listed}
+use Rattle.reading.specs.Speech.{Outcome, speaks, answered, ListedAs, spoken, refused, Said as Told, saying, delivered, plainWords, plainSaid}
 use Rattle.reading.proofs.Call.{call-listed}
 
 -- the phones p at the front of the lent bytes, no number, or 4 with the phones needed
@@ -30,5 +30,5 @@ pub listed-said : (image : List ℕ) (l : Listing) (name p : Str) (phones number
     → plainSaid image l name phones numbers ≡ sayingListed p phones numbers
 unfolding plainSaid
 listed-said image l name p phones numbers ok s u =
-    ap (λ (o : Outcome). delivered o phones numbers) (call-listed image name (answered (plain (entriesOf image) name) 0) ok l p s u)
+    ap (λ (o : Outcome). delivered o phones numbers) (call-listed image name (λ m. answered (plainWords (entriesOf image) name m) 0) ok l p s u)
     ∙ listed-delivered p phones numbers

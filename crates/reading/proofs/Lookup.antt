@@ -1,6 +1,6 @@
 -- A name looked up in the list, as an answer.
 -- Assumes nothing.
-use Prim.Native.Nat.{ℕ, _≤_}
+use Prim.Native.Nat.{ℕ, _≤_, _<_}
 use mathlib.Core.Path.{_≡_, refl, sym, ap, ap₂, _∙_, subst}
 use mathlib.Core.List.{List, [], _∷_}
 use mathlib.Core.Bool.{Bool, true, false, cond}
@@ -10,13 +10,17 @@ use lib.ListN.{length}
 use Rattle.rules.specs.Memory.{over}
 use Rattle.rules.specs.declared.Refusal.the-variants.{PhonesRoom}
 use Rattle.rules.proofs.Cases.{byBool}
+use Rattle.rules.specs.Names.{SoundName}
+use Rattle.exceptions.specs.Layout.{listSize, wordsOf, phonesFor}
+use Rattle.exceptions.specs.Judging.{isList, saysOf}
+use Rattle.exceptions.proofs.Looking.{says-list, says-none}
 use Rattle.exceptions.specs.Calls.{LookedUp, lookingUp, lookedUp}
 use Rattle.exceptions.specs.declared.Lookup.{Lookup}
 use Rattle.exceptions.specs.declared.Lookup.the-variants.{Unlisted as Absent, Given, NoRoom}
 use Rattle.reading.specs.Fitting.{Str}
 use Rattle.reading.specs.Reading.{listed}
 use Rattle.reading.specs.Speech.{Outcome, speaks, stepsOf, saidFrom, spoken, refused, toldOf, saying, delivered}
-use Rattle.reading.specs.Places.{SaysListed}
+use Rattle.reading.specs.Places.{Unsaid, SaysListed}
 use Rattle.reading.specs.declared.Speech.{Speech}
 use Rattle.reading.specs.declared.Speech.the-variants.{Spoken, Refused}
 use Rattle.reading.specs.declared.delivery.Listed.{Listed}
@@ -111,3 +115,20 @@ module _ (p : Str) (o : Outcome) (phones after numbers : List ℕ) (r : Listed) 
   unlisted-answer f e =
       let l : SaysListed p phones after Unlisted = subst (SaysListed p phones after) e is in
       ap₂ f (ap (λ (q : Str). saidFrom q o) (sym (l .0))) (l .1)
+
+  pub unlisted-none : r ≡ Unlisted → p ≡ []
+  unlisted-none e = let l : SaysListed p phones after Unlisted = subst (SaysListed p phones after) e is in l .0
+
+-- ---- a lent list, and too few words for one, as what follows asks for them
+
+pub says-all : (list : List ℕ) → isList list ≡ true → saysOf list ≡ phonesFor (wordsOf list)
+says-all list h = λ i w. says-list list h w i
+
+pub says-nothing : (list : List ℕ) → length list < listSize → saysOf list ≡ (λ w. [])
+says-nothing list h = λ i w. says-none list h w i
+
+pub unsaid-list : (list : List ℕ) (name : Str) → isList list ≡ true → SoundName name → phonesFor (wordsOf list) name ≡ [] → Unsaid list name
+unsaid-list list name h s e = record { known = λ u. h; sound = s; absent = says-list list h name ∙ e }
+
+pub unsaid-none : (list : List ℕ) (name : Str) → length list < listSize → SoundName name → Unsaid list name
+unsaid-none list name h s = record { known = λ u. absurd (omega arith); sound = s; absent = says-none list h name }

@@ -1,26 +1,31 @@
-// The plain reading of a name: at each reached letter the first rule in order that fits (document 01, "Letters, rules, fitting").
+// The plain reading of a name, word by word: at each reached letter the first rule in order that fits (document 01, "Letters, rules, fitting").
 pub mod delivery;
+pub mod words;
 
 use delivery::Listed;
 use rules::Answer;
 use rules::Refusal;
 ghost use mathlib.Core.Path.{_≡_};
 ghost use mathlib.Core.Bool.{true};
+ghost use mathlib.Core.List.{[]};
 ghost use Prim.Native.Nat.{_+_, _-_, _<_, _≤_};
 ghost use lib.ListN.{length, take, drop};
-ghost use Rattle.rules.specs.Memory.{over};
-ghost use Rattle.rules.specs.Limits.{maxName, maxTarget};
+ghost use Rattle.rules.specs.Limits.{maxTarget};
 ghost use Rattle.rules.specs.Names.{SoundName};
 ghost use Rattle.exceptions.specs.Layout.{wordsOf, phonesFor};
-ghost use Rattle.exceptions.specs.Judging.{isList, listingOf, noList};
+ghost use Rattle.exceptions.specs.Judging.{isList, listingOf, noList, saysOf};
 ghost use Rattle.image.specs.Image.{countOf, entriesOf, entryAt, valid};
-ghost use Rattle.reading.specs.Fitting.{same, starts, ends, frame, fits};
+ghost use Rattle.reading.specs.Fitting.{same, starts, ends, fits};
 ghost use Rattle.reading.specs.Reading.{firstFit, plain};
-ghost use Rattle.reading.specs.Speech.{toldOf, saying, answered, listedOr, delivered, plainSaid};
-ghost use Rattle.reading.specs.Places.{FitAt, ReadBy};
+ghost use Rattle.reading.specs.Words.{word, readWord, frameOf, wordAt, WordOf};
+ghost use Rattle.reading.specs.Speech.{toldOf, saying, answered, listedOr, delivered, plainWords, plainSaid};
+ghost use Rattle.reading.specs.Places.{FitAt, ReadBy, Unsaid, frameSize, partsAt, PartsSoFar, ReadOn};
 
 // Symbols of the longest frame: a boundary before the name and one after it.
 pub const MAX_FRAME: usize = rules::MAX_NAME + 2;
+
+// Lent as a list where there is none: too few words for any.
+pub const NO_LIST: [u32; 1] = [0];
 
 // The answer of a call that speaks a name: how many phones and rule numbers it gave, or why it declined.
 pub enum Speech {
@@ -39,17 +44,6 @@ pub enum Reached {
     Rules(usize),
     Uncovered(usize),
     BadTables,
-}
-
-// The frame of a name is laid at the start of `f`: # at 0 and after its last letter.
-pub fn lay_frame(name: &[u8], f: &mut [u8])
-    requires { ⌜ length (now name) + 2 ≤ length (now f) ⌝ }
-    ensures { λ _. ⌜ now (f .exit) ≡ over (frame (now (name .entry))) (now (f .entry)) ⌝ }
-{
-    let n = name.len();
-    f[0] = 0;
-    image::put(&mut *f, 1, name);
-    f[n + 1] = 0;
 }
 
 // Whether `b` has the symbols of `a` from `at` on.
@@ -130,9 +124,9 @@ fn first_fit(image: &[u8], count: usize, frame: &[u8], i: usize) -> Fit
     Fit::Nothing
 }
 
-// The places of the rules applied to a framed name, in order, from its first letter on.
+// The places of the rules applied to a framed word, in order, from its first letter on.
 fn read_places(image: &[u8], frame: &[u8], places: &mut [u16]) -> Reached
-    requires { ⌜ (valid (now image) ≡ true) × ((2 ≤ length (now frame)) × ((length (now frame) ≤ maxName + 2) × (length (now places) ≡ maxName))) ⌝ }
+    requires { ⌜ (valid (now image) ≡ true) × ((2 ≤ length (now frame)) × ((length (now frame) ≤ frameSize) × (length (now frame) - 2 ≤ length (now places)))) ⌝ }
     ensures { λ r. ⌜ ReadBy (now (image .entry)) (firstFit (entriesOf (now (image .entry))) (now (frame .entry))) (length (now (frame .entry)) - 2) (now (places .exit)) r ⌝ }
 {
     let count = image::rule_count(image);
@@ -151,17 +145,65 @@ fn read_places(image: &[u8], frame: &[u8], places: &mut [u16]) -> Reached
     Reached::Rules(k)
 }
 
-// The plain reading of a sound name with a ruleset.
-fn read_sound(image: &[u8], name: &[u8], phones: &mut [u8], numbers: &mut [u16]) -> Speech
-    requires { ⌜ (valid (now image) ≡ true) × (length (now name) ≤ maxName) ⌝ }
-    ensures { λ r. ⌜ saying (toldOf r) (now (phones .exit)) (now (numbers .exit)) ≡ delivered (answered (plain (entriesOf (now (image .entry))) (now (name .entry))) 0) (now (phones .entry)) (now (numbers .entry)) ⌝ }
+// One word more, after `count` parts: the part that the list gives for it, or the rules applied to its letters.
+fn read_word(
+    image: &[u8],
+    list: &[u32],
+    name: &[u8],
+    frame: &[u8],
+    from: usize,
+    end: usize,
+    parts: &mut [u16],
+    count: usize,
+) -> Reached
+    requires { ⌜ (valid (now image) ≡ true) × Unsaid (now list) (now name) × (now frame ≡ frameOf (now name)) × WordOf (now name) from end × PartsSoFar (now image) (now list) (now parts) count from ⌝ }
+    ensures { λ r. ⌜ ReadOn (now (image .entry)) (now (list .entry)) (partsAt (now (image .entry)) (now (list .entry)) (take count (now (parts .entry)))) (readWord (saysOf (now (list .entry))) (plain (entriesOf (now (image .entry)))) (word from (wordAt (now (name .entry)) from))) end (now (parts .exit)) r ⌝ }
+{
+    let part = words::find_word(list, name, from, end);
+    if part != 0 {
+        parts[count] = part;
+        return Reached::Rules(count + 1);
+    }
+    let read = read_places(image, &frame[from..end + 1], &mut parts[count..]);
+    words::in_name(read, count, from)
+}
+
+// The words of a name that is not on the list, in turn.
+fn read_words(image: &[u8], list: &[u32], name: &[u8], frame: &[u8], parts: &mut [u16]) -> Reached
+    requires { ⌜ (valid (now image) ≡ true) × Unsaid (now list) (now name) × (now frame ≡ frameOf (now name)) × (length (now parts) ≡ frameSize) ⌝ }
+    ensures { λ r. ⌜ ReadOn (now (image .entry)) (now (list .entry)) [] (plainWords (entriesOf (now (image .entry))) (now (name .entry)) (saysOf (now (list .entry)))) frameSize (now (parts .exit)) r ⌝ }
+{
+    let mut count = 0;
+    let mut from = 0;
+    while from <= name.len() {
+        let end = words::word_end(name, from);
+        let read = read_word(image, list, name, frame, from, end, &mut *parts, count);
+        let Reached::Rules(k) = read else {
+            return read;
+        };
+        count = k;
+        from = end;
+    }
+    Reached::Rules(count)
+}
+
+// The plain reading of a sound name that is not on the list.
+fn read_sound(
+    image: &[u8],
+    list: &[u32],
+    name: &[u8],
+    phones: &mut [u8],
+    numbers: &mut [u16],
+) -> Speech
+    requires { ⌜ (valid (now image) ≡ true) × Unsaid (now list) (now name) ⌝ }
+    ensures { λ r. ⌜ saying (toldOf r) (now (phones .exit)) (now (numbers .exit)) ≡ delivered (answered (plainWords (entriesOf (now (image .entry))) (now (name .entry)) (saysOf (now (list .entry)))) 0) (now (phones .entry)) (now (numbers .entry)) ⌝ }
 {
     let mut frame = [0u8; MAX_FRAME];
-    lay_frame(name, &mut frame);
+    words::lay_frame(name, &mut frame);
     let end = name.len() + 2;
-    let mut places = [0u16; rules::MAX_NAME];
-    let reached = read_places(image, &frame[..end], &mut places);
-    delivery::answer(image, reached, &places, phones, numbers)
+    let mut parts = [0u16; MAX_FRAME];
+    let reached = read_words(image, list, name, &frame[..end], &mut parts);
+    delivery::answer(image, list, reached, &parts, phones, numbers)
 }
 
 // The plain reading of a name, for a caller that knows the image to be a ruleset and has no list.
@@ -172,7 +214,7 @@ pub fn read_valid(image: &[u8], name: &[u8], phones: &mut [u8], numbers: &mut [u
     let judged = rules::judge_name(name);
     match judged {
         Answer::Refused(x) => Speech::Refused(x),
-        Answer::Accepted => read_sound(image, name, phones, numbers),
+        Answer::Accepted => read_sound(image, &NO_LIST, name, phones, numbers),
     }
 }
 
@@ -185,12 +227,12 @@ fn read_listed(
     numbers: &mut [u16],
 ) -> Speech
     requires { ⌜ (valid (now image) ≡ true) × ((isList (now list) ≡ true) × SoundName (now name)) ⌝ }
-    ensures { λ r. ⌜ saying (toldOf r) (now (phones .exit)) (now (numbers .exit)) ≡ delivered (listedOr (phonesFor (wordsOf (now (list .entry)))) (now (name .entry)) (answered (plain (entriesOf (now (image .entry))) (now (name .entry))) 0)) (now (phones .entry)) (now (numbers .entry)) ⌝ }
+    ensures { λ r. ⌜ saying (toldOf r) (now (phones .exit)) (now (numbers .exit)) ≡ delivered (listedOr (phonesFor (wordsOf (now (list .entry)))) (now (name .entry)) (answered (plainWords (entriesOf (now (image .entry))) (now (name .entry)) (phonesFor (wordsOf (now (list .entry))))) 0)) (now (phones .entry)) (now (numbers .entry)) ⌝ }
 {
     let found = delivery::say_listed(list, name, &mut *phones);
     match found {
         Listed::Said(speech) => speech,
-        Listed::Unlisted => read_sound(image, name, phones, numbers),
+        Listed::Unlisted => read_sound(image, list, name, phones, numbers),
     }
 }
 

@@ -1,10 +1,13 @@
--- `reading::read_listed` meets its contract: what the list says, or else the reading by the rules.
+-- `reading::read_listed` meets its contract: what the list says, or else the reading of its words.
 -- Assumes nothing.
-use mathlib.Core.List.{List}
-use mathlib.Core.Path.{_∙_}
+use Rattle.reading.proofs.Lookup.{listed-answer, unlisted-answer, unlisted-none, says-all, unsaid-list}
+use Rattle.reading.specs.Speech.{Outcome, answered, delivered, plainWords}
+use Rattle.reading.specs.Fitting.{Str}
+use Rattle.image.specs.Image.{entriesOf}
+use Rattle.exceptions.specs.Layout.{wordsOf, phonesFor}
 use Prim.Native.Nat.{ℕ}
-use Rattle.reading.specs.Speech.{Outcome, delivered}
-use Rattle.reading.proofs.Lookup.{listed-answer, unlisted-answer}
+use mathlib.Core.List.{List}
+use mathlib.Core.Path.{ap, _∙_}
 use borrow.Author.Needs.{needs}
 use Rattle.reading.proofs.read_listed.Statement.{statement}
 use Rattle.reading.proofs.read_listed.Tie as tie
@@ -19,15 +22,13 @@ enum-told : tie.Need-enum-told
 enum-told c = search needs
 
 read-sound-requires : tie.Need-read-sound-requires
-read-sound-requires c κs = search needs
+read-sound-requires c κs = (c .before .before .before .before .before .before .before .before .before .before .before .before .before .pre .0, unsaid-list (c .before .before .before .before .before .before .before .before .before .before .before .before .before .args .list .now) (c .before .before .before .before .before .before .before .before .before .before .before .before .before .args .name .now) (c .before .before .before .before .before .before .before .before .before .before .before .before .before .pre .1 .0) (c .before .before .before .before .before .before .before .before .before .before .before .before .before .pre .1 .1) (unlisted-none (phonesFor (wordsOf (c .before .before .before .before .before .before .before .before .before .before .before .before .before .args .list .now)) (c .before .before .before .before .before .before .before .before .before .before .before .before .before .args .name .now)) (answered (plainWords (entriesOf (c .before .before .before .before .before .before .before .before .before .before .before .before .before .args .image .now)) (c .before .before .before .before .before .before .before .before .before .before .before .before .before .args .name .now) (phonesFor (wordsOf (c .before .before .before .before .before .before .before .before .before .before .before .before .before .args .list .now)))) 0) (c .before .before .before .before .before .before .before .before .before .before .before .before .before .args .phones .now) _ (c .before .before .before .before .before .before .before .before .before .before .before .before .before .args .numbers .now) _ (c .before .before .before .before .before .before .say-listed .ensures) (c .before .before .enum-told .given .1)))
 
 same-length : tie.Need-same-length
 same-length c = search needs
 
 returns : tie.Need-returns
-returns c =
-    let a = c .before .before .before .before .before .before .before .before .before .before .before .before .args in
-    listed-answer _ _ (a .phones .now) _ (a .numbers .now) _ (c .before .before .before .before .before .say-listed .ensures) _ (c .before .found .given .1)
+returns c = listed-answer _ _ (c .before .before .before .before .before .before .before .before .before .before .before .before .args .phones .now) _ (c .before .before .before .before .before .before .before .before .before .before .before .before .args .numbers .now) _ (c .before .before .before .before .before .say-listed .ensures) _ (c .before .found .given .1)
 
 same-length-2 : tie.Need-same-length-2
 same-length-2 c = search needs
@@ -36,10 +37,7 @@ same-length-3 : tie.Need-same-length-3
 same-length-3 c = search needs
 
 returns-2 : tie.Need-returns-2
-returns-2 c =
-    let a = c .before .before .before .before .before .before .before .before .before .before .before .before .before .before .before .before .before .before .args in
-    c .before .before .before .before .read-sound .ensures
-    ∙ unlisted-answer _ _ (a .phones .now) _ (a .numbers .now) _ (c .before .before .before .before .before .before .before .before .before .before .before .say-listed .ensures) (λ (o : Outcome) (l : List ℕ). delivered o l (a .numbers .now)) (c .before .before .before .before .before .before .before .enum-told .given .1)
+returns-2 c = c .before .before .before .before .read-sound .ensures ∙ (ap (λ (m : Str → Str). delivered (answered (plainWords (entriesOf (c .before .before .before .before .before .before .before .before .before .before .before .before .before .before .before .before .before .before .args .image .now)) (c .before .before .before .before .before .before .before .before .before .before .before .before .before .before .before .before .before .before .args .name .now) m) 0) (c .before .before .before .before .before .before .before .before .before .before .before .say-listed .last .1 .1 .0) (c .before .before .before .before .before .before .before .before .before .before .before .before .before .before .before .before .before .before .args .numbers .now)) (says-all (c .before .before .before .before .before .before .before .before .before .before .before .before .before .before .before .before .before .before .args .list .now) (c .before .before .before .before .before .before .before .before .before .before .before .before .before .before .before .before .before .before .pre .1 .0)) ∙ unlisted-answer _ _ (c .before .before .before .before .before .before .before .before .before .before .before .before .before .before .before .before .before .before .args .phones .now) _ (c .before .before .before .before .before .before .before .before .before .before .before .before .before .before .before .before .before .before .args .numbers .now) _ (c .before .before .before .before .before .before .before .before .before .before .before .say-listed .ensures) (λ (o : Outcome) (l : List ℕ). delivered o l (c .before .before .before .before .before .before .before .before .before .before .before .before .before .before .before .before .before .before .args .numbers .now)) (c .before .before .before .before .before .before .before .enum-told .given .1))
 
 pub read-listed-spec : {M : Type 1} → statement M
 read-listed-spec =

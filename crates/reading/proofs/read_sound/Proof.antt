@@ -1,11 +1,13 @@
--- `reading::read_sound` meets its contract: the frame, the places of the rules applied, the answer.
+-- `reading::read_sound` meets its contract: the frame, the parts of the words, the answer.
 -- Assumes nothing.
-use mathlib.Core.Path.{refl, sym, ap, _∙_}
-use native.Mathlib.Omega.{arith}
-use lib.ListN.{replicate}
+use Rattle.exceptions.specs.Judging.{saysOf}
+use Rattle.image.specs.Image.{entriesOf}
+use Rattle.reading.proofs.Loop.{after-none}
+use Rattle.reading.proofs.NameWords.{frame-length, frame-part}
+use Rattle.reading.specs.Speech.{answered, delivered, plainWords}
 use Rattle.reading.specs.Reading.{Reading}
-use Rattle.reading.specs.Speech.{answered, delivered}
-use Rattle.reading.proofs.Plain.{part-length, plain-is}
+use lib.ListN.{length, replicate}
+use mathlib.Core.Path.{refl, sym, ap, _∙_}
 use borrow.Author.Needs.{needs}
 use Rattle.reading.proofs.read_sound.Statement.{statement}
 use Rattle.reading.proofs.read_sound.Tie as tie
@@ -22,14 +24,14 @@ add-end c = search needs
 array-share-prefix-frame : tie.Need-array-share-prefix-frame
 array-share-prefix-frame c = search needs
 
-slice-aggregate-read-places : tie.Need-slice-aggregate-read-places
-slice-aggregate-read-places c = sym (part-length (c .before .before .before .before .before .before .before .before .args .image .now) (c .before .before .before .before .before .before .before .before .args .name .now) (replicate 66 0) (c .before .before .lay-frame .last .1 .0) (c .before .before .lay-frame .ensures))
+slice-aggregate-read-words : tie.Need-slice-aggregate-read-words
+slice-aggregate-read-words c = sym (ap length (frame-part (c .before .before .before .before .before .before .before .before .before .args .name .now) (replicate 66 0) (c .before .before .lay-frame .last .1 .0) (c .before .before .lay-frame .ensures)) ∙ frame-length (c .before .before .before .before .before .before .before .before .before .args .name .now))
 
-slice-aggregate-read-places-2 : tie.Need-slice-aggregate-read-places-2
-slice-aggregate-read-places-2 c = search needs
+slice-aggregate-read-words-2 : tie.Need-slice-aggregate-read-words-2
+slice-aggregate-read-words-2 c = search needs
 
-read-places-requires : tie.Need-read-places-requires
-read-places-requires c κs = let l = part-length (c .before .before .before .before .before .before .before .before .before .args .image .now) (c .before .before .before .before .before .before .before .before .before .args .name .now) (replicate 66 0) (c .before .before .before .lay-frame .last .1 .0) (c .before .before .before .lay-frame .ensures) in (c .before .before .before .before .before .before .before .before .before .pre .0, (omega arith, (omega arith, refl)))
+read-words-requires : tie.Need-read-words-requires
+read-words-requires c κs = (c .before .before .before .before .before .before .before .before .before .before .pre .0, c .before .before .before .before .before .before .before .before .before .before .pre .1, frame-part (c .before .before .before .before .before .before .before .before .before .before .args .name .now) (replicate 66 0) (c .before .before .before .lay-frame .last .1 .0) (c .before .before .before .lay-frame .ensures), refl)
 
 slice-aggregate-answer : tie.Need-slice-aggregate-answer
 slice-aggregate-answer c = search needs
@@ -44,7 +46,7 @@ same-length-2 : tie.Need-same-length-2
 same-length-2 c = search needs
 
 returns : tie.Need-returns
-returns c = let a = c .before .before .before .before .before .before .before .before .before .before .before .before .before .before .before .before .before .before .before .args in c .before .before .before .before .answer .ensures ∙ ap (λ (o : Reading). delivered (answered o 0) (a .phones .now) (a .numbers .now)) (plain-is (a .image .now) (a .name .now) (replicate 66 0) (c .before .before .before .before .before .before .before .before .before .before .before .before .before .lay-frame .last .1 .0) (c .before .before .before .before .before .before .before .before .before .before .before .before .before .lay-frame .ensures) _ _ (c .before .before .before .before .before .before .before .before .before .read-places .ensures))
+returns c = c .before .before .before .before .answer .ensures ∙ ap (λ (o : Reading). delivered (answered o 0) (c .before .before .before .before .before .before .before .before .before .before .before .before .before .before .before .before .before .before .before .before .args .phones .now) (c .before .before .before .before .before .before .before .before .before .before .before .before .before .before .before .before .before .before .before .before .args .numbers .now)) (c .before .before .before .before .before .before .before .before .before .read-words .ensures .says ∙ after-none (plainWords (entriesOf (c .before .before .before .before .before .before .before .before .before .before .before .before .before .before .before .before .before .before .before .before .args .image .now)) (c .before .before .before .before .before .before .before .before .before .before .before .before .before .before .before .before .before .before .before .before .args .name .now) (saysOf (c .before .before .before .before .before .before .before .before .before .before .before .before .before .before .before .before .before .before .before .before .args .list .now))))
 
 pub read-sound-spec : {M : Type 1} → statement M
 read-sound-spec =
@@ -54,9 +56,9 @@ read-sound-spec =
     lay-frame-requires
     add-end
     array-share-prefix-frame
-    slice-aggregate-read-places
-    slice-aggregate-read-places-2
-    read-places-requires
+    slice-aggregate-read-words
+    slice-aggregate-read-words-2
+    read-words-requires
     slice-aggregate-answer
     answer-requires
     same-length

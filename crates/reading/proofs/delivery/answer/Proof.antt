@@ -1,15 +1,13 @@
 -- `reading::delivery::answer` meets its contract: a case for each way in which reading ends.
 -- Assumes nothing.
 use Prim.Native.Nat.{_≤_}
-use mathlib.Core.Path.{refl, sym, ap, _∙_}
+use mathlib.Core.Path.{sym, ap, _∙_, subst}
 use native.Mathlib.Omega.{arith}
-use lib.ListN.{length, take}
-use lib.Seq.{length-take-le}
-use Rattle.rules.specs.Limits.{maxName}
-use Rattle.reading.specs.declared.Reached.{Reached}
-use Rattle.reading.specs.Speech.{answered, delivered}
-use Rattle.reading.specs.Places.{readingOf}
 use borrow.Author.Needs.{needs}
+use lib.Seq.{length-take-le}
+use Rattle.reading.specs.Places.{frameSize, partsReading, EndsBy}
+use Rattle.reading.specs.Speech.{answered, delivered}
+use Rattle.reading.specs.declared.Reached.{Reached}
 use Rattle.reading.proofs.delivery.answer.Statement.{statement}
 use Rattle.reading.proofs.delivery.answer.Tie as tie
 
@@ -17,10 +15,19 @@ enum-known-reached : tie.Need-enum-known-reached
 enum-known-reached c = search needs
 
 slice-aggregate-deliver : tie.Need-slice-aggregate-deliver
-slice-aggregate-deliver c = let f : c .before .before .reached .given .0 .0 ≤ maxName = c .before .before .before .before .before .before .before .before .pre .1 .few _ (c .before .before .reached .given .1) in sym (length-take-le (c .before .before .reached .given .0 .0) (c .before .before .before .before .before .before .before .before .args .places .now) (omega (arith, c .before .before .before .before .before .before .before .before .pre .1 .sized)))
+slice-aggregate-deliver c =
+    let st = c .before .before .before .before .before .before .before .before .before in
+    let k = c .before .before .reached .given in
+    let f : k .0 .0 ≤ frameSize = subst (EndsBy frameSize) (k .1) (st .pre .1 .few) in
+    sym (length-take-le (k .0 .0) (st .args .parts .now) (omega (arith, st .pre .1 .sized)))
 
 deliver-requires : tie.Need-deliver-requires
-deliver-requires c κs = let f : c .before .before .before .before .reached .given .0 .0 ≤ maxName = c .before .before .before .before .before .before .before .before .before .before .pre .1 .few _ (c .before .before .before .before .reached .given .1) in let l = length-take-le (c .before .before .before .before .reached .given .0 .0) (c .before .before .before .before .before .before .before .before .before .before .args .places .now) (omega (arith, c .before .before .before .before .before .before .before .before .before .before .pre .1 .sized)) in (c .before .before .before .before .before .before .before .before .before .before .pre .0, (omega arith, c .before .before .before .before .before .before .before .before .before .before .pre .1 .within _ (c .before .before .before .before .reached .given .1)))
+deliver-requires c κs =
+    let st = c .before .before .before .before .before .before .before .before .before .before .before in
+    let k = c .before .before .before .before .reached .given in
+    let f : k .0 .0 ≤ frameSize = subst (EndsBy frameSize) (k .1) (st .pre .1 .few) in
+    let l = length-take-le (k .0 .0) (st .args .parts .now) (omega (arith, st .pre .1 .sized)) in
+    (st .pre .0, (omega arith, st .pre .1 .within _ (k .1)))
 
 enum-known-reached-2 : tie.Need-enum-known-reached-2
 enum-known-reached-2 c = search needs
@@ -35,13 +42,19 @@ same-length-2 : tie.Need-same-length-2
 same-length-2 c = search needs
 
 returns : tie.Need-returns
-returns c = c .before .before .before .before .deliver .ensures ∙ ap (λ (r : Reached). delivered (answered (readingOf (c .before .before .before .before .before .before .before .before .before .before .before .before .before .before .before .args .image .now) (c .before .before .before .before .before .before .before .before .before .before .before .before .before .before .before .args .places .now) r) 0) (c .before .before .before .before .before .before .before .before .before .before .before .before .before .before .before .args .phones .now) (c .before .before .before .before .before .before .before .before .before .before .before .before .before .before .before .args .numbers .now)) (sym (c .before .before .before .before .before .before .before .before .before .reached .given .1))
+returns c =
+    let st = c .before .before .before .before .before .before .before .before .before .before .before .before .before .before .before .before in
+    c .before .before .before .before .deliver .ensures ∙ ap (λ (r : Reached). delivered (answered (partsReading (st .args .image .now) (st .args .list .now) (st .args .parts .now) r) 0) (st .args .phones .now) (st .args .numbers .now)) (sym (c .before .before .before .before .before .before .before .before .before .reached .given .1))
 
 returns-2 : tie.Need-returns-2
-returns-2 c = ap (λ (r : Reached). delivered (answered (readingOf (c .before .before .before .before .before .before .before .args .image .now) (c .before .before .before .before .before .before .before .args .places .now) r) 0) (c .before .before .before .before .before .before .before .args .phones .now) (c .before .before .before .before .before .before .before .args .numbers .now)) (sym (c .before .reached2 .given .1))
+returns-2 c =
+    let st = c .before .before .before .before .before .before .before .before in
+    ap (λ (r : Reached). delivered (answered (partsReading (st .args .image .now) (st .args .list .now) (st .args .parts .now) r) 0) (st .args .phones .now) (st .args .numbers .now)) (sym (c .before .reached2 .given .1))
 
 returns-3 : tie.Need-returns-3
-returns-3 c = ap (λ (r : Reached). delivered (answered (readingOf (c .before .before .before .before .before .before .args .image .now) (c .before .before .before .before .before .before .args .places .now) r) 0) (c .before .before .before .before .before .before .args .phones .now) (c .before .before .before .before .before .before .args .numbers .now)) (sym (c .enum-told .given .1))
+returns-3 c =
+    let st = c .before .before .before .before .before .before .before in
+    ap (λ (r : Reached). delivered (answered (partsReading (st .args .image .now) (st .args .list .now) (st .args .parts .now) r) 0) (st .args .phones .now) (st .args .numbers .now)) (sym (c .enum-told .given .1))
 
 pub answer-spec : {M : Type 1} → statement M
 answer-spec =
