@@ -7,8 +7,7 @@ use lib.ListN.{getD}
 use Rattle.rules.specs.Shape.{Entry}
 use Rattle.exceptions.specs.Judging.{noList}
 use Rattle.reading.specs.Fitting.{Str}
-use Rattle.reading.specs.Reading.{plain}
-use Rattle.reading.specs.Speech.{Outcome, speaks, declines, stepsOf, answered, judgedFor, phonesOf, numbersOf}
+use Rattle.reading.specs.Speech.{Outcome, speaks, declines, stepsOf, answered, judgedFor, phonesOf, numbersOf, plainWords}
 use Rattle.tables.specs.States.{states}
 use Rattle.tables.specs.Tables.{rightPattern}
 use Rattle.tables.specs.Words.{setSize, rightSets, Compiled, compiledFrom, rightOf, builtWords, builtSets}
@@ -61,7 +60,7 @@ resultOf (speaks xs steps) = phones (phonesOf xs) (numbersOf xs)
 resultOf (declines n p steps) = refused n p
 
 abbrev byRules : Str → Outcome
-byRules name = judgedFor noList name (answered (plain sixRules name) 0)
+byRules name = judgedFor noList name (λ m. answered (plainWords sixRules name m) 0)
 
 abbrev byTables : Str → Outcome
 byTables name = judgedFor noList name (walkThrough compiled sixRules name)
@@ -109,4 +108,23 @@ answers =
     ∷ counted 2 8 ([] ∷ (0x0e ∷ []) ∷ (0x0e ∷ 0x0b ∷ []) ∷ (0x0b ∷ []) ∷ (0 ∷ []) ∷ (0 ∷ 0x05 ∷ []) ∷ (0x05 ∷ []) ∷ (0x05 ∷ 0x05 ∷ []) ∷ [])
     ∷ state 7
     ∷ held (3 ∷ 20 ∷ 24 ∷ [])
+    ∷ []
+
+-- ---- names of several words (document 02, request 3), by the same six rules
+
+-- "ke knee", whose first e ends a word; "k  n", with a word of no letters; "e nab", whose a no rule covers; a separator alone
+abbrev pub severalWords : List Question
+severalWords =
+    spoken (0x0b ∷ 0x05 ∷ 0x3f ∷ 0x0b ∷ 0x0e ∷ 0x05 ∷ 0x05 ∷ [])
+    ∷ spoken (0x0b ∷ 0x3f ∷ 0x3f ∷ 0x0e ∷ [])
+    ∷ spoken (0x05 ∷ 0x3f ∷ 0x0e ∷ 0x01 ∷ 0x02 ∷ [])
+    ∷ spoken (0x3f ∷ [])
+    ∷ []
+
+abbrev pub severalAnswers : List Answer
+severalAnswers =
+    both (phones (0x6b ∷ 0x6e ∷ 0x69 ∷ []) (2 ∷ 3 ∷ 1 ∷ 6 ∷ 4 ∷ [])) 16
+    ∷ both (phones (0x6b ∷ 0x6e ∷ []) (2 ∷ 6 ∷ [])) 10
+    ∷ both (refused 3 4) 12
+    ∷ both (phones [] []) 4
     ∷ []
