@@ -10,7 +10,7 @@ use mathlib.Core.List.{List, [], _∷_}
 use mathlib.Core.Option.{Option, none, some}
 use lib.ListN.{length, getD, set}
 use Rattle.rules.proofs.Cases.{byBool}
-use Rattle.rules.specs.Limits.{maxName, maxTarget}
+use Rattle.rules.specs.Limits.{maxTarget}
 use Rattle.rules.specs.Shape.{Entry}
 use Rattle.image.specs.State.{noEntry}
 use Rattle.image.specs.Image.{entriesOf, valid, entryAt, countOf}
@@ -100,7 +100,7 @@ module _ (image ss : List ℕ) (base : ℕ) (left right f : List ℕ) where
   abbrev pub Gone : List ℕ → ℕ → ℕ → Type 0
   Gone places count i = Going choose (length f - 2) (applyAt image) (countOf image) places count i
 
-module _ (image ss : List ℕ) (base : ℕ) (left right f : List ℕ) (ok : valid image ≡ true) (few : length f - 2 ≤ maxName) where
+module _ (image ss : List ℕ) (base : ℕ) (left right f : List ℕ) (ok : valid image ≡ true) where
   abbrev made : ℕ → Choice
   made = choose image ss base left right f
 
@@ -111,20 +111,20 @@ module _ (image ss : List ℕ) (base : ℕ) (left right f : List ℕ) (ok : vali
   unfolding choiceBy
   ahead i a e = lookup-past-target (λ q. fits (q .rule) f i) (entriesOf image) (valid-targets image ok) (lowestShared ss (setSize * getD left i 0) (base + setSize * getD right i 0)) i a e
 
-  pub begin : (places : List ℕ) → length places ≡ maxName → Read places 0 1
+  pub begin : (places : List ℕ) → length f - 2 ≤ length places → Read places 0 1
   begin = going-begin made (length f - 2) ahead (applyAt image) (countOf image)
 
   module _ (places : List ℕ) (count i : ℕ) (g : Read places count i) where
     module _ (h : i ≤ length f - 2) where
       pub next : (p : ℕ) → made i ≡ chosen (applyAt image p) → p < countOf image → (l : ℕ) → l ≡ length (entryAt image p .rule .target) → 1 ≤ l → l ≤ maxTarget
           → Read (set places count p) (count + 1) (i + l)
-      next = going-next made (length f - 2) ahead (applyAt image) (countOf image) few places count i g h
+      next = going-next made (length f - 2) ahead (applyAt image) (countOf image) places count i g h
 
       -- no rule is chosen
       pub declines : (x : Chosen) → choiceOf image x ≡ made i → ((p : ℕ) → x ≡ Rule p → ⊥) → ReadBy image made (length f - 2) places (endingAt x i)
       declines (Rule p) e other = absurd (other p refl)
-      declines Nothing e other = read-none image made (length f - 2) ahead few places count i g h (sym e)
-      declines Unusable e other = read-unusable image made (length f - 2) ahead few places count i g h (sym e)
+      declines Nothing e other = read-none image made (length f - 2) ahead places count i g h (sym e)
+      declines Unusable e other = read-unusable image made (length f - 2) ahead places count i g h (sym e)
 
     pub done : length f - 2 < i → ReadBy image made (length f - 2) places (Rules count)
-    done = read-end image made (length f - 2) ahead few places count i g
+    done = read-end image made (length f - 2) ahead places count i g

@@ -17,7 +17,6 @@ use Rattle.tables.specs.Words.{rowSize}
 use Rattle.tables.specs.Walk.{Step as State, step, pass, from, allBelow}
 use Rattle.tables.proofs.Walk.{pass-append}
 use Rattle.walk.specs.Passes.{Stepped, rowsAt, leftOn, rightOn, Passed}
-use Rattle.walk.specs.Letters.{frameSize}
 use Rattle.walk.specs.declared.passes.Step.{Step}
 use Rattle.walk.specs.declared.passes.Pass.{Pass}
 
@@ -56,20 +55,20 @@ right-begin t k f = ap (λ (w : List ℕ). pass t (from k) (reverse w)) (drop-le
 
 -- ---- the loop: it stands at position i, and the states of the positions from lo to hi are remembered
 
-pub record Passing (at : ℕ → State) (count lo hi : ℕ) (states : List ℕ) (s : Step) (i : ℕ) : Type 0 where
+pub record Passing (at : ℕ → State) (count lo hi size : ℕ) (states : List ℕ) (s : Step) (i : ℕ) : Type 0 where
   pub here : s .state ≡ at i .state
   pub looked : s .steps ≡ at i .steps
   pub below : s .state < count
-  pub room : length states ≡ frameSize
+  pub room : length states ≡ size
   pub all : (k : ℕ) → lo ≤ k → k ≤ hi → getD states k 0 ≡ at k .state
   pub small : (k : ℕ) → lo ≤ k → k ≤ hi → getD states k 0 < count
 
 module _ (at : ℕ → State) (count : ℕ) where
   -- the next state is below the count, and is remembered at its position
-  pub go-on : {lo hi : ℕ} {states : List ℕ} {s : Step} {i : ℕ} → Passing at count lo hi states s i → (lo′ hi′ : ℕ) (r : Step) (j : ℕ) → r .state ≡ at j .state
-      → r .steps ≡ at j .steps → r .state < count → j < frameSize → ((k : ℕ) → lo′ ≤ k → k ≤ hi′ → k ≢ j → (lo ≤ k) × (k ≤ hi))
-      → Passing at count lo′ hi′ (set states j (r .state)) r j
-  go-on {lo} {hi} {states} {s} {i} p lo′ hi′ r j e g b l old =
+  pub go-on : {lo hi size : ℕ} {states : List ℕ} {s : Step} {i : ℕ} → Passing at count lo hi size states s i → (lo′ hi′ : ℕ) (r : Step) (j : ℕ) → r .state ≡ at j .state
+      → r .steps ≡ at j .steps → r .state < count → j < size → ((k : ℕ) → lo′ ≤ k → k ≤ hi′ → k ≢ j → (lo ≤ k) × (k ≤ hi))
+      → Passing at count lo′ hi′ size (set states j (r .state)) r j
+  go-on {lo} {hi} {size} {states} {s} {i} p lo′ hi′ r j e g b l old =
       record {
         here = e;
         looked = g;
@@ -111,7 +110,7 @@ module _ (at : ℕ → State) (count : ℕ) where
       never : r .usable ≡ true → ⊥
       never y = let z : _≡_ {A = ℕ} 0 1 = cc in omega arith
 
-  pub finished : {lo hi : ℕ} {states : List ℕ} {s : Step} {i : ℕ} (n last most : ℕ) → Passing at count lo hi states s i → lo ≤ 1 → n ≤ hi → i ≡ last → s .steps ≤ most
+  pub finished : {lo hi size : ℕ} {states : List ℕ} {s : Step} {i : ℕ} (n last most : ℕ) → Passing at count lo hi size states s i → lo ≤ 1 → n ≤ hi → i ≡ last → s .steps ≤ most
       → (r : Pass) → r .usable ≡ true → r .steps ≡ s .steps → Passed at count n last most states r
   finished n last most p l h q m r u g =
       record {
@@ -127,13 +126,13 @@ module _ (at : ℕ → State) (count : ℕ) where
 -- ---- the two passes
 
 module _ (words : List ℕ) (rows count : ℕ) (f : List ℕ) where
-  pub left-begin : (states : List ℕ) → length states ≡ frameSize → 0 < count → Passing (leftOn (rowsAt words rows count) f) count 1 0 states (record { state = 0; steps = 0 }) 0
-  left-begin states e h =
+  pub left-begin : (states : List ℕ) → 0 < count → Passing (leftOn (rowsAt words rows count) f) count 1 0 (length states) states (record { state = 0; steps = 0 }) 0
+  left-begin states h =
       record {
         here = refl;
         looked = refl;
         below = h;
-        room = e;
+        room = refl;
         all = λ k a b. absurd (omega arith);
         small = λ k a b. absurd (omega arith);
       }
@@ -149,14 +148,14 @@ module _ (words : List ℕ) (rows count : ℕ) (f : List ℕ) where
     left-steps = e .more ∙ add-one (s .steps) ∙ ap suc looked ∙ sym (ap (λ (x : State). x .steps) (left-next (rowsAt words rows count) f i h))
 
   module _ (k : ℕ) where
-    pub right-start : (states : List ℕ) → length states ≡ frameSize → 0 < count → 0 < length f
-        → Passing (rightOn (rowsAt words rows count) k f) count (length f) (length f - 1) states (record { state = 0; steps = k }) (length f)
-    right-start states e h l =
+    pub right-start : (states : List ℕ) → 0 < count → 0 < length f
+        → Passing (rightOn (rowsAt words rows count) k f) count (length f) (length f - 1) (length states) states (record { state = 0; steps = k }) (length f)
+    right-start states h l =
         record {
           here = sym (ap (λ (x : State). x .state) (right-begin (rowsAt words rows count) k f));
           looked = sym (ap (λ (x : State). x .steps) (right-begin (rowsAt words rows count) k f));
           below = h;
-          room = e;
+          room = refl;
           all = λ j a b. absurd (omega arith);
           small = λ j a b. absurd (omega arith);
         }

@@ -1,4 +1,4 @@
--- The parts of a walk put together: both passes, reading by the remembered states, and the answer with its steps.
+-- The parts of a walk put together: both passes of a word, reading by the remembered states of all words, and the answer with its steps.
 -- Assumes nothing.
 use Prim.Native.Nat.{ℕ, zero, suc, _+_, _-_, _*_, _≤_}
 use native.Mathlib.Omega.{arith}
@@ -7,31 +7,29 @@ use mathlib.Core.Bool.{Bool, true, false, cond, _&&_}
 use mathlib.Core.List.{List, [], _∷_, _++_, reverse}
 use lib.Dec.{ltb, leb}
 use lib.ListN.{length, getD, take, drop}
+use lib.Seq.{getD-drop}
 use borrow.Author.Tests.{ltb-false, ltb-true, leb-true, le-leb, lt-ltb}
 use Rattle.rules.proofs.Cases.{byBool, and-l, and-r}
-use Rattle.rules.specs.Limits.{maxNameByte}
 use Rattle.rules.specs.Names.{SoundName}
-use Rattle.rules.specs.Shape.{Entry, allFrom}
-use Rattle.rules.specs.Refusals.{refusalNumber, refusalPlace}
-use Rattle.rules.specs.declared.Refusal.{Refusal}
+use Rattle.exceptions.specs.Judging.{saysOf}
 use Rattle.image.specs.Image.{entriesOf}
 use Rattle.reading.specs.Fitting.{Str, frame, fits}
 use Rattle.reading.specs.Reading.{Choice, chosen, nothing, unusable, applied, Reading, cons, past, onward, readFrom}
+use Rattle.reading.specs.Words.{Word, wordsIn, readWords, unlisted, wordAt}
 use Rattle.reading.specs.Speech.{atOnce, stepsOf, answered, Said, delivered, saying, toldOf}
-use Rattle.reading.specs.Places.{readingOf, ReadBy}
-use Rattle.reading.specs.declared.Speech.the-variants.{Refused}
+use Rattle.reading.specs.Places.{frameSize, partsReading, Parted}
 use Rattle.reading.specs.declared.Reached.{Reached}
 use Rattle.reading.specs.declared.Reached.the-variants.{Rules, Uncovered, BadTables}
-use Rattle.reading.proofs.Strings.{frame-long}
+use Rattle.reading.proofs.Loop.{after-none}
 use Rattle.tables.specs.Tables.{Table}
 use Rattle.tables.specs.Words.{headWords, setSize, rightRows, rightSets, neededWords, neededSets, tableAt, Compiled, leftOf, rightOf}
-use Rattle.tables.specs.Walk.{Step as State, step, pass, from, allBelow, lookup, lowest, places, leftAt, rightAt, walkUsable, walkChoice, walkSteps, walk, lengthsFit, walkThrough, Walked, walkedAs}
+use Rattle.tables.specs.Walk.{Step as State, step, pass, from, allBelow, lookup, lowest, places, leftAt, rightAt, walkUsable, walkChoice, walkSteps, walk, lengthsFit, allWords, sumWords, usable, stepsIn, walkWord, allUsable, stepsOver, walkThrough, walkedAs}
 use Rattle.tables.proofs.Truth.{clash}
 use Rattle.tables.proofs.Sets.{choice-tables}
 use Rattle.tables.proofs.Theorem.{delivered-steps}
-use Rattle.walk.specs.Passes.{Symbols, rowsAt, leftOn, rightOn, Passed, leftRowsOf, rightRowsOf, Both}
-use Rattle.walk.specs.Letters.{lowestShared, choiceBy, choicesBy, frameSize, Bounded}
-use Rattle.walk.specs.Walked.{walkedOf, compiledWith, stepsWith, Fit}
+use Rattle.walk.specs.Passes.{rowsAt, leftOn, rightOn, Passed, leftRowsOf, rightRowsOf, Both, Memory, passable, stepsOn, AllPassed}
+use Rattle.walk.specs.Letters.{lowestShared, choiceBy, choicesBy, Held, Tells, NameRead}
+use Rattle.walk.specs.Walked.{walkedOf, compiledWith, stepsWith, Fit, FitsAs}
 use Rattle.walk.specs.declared.passes.Pass.{Pass}
 use Rattle.walk.specs.declared.WalkAnswer.{WalkAnswer}
 
@@ -68,17 +66,17 @@ module _ (ws : List ℕ) (l r : ℕ) (f : List ℕ) (n : ℕ) (left right : List
 
 -- ---- the answer
 
-steps-are : (image ps : List ℕ) (r : Reached) (steps : ℕ) → stepsWith r steps ≡ stepsOf (answered (readingOf image ps r) steps)
-steps-are image ps (Rules k) steps = refl
-steps-are image ps (Uncovered i) steps = refl
-steps-are image ps BadTables steps = refl
+steps-are : (image list ps : List ℕ) (r : Reached) (steps : ℕ) → stepsWith r steps ≡ stepsOf (answered (partsReading image list ps r) steps)
+steps-are image list ps (Rules k) steps = refl
+steps-are image list ps (Uncovered i) steps = refl
+steps-are image list ps BadTables steps = refl
 
-pub walked-answer : (image ps : List ℕ) (reached : Reached) (steps : ℕ) (phones numbers phones′ numbers′ : List ℕ) (a : WalkAnswer)
+pub walked-answer : (image list ps : List ℕ) (reached : Reached) (steps : ℕ) (phones numbers phones′ numbers′ : List ℕ) (a : WalkAnswer)
     → a .steps ≡ stepsWith reached steps
-    → saying (toldOf (a .speech)) phones′ numbers′ ≡ delivered (answered (readingOf image ps reached) 0) phones numbers
-    → walkedOf a phones′ numbers′ ≡ walkedAs (answered (readingOf image ps reached) steps) phones numbers
-walked-answer image ps reached steps phones numbers phones′ numbers′ a g h =
-    ap₂ (λ (s : Said) (k : ℕ). record { said = s; steps = k }) (h ∙ delivered-steps (readingOf image ps reached) 0 steps phones numbers) (g ∙ steps-are image ps reached steps)
+    → saying (toldOf (a .speech)) phones′ numbers′ ≡ delivered (answered (partsReading image list ps reached) 0) phones numbers
+    → walkedOf a phones′ numbers′ ≡ walkedAs (answered (partsReading image list ps reached) steps) phones numbers
+walked-answer image list ps reached steps phones numbers phones′ numbers′ a g h =
+    ap₂ (λ (s : Said) (k : ℕ). record { said = s; steps = k }) (h ∙ delivered-steps (partsReading image list ps reached) 0 steps phones numbers) (g ∙ steps-are image list ps reached steps)
 
 -- ---- readings with equal choices at the letters are equal
 
@@ -104,9 +102,9 @@ pass-same : (ws ss : List ℕ) (rows at count : ℕ) (s : State) (w : List ℕ) 
 pass-same ws ss rows at count s [] = refl
 pass-same ws ss rows at count s (c ∷ w) = pass-same ws ss rows at count (step (rowsAt ws rows count) s c) w
 
--- ---- the walk over a frame
+-- ---- a word through the rows, and through the tables
 
-module _ (image ws ss : List ℕ) (l r : ℕ) (f : List ℕ) (n : ℕ) (left right : List ℕ) (p : Pass) (b : Both ws l r f n left right p) where
+module _ (ws ss : List ℕ) (l r : ℕ) (f : List ℕ) (n : ℕ) where
   abbrev tl : Table
   tl = leftOf (compiledWith ws ss l r)
 
@@ -121,69 +119,91 @@ module _ (image ws ss : List ℕ) (l r : ℕ) (f : List ℕ) (n : ℕ) (left rig
       ap (λ (s : State). pass (rightRowsOf ws l r) (from (s .steps)) (reverse (drop i f))) (left-same (suc n))
       ∙ pass-same ws ss (rightRows l) (rightSets l) r (from (leftAt tl tr f n (suc n) .steps)) (reverse (drop i f))
 
-  usable-is : p .usable ≡ walkUsable tl tr f n
+  usable-same : walkUsable (leftRowsOf ws l) (rightRowsOf ws l r) f n ≡ walkUsable tl tr f n
+  usable-same =
+      ap₂ _&&_ (below-ext _ _ (suc n) (λ i. ap (λ (s : State). ltb (s .state) l) (left-same i))) (below-ext _ _ (suc n) (λ i. ap (λ (s : State). ltb (s .state) r) (right-same i)))
+
+  steps-same : walkSteps (leftRowsOf ws l) (rightRowsOf ws l r) f n ≡ walkSteps tl tr f n
+  steps-same = ap (λ (s : State). s .steps) (right-same 1)
+
+  -- the states at position i choose as the walk does
+  choice-is : (image left right : List ℕ) (i : ℕ) → getD left i 0 ≡ leftAt (leftRowsOf ws l) (rightRowsOf ws l r) f n i .state
+      → getD right i 0 ≡ rightAt (leftRowsOf ws l) (rightRowsOf ws l r) f n i .state
+      → choicesBy image ss (rightSets l) left right f i ≡ walkChoice tl tr f n (entriesOf image) i
+  unfolding choiceBy
+  choice-is image left right i a b =
+      let x : getD left i 0 ≡ leftAt tl tr f n i .state = a ∙ ap (λ (s : State). s .state) (left-same i) in
+      let y : getD right i 0 ≡ rightAt tl tr f n i .state = b ∙ ap (λ (s : State). s .state) (right-same i) in
+      let z : setSize * getD left i 0 ≡ 0 + setSize * getD left i 0 = omega arith in
+      ap (lookup (λ q. fits (q .rule) f i) (entriesOf image))
+      (ap (λ (k : ℕ). lowestShared ss k (rightSets l + setSize * getD right i 0)) z
+      ∙ (sym (choice-tables ws ws ss headWords 0 l (rightRows l) (rightSets l) r (getD left i 0) (getD right i 0))
+      ∙ ap₂ (λ (q t : ℕ). lowest (λ k. tl .holds q k && tr .holds t k) places) x y))
+
+-- ---- all words
+
+all-same : (t u : Str → Bool) → ((w : Str) → t w ≡ u w) → (vs : List Word) → allWords t vs ≡ allWords u vs
+all-same t u h [] = refl
+all-same t u h (v ∷ vs) = ap₂ _&&_ (h (v .letters)) (all-same t u h vs)
+
+sum-same : (f g : Str → ℕ) → ((w : Str) → f w ≡ g w) → (vs : List Word) → sumWords f vs ≡ sumWords g vs
+sum-same f g h [] = refl
+sum-same f g h (v ∷ vs) = ap₂ _+_ (h (v .letters)) (sum-same f g h vs)
+
+module _ (image ws ss : List ℕ) (l r : ℕ) (fit : Bool) (fits-as : FitsAs ws ss l r fit) (list : List ℕ) (name : Str) (sound : SoundName name) (m : Memory) (p : Pass)
+    (a : AllPassed ws l r fit list name m p) where
+  abbrev c : Compiled
+  c = compiledWith ws ss l r
+
+  abbrev unsaid : List Word
+  unsaid = unlisted (saysOf list) (wordsIn name)
+
+  usable-is : p .usable ≡ allUsable c unsaid
+  unfolding usable
   usable-is =
-      b .usable
-      ∙ ap₂ _&&_ (below-ext _ _ (suc n) (λ i. ap (λ (s : State). ltb (s .state) l) (left-same i))) (below-ext _ _ (suc n) (λ i. ap (λ (s : State). ltb (s .state) r) (right-same i)))
+      a .usable
+      ∙ all-same (passable ws l r fit) (usable c) (λ w. ap₂ _&&_ (fits-as .is) (usable-same ws ss l r (frame w) (length w))) unsaid
 
-  pub walk-unusable : p .usable ≡ false → atOnce 16 0 ≡ walk tl tr f n (entriesOf image)
-  unfolding walk
-  walk-unusable e =
-      sym (ap (λ (t : Bool). cond t (answered (readFrom (walkChoice tl tr f n (entriesOf image)) n n 1) (walkSteps tl tr f n)) (atOnce 16 0)) (sym usable-is ∙ e))
+  pub through-unusable : p .usable ≡ false → atOnce 16 0 ≡ walkThrough c (entriesOf image) name (saysOf list)
+  unfolding walkThrough
+  through-unusable e =
+      sym (ap (λ (t : Bool). cond t (answered (readWords (saysOf list) (walkWord c (entriesOf image)) (wordsIn name)) (stepsOver c unsaid)) (atOnce 16 0)) (sym usable-is ∙ e))
 
-  module _ (e : p .usable ≡ true) where
-    choice-is : (i : ℕ) → 1 ≤ i → i ≤ n → choicesBy image ss (rightSets l) left right f i ≡ walkChoice tl tr f n (entriesOf image) i
-    unfolding choiceBy
-    choice-is i low high =
-        let x : getD left i 0 ≡ leftAt tl tr f n i .state = b .lefts e i low (omega arith) ∙ ap (λ (s : State). s .state) (left-same i) in
-        let y : getD right i 0 ≡ rightAt tl tr f n i .state = b .rights e i low (omega arith) ∙ ap (λ (s : State). s .state) (right-same i) in
-        let z : setSize * getD left i 0 ≡ 0 + setSize * getD left i 0 = omega arith in
-        ap (lookup (λ q. fits (q .rule) f i) (entriesOf image))
-        (ap (λ (k : ℕ). lowestShared ss k (rightSets l + setSize * getD right i 0)) z
-        ∙ (sym (choice-tables ws ws ss headWords 0 l (rightRows l) (rightSets l) r (getD left i 0) (getD right i 0))
-        ∙ ap₂ (λ (q t : ℕ). lowest (λ k. tl .holds q k && tr .holds t k) places) x y))
+  module _ (e : p .usable ≡ true) (base : ℕ) (based : fit ≡ true → base ≡ rightSets l) where
+    -- the memory after the passes tells of the list and the walk
+    tells : Tells image ss base name (m .found) (m .left) (m .right) list (walkWord c (entriesOf image))
+    unfolding walkWord walk
+    tells = record {
+      parts = λ b h s. a .known e b h s .part;
+      reads = λ b h s z.
+          let k = a .known e b h s .states z in
+          let w = wordAt name b in
+          ap (λ (x : ℕ). readFrom (choicesBy image ss x (drop b (m .left)) (drop b (m .right)) (frame w)) (length w) (length w) 1) (based (a .known e b h s .fits z))
+          ∙ read-ext _ _ (length w)
+          (λ i low high.
+          choice-is ws ss l r (frame w) (length w) image (drop b (m .left)) (drop b (m .right)) i (getD-drop b (m .left) i 0 ∙ k .lefts i low high) (getD-drop b (m .right) i 0 ∙ k .rights i low high))
+          (length w) 1 (omega arith);
+    }
 
-    pub walk-read : (ps : List ℕ) (m : Reached) → ReadBy image (choicesBy image ss (rightSets l) left right f) n ps m
-        → answered (readingOf image ps m) (p .steps) ≡ walk tl tr f n (entriesOf image)
-    unfolding walk
-    walk-read ps m c =
-        ap₂ answered (c .says ∙ read-ext _ _ n choice-is n 1 (omega arith)) (b .looked e ∙ ap (λ (s : State). s .steps) (right-same 1))
-        ∙ sym (ap (λ (t : Bool). cond t (answered (readFrom (walkChoice tl tr f n (entriesOf image)) n n 1) (walkSteps tl tr f n)) (atOnce 16 0)) (sym usable-is ∙ e))
+    pub through-read : (ps : List ℕ) (x : Reached) → NameRead image ss base name (m .found) (m .left) (m .right) ps x
+        → answered (partsReading image list ps x) (p .steps) ≡ walkThrough c (entriesOf image) name (saysOf list)
+    unfolding walkThrough stepsIn
+    through-read ps x n =
+        ap₂ answered (n list (walkWord c (entriesOf image)) tells .says ∙ after-none (readWords (saysOf list) (walkWord c (entriesOf image)) (wordsIn name)))
+        (a .steps e ∙ sum-same (stepsOn ws l r) (stepsIn c) (λ w. steps-same ws ss l r (frame w) (length w)) unsaid)
+        ∙ sym (ap (λ (t : Bool). cond t (answered (readWords (saysOf list) (walkWord c (entriesOf image)) (wordsIn name)) (stepsOver c unsaid)) (atOnce 16 0)) (sym usable-is ∙ e))
 
-    pub states-bounded : length left ≡ frameSize → length right ≡ frameSize → (size : ℕ) → neededSets l r ≤ size → Bounded size (rightSets l) n left right
-    states-bounded x y size h =
-        record {
-          left-room = x;
-          right-room = y;
-          lefts = λ k lo hi. let q = b .left-small e k lo (omega arith) in omega arith;
-          rights = λ k lo hi. let q = b .right-small e k lo (omega arith) in omega arith;
-        }
+    pub parts-read : (ps : List ℕ) (x : Reached) → NameRead image ss base name (m .found) (m .left) (m .right) ps x → Parted image list frameSize ps x
+    parts-read ps x n = n list (walkWord c (entriesOf image)) tells .parted
 
--- ---- the walk of a sound name
-
--- a frame's letters are those of its name
-pub walk-name : (tl tr : Table) (name : Str) (rules : List Entry) → walk tl tr (frame name) (length (frame name) - 2) rules ≡ walk tl tr (frame name) (length name) rules
-walk-name tl tr name rules =
-    let e : length (frame name) - 2 ≡ length name = omega (arith, frame-long name) in
-    ap (λ (n : ℕ). walk tl tr (frame name) n rules) e
-
-symbols-end : (name : Str) → Symbols name → Symbols (name ++ (0 ∷ []))
-symbols-end [] h zero l = omega arith
-symbols-end [] h (suc k) l = absurd (omega arith)
-symbols-end (x ∷ name) h zero l = h zero (omega arith)
-symbols-end (x ∷ name) h (suc k) l = symbols-end name (λ j m. h (suc j) (omega arith)) k (omega arith)
-
-pub frame-symbols : (name : Str) → Symbols name → Symbols (frame name)
-frame-symbols name h zero l = omega arith
-frame-symbols name h (suc k) l = symbols-end name h k (omega arith)
-
-bytes-symbols : (w : Str) → allFrom maxNameByte w ≡ true → Symbols w
-bytes-symbols [] e k l = absurd (omega arith)
-bytes-symbols (c ∷ w) e zero l = omega (arith, leb-true c maxNameByte (and-l (leb c maxNameByte) _ (and-r (leb 1 c) _ e)))
-bytes-symbols (c ∷ w) e (suc k) l = bytes-symbols w (and-r (leb c maxNameByte) _ (and-r (leb 1 c) _ e)) k (omega arith)
-
-pub sound-symbols : (name : Str) → SoundName name → Symbols name
-sound-symbols name s = bytes-symbols name (s .bytes)
+    pub states-held : Held (length ss) base name (m .found) (m .left) (m .right)
+    states-held b h s z k low high =
+        let q = a .known e b h s in
+        let f = fits-as .facts (q .fits z) .sets-room in
+        let d = based (q .fits z) in
+        let x = q .states z .left-small k low high in
+        let y = q .states z .right-small k low high in
+        (omega arith, omega arith)
 
 -- ---- the lengths
 
@@ -206,16 +226,3 @@ module _ (ws ss : List ℕ) (l r : ℕ) where
   pub fits-so : Fit (length ws) (length ss) l r → true ≡ lengthsFit (compiledWith ws ss l r)
   fits-so f =
       rw (le-leb headWords (length ws) (omega (arith, f .rows)), lt-ltb 0 l (f .left), lt-ltb 0 r (f .right), le-leb (neededWords l r) (length ws) (f .rows), le-leb (neededSets l r) (length ss) (f .sets-room))
-
--- ---- the walk of a sound name, case by case
-
-module _ (c : Compiled) (image : List ℕ) (name : Str) (phones numbers : List ℕ) where
-  pub through-lengths : (x : Refusal) → refusalNumber x ≡ 16 → refusalPlace x ≡ 0 → lengthsFit c ≡ false → (a : WalkAnswer)
-      → a ≡ record { steps = 0; speech = Refused x } → walkedOf a phones numbers ≡ walkedAs (walkThrough c (entriesOf image) name) phones numbers
-  unfolding walkThrough
-  through-lengths x n p f a e = rw (e, f, n, p)
-
-  pub through-walk : lengthsFit c ≡ true → (y : Walked)
-      → y ≡ walkedAs (walk (leftOf c) (rightOf c) (frame name) (length name) (entriesOf image)) phones numbers → y ≡ walkedAs (walkThrough c (entriesOf image) name) phones numbers
-  unfolding walkThrough
-  through-walk f y g = rw f g

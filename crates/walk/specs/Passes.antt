@@ -2,13 +2,17 @@
 -- Assumes nothing.
 use Prim.Native.Nat.{ℕ, suc, _+_, _*_, _≤_, _<_}
 use mathlib.Core.Path.{_≡_}
-use mathlib.Core.Bool.{true}
+use mathlib.Core.Bool.{Bool, true, _&&_}
 use mathlib.Core.List.{List, [], reverse}
 use lib.Dec.{ltb}
 use lib.ListN.{length, getD, take, drop}
+use Rattle.exceptions.specs.Judging.{saysOf}
+use Rattle.reading.specs.Fitting.{Str, frame}
+use Rattle.reading.specs.Words.{wordsIn, unlisted, wordAt, Starts}
+use Rattle.reading.specs.Places.{frameSize, FoundFor}
 use Rattle.tables.specs.Tables.{Table}
-use Rattle.tables.specs.Words.{headWords, rowSize, rightRows, tableAt}
-use Rattle.tables.specs.Walk.{Step as State, from, pass, allBelow, leftAt, rightAt, walkUsable}
+use Rattle.tables.specs.Words.{headWords, rowSize, rightRows, neededWords, tableAt}
+use Rattle.tables.specs.Walk.{Step as State, from, pass, allBelow, leftAt, rightAt, walkUsable, walkSteps, allWords, sumWords}
 use Rattle.walk.specs.declared.passes.Step.{Step}
 use Rattle.walk.specs.declared.passes.Pass.{Pass}
 
@@ -56,3 +60,70 @@ pub record Both (ws : List ℕ) (l r : ℕ) (f : List ℕ) (n : ℕ) (left right
   pub left-small : p .usable ≡ true → (k : ℕ) → 1 ≤ k → k ≤ suc n → getD left k 0 < l
   pub right-small : p .usable ≡ true → (k : ℕ) → 1 ≤ k → k ≤ suc n → getD right k 0 < r
   pub looked : p .usable ≡ true → p .steps ≡ rightAt (leftRowsOf ws l) (rightRowsOf ws l r) f n 1 .steps
+
+-- ---- the words of a name
+
+-- 16's tests of the words: rows for l and r states, of which there are some
+pub record Rows (words l r : ℕ) : Type 0 where
+  pub left : 0 < l
+  pub right : 0 < r
+  pub room : neededWords l r ≤ words
+
+-- lent memory: for each position the part that the list gives for the word that starts there, and the states of both passes
+pub record Memory : Type 0 where
+  pub found : List ℕ
+  pub left : List ℕ
+  pub right : List ℕ
+
+abbrev pub memory : List ℕ → List ℕ → List ℕ → Memory
+memory found left right = record { found = found; left = left; right = right }
+
+-- a place for each position of the longest frame
+pub record Sized (m : Memory) : Type 0 where
+  pub found : length (m .found) ≡ frameSize
+  pub left : length (m .left) ≡ frameSize
+  pub right : length (m .right) ≡ frameSize
+
+-- whether the passes of a word lead to no state out of range, where the lengths fit; and their steps
+abbrev pub passable : List ℕ → ℕ → ℕ → Bool → Str → Bool
+passable ws l r fit w = fit && walkUsable (leftRowsOf ws l) (rightRowsOf ws l r) (frame w) (length w)
+
+abbrev pub stepsOn : List ℕ → ℕ → ℕ → Str → ℕ
+stepsOn ws l r w = walkSteps (leftRowsOf ws l) (rightRowsOf ws l r) (frame w) (length w)
+
+-- at letter k of the word w, which follows b bytes, stand the states of its passes
+pub record Remembered (ws : List ℕ) (l r : ℕ) (w : Str) (b : ℕ) (m : Memory) : Type 0 where
+  pub lefts : (k : ℕ) → 1 ≤ k → k ≤ length w → getD (m .left) (b + k) 0 ≡ leftAt (leftRowsOf ws l) (rightRowsOf ws l r) (frame w) (length w) k .state
+  pub rights : (k : ℕ) → 1 ≤ k → k ≤ length w → getD (m .right) (b + k) 0 ≡ rightAt (leftRowsOf ws l) (rightRowsOf ws l r) (frame w) (length w) k .state
+  pub left-small : (k : ℕ) → 1 ≤ k → k ≤ length w → getD (m .left) (b + k) 0 < l
+  pub right-small : (k : ℕ) → 1 ≤ k → k ≤ length w → getD (m .right) (b + k) 0 < r
+
+-- nothing before position b was written
+pub record KeptTo (b : ℕ) (m m′ : Memory) : Type 0 where
+  pub found : (j : ℕ) → j < b → getD (m′ .found) j 0 ≡ getD (m .found) j 0
+  pub left : (j : ℕ) → j < b → getD (m′ .left) j 0 ≡ getD (m .left) j 0
+  pub right : (j : ℕ) → j < b → getD (m′ .right) j 0 ≡ getD (m .right) j 0
+
+-- what the passes of the word after b bytes give
+pub record WordPassed (ws : List ℕ) (l r : ℕ) (fit : Bool) (list : List ℕ) (w : Str) (b : ℕ) (m m′ : Memory) (p : Pass) : Type 0 where
+  pub sized : Sized m′
+  pub kept : KeptTo b m m′
+  pub part : FoundFor list w (getD (m′ .found) b 0)
+  -- a listed word has none
+  pub listed : 0 < getD (m′ .found) b 0 → (p .usable ≡ true) × (p .steps ≡ 0)
+  pub usable : getD (m′ .found) b 0 ≡ 0 → p .usable ≡ passable ws l r fit w
+  pub steps : getD (m′ .found) b 0 ≡ 0 → p .usable ≡ true → p .steps ≡ stepsOn ws l r w
+  pub states : getD (m′ .found) b 0 ≡ 0 → p .usable ≡ true → Remembered ws l r w b m′
+
+-- what is known of the word w after b bytes when all passes are done: its part, or that the lengths fit, and its states
+pub record Known (ws : List ℕ) (l r : ℕ) (fit : Bool) (list : List ℕ) (w : Str) (b : ℕ) (m : Memory) : Type 0 where
+  pub part : FoundFor list w (getD (m .found) b 0)
+  pub fits : getD (m .found) b 0 ≡ 0 → fit ≡ true
+  pub states : getD (m .found) b 0 ≡ 0 → Remembered ws l r w b m
+
+-- what the passes of all words give
+pub record AllPassed (ws : List ℕ) (l r : ℕ) (fit : Bool) (list : List ℕ) (name : Str) (m : Memory) (p : Pass) : Type 0 where
+  pub sized : Sized m
+  pub usable : p .usable ≡ allWords (passable ws l r fit) (unlisted (saysOf list) (wordsIn name))
+  pub steps : p .usable ≡ true → p .steps ≡ sumWords (stepsOn ws l r) (unlisted (saysOf list) (wordsIn name))
+  pub known : p .usable ≡ true → (b : ℕ) → b ≤ length name → Starts name b → Known ws l r fit list (wordAt name b) b m

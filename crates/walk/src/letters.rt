@@ -4,11 +4,12 @@ ghost use mathlib.Core.Path.{_≡_};
 ghost use mathlib.Core.Bool.{true};
 ghost use Prim.Native.Nat.{_+_, _-_, _*_, _<_, _≤_};
 ghost use lib.ListN.{length};
-ghost use Rattle.rules.specs.Limits.{maxName};
+ghost use Rattle.rules.specs.Names.{SoundName};
 ghost use Rattle.image.specs.Image.{countOf, valid};
-ghost use Rattle.reading.specs.Places.{ReadBy};
+ghost use Rattle.reading.specs.Words.{frameOf};
+ghost use Rattle.reading.specs.Places.{frameSize, ReadBy};
 ghost use Rattle.tables.specs.Words.{setSize};
-ghost use Rattle.walk.specs.Letters.{foundOf, lowestShared, choiceBy, Chooses, endingAt, choicesBy, frameSize, Bounded};
+ghost use Rattle.walk.specs.Letters.{foundOf, lowestShared, choiceBy, Chooses, endingAt, choicesBy, Bounded, suffix, between, WordRead, Held, NameRead};
 
 // The lowest place that two sets share.
 pub enum Found {
@@ -87,7 +88,7 @@ pub fn read_letters(
     right: &[u16],
     places: &mut [u16],
 ) -> Reached
-    requires { ⌜ (valid (now image) ≡ true) × (2 ≤ length (now frame)) × (length (now frame) ≤ frameSize) × Bounded (length (now sets)) «right_sets» (length (now frame) - 2) (now left) (now right) × (length (now places) ≡ maxName) ⌝ }
+    requires { ⌜ (valid (now image) ≡ true) × (2 ≤ length (now frame)) × (length (now frame) ≤ frameSize) × Bounded (length (now sets)) «right_sets» (length (now frame) - 2) (now left) (now right) × (length (now frame) - 2 ≤ length (now places)) ⌝ }
     ensures { λ r. ⌜ ReadBy (now (image .entry)) (choicesBy (now (image .entry)) (now (sets .entry)) «right_sets» (now (left .entry)) (now (right .entry)) (now (frame .entry))) (length (now (frame .entry)) - 2) (now (places .exit)) r ⌝ }
 {
     let rules = image::rule_count(image);
@@ -104,6 +105,81 @@ pub fn read_letters(
         places[count] = place as u16;
         count += 1;
         i += reading::target_len_at(image, place);
+    }
+    Reached::Rules(count)
+}
+
+// One word more, after `count` parts: the part that the list gives for it, or the rules chosen for its letters.
+fn read_word(
+    sets: &[u64],
+    right_sets: usize,
+    image: &[u8],
+    frame: &[u8],
+    part: u16,
+    from: usize,
+    end: usize,
+    left: &[u16],
+    right: &[u16],
+    parts: &mut [u16],
+    count: usize,
+) -> Reached
+    requires { ⌜ (valid (now image) ≡ true) × (from < end) × (end + 1 ≤ length (now frame)) × (length (now frame) ≤ frameSize) × (part ≡ 0 → Bounded (length (now sets)) «right_sets» (length (between from (end + 1) (now frame)) - 2) (suffix from (now left)) (suffix from (now right))) × (length (now left) ≡ frameSize) × (length (now right) ≡ frameSize) × (length (now parts) ≡ frameSize) × (count ≤ from) ⌝ }
+    ensures { λ r. ⌜ WordRead (now (image .entry)) (choicesBy (now (image .entry)) (now (sets .entry)) «right_sets» (suffix from (now (left .entry))) (suffix from (now (right .entry))) (between from (end + 1) (now (frame .entry)))) (length (between from (end + 1) (now (frame .entry))) - 2) count from part (now (parts .entry)) (now (parts .exit)) r ⌝ }
+{
+    if part != 0 {
+        parts[count] = part;
+        return Reached::Rules(count + 1);
+    }
+    let read = read_letters(
+        sets,
+        right_sets,
+        image,
+        &frame[from..end + 1],
+        &left[from..],
+        &right[from..],
+        &mut parts[count..],
+    );
+    reading::words::in_name(read, count, from)
+}
+
+// The words of a name in turn.
+pub fn read_words(
+    sets: &[u64],
+    right_sets: usize,
+    image: &[u8],
+    name: &[u8],
+    frame: &[u8],
+    found: &[u16],
+    left: &[u16],
+    right: &[u16],
+    parts: &mut [u16],
+) -> Reached
+    requires { ⌜ (valid (now image) ≡ true) × SoundName (now name) × (now frame ≡ frameOf (now name)) × (length (now found) ≡ frameSize) × (length (now left) ≡ frameSize) × (length (now right) ≡ frameSize) × Held (length (now sets)) «right_sets» (now name) (now found) (now left) (now right) × (length (now parts) ≡ frameSize) ⌝ }
+    ensures sized { λ r. ⌜ length (now (parts .exit)) ≡ frameSize ⌝ }
+    ensures read { λ r. ⌜ NameRead (now (image .entry)) (now (sets .entry)) «right_sets» (now (name .entry)) (now (found .entry)) (now (left .entry)) (now (right .entry)) (now (parts .exit)) r ⌝ }
+{
+    let mut count = 0;
+    let mut from = 0;
+    while from <= name.len() {
+        let end = reading::words::word_end(name, from);
+        let read = read_word(
+            sets,
+            right_sets,
+            image,
+            frame,
+            found[from],
+            from,
+            end,
+            left,
+            right,
+            &mut *parts,
+            count,
+        );
+        let Reached::Rules(k) = read else {
+            return read;
+        };
+        count = k;
+        from = end;
     }
     Reached::Rules(count)
 }

@@ -8,17 +8,14 @@ use reading::Speech;
 use rules::Refusal;
 ghost use mathlib.Core.Path.{_≡_};
 ghost use mathlib.Core.Bool.{true, false};
-ghost use Prim.Native.Nat.{_+_, _-_, _≤_};
-ghost use lib.ListN.{length};
-ghost use Rattle.rules.specs.Limits.{maxName};
-ghost use Rattle.rules.specs.Names.{SoundName};
+ghost use Rattle.exceptions.specs.Judging.{saysOf};
 ghost use Rattle.image.specs.Image.{valid, entriesOf};
-ghost use Rattle.reading.specs.Fitting.{frame as framed};
-ghost use Rattle.tables.specs.Words.{leftOf, rightOf};
-ghost use Rattle.tables.specs.Walk.{walk as walkBy, lengthsFit, walkThrough, walkedAs};
-ghost use Rattle.walk.specs.Passes.{Symbols};
-ghost use Rattle.walk.specs.Letters.{frameSize};
-ghost use Rattle.walk.specs.Walked.{walkedOf, compiledWith, stepsWith, Fit};
+ghost use Rattle.reading.specs.Words.{frameOf};
+ghost use Rattle.reading.specs.Places.{Unsaid};
+ghost use Prim.Native.Nat.{_<_};
+ghost use Rattle.tables.specs.Words.{rightSets};
+ghost use Rattle.tables.specs.Walk.{lengthsFit, walkThrough, walkedAs};
+ghost use Rattle.walk.specs.Walked.{walkedOf, compiledWith, stepsWith, FitsAs};
 
 // The answer of a walk: the entries looked up, and what was said.
 pub struct WalkAnswer {
@@ -45,71 +42,113 @@ fn steps_with(reached: Reached, steps: usize) -> usize
     }
 }
 
-// The walk over a frame.
+// The set word with which the right sets begin; where the lengths do not fit, no set is looked at.
+fn right_base(fit: bool, left_states: usize) -> usize
+    requires { ⌜ (fit ≡ true → rightSets «left_states» < 18446744073709551616) ⌝ }
+    ensures { λ r. ⌜ (fit ≡ true → r ≡ rightSets «left_states») ⌝ }
+{
+    if !fit {
+        return 0;
+    }
+    tables::SET * left_states
+}
+
+// The walk over the frame of a name that is not on the list: all passes first, then each reached letter.
 fn walk_frame<'a>(
     words: &'a [u16],
     sets: &'a [u64],
     left_states: usize,
     right_states: usize,
+    fit: bool,
     image: &[u8],
+    list: &[u32],
+    name: &[u8],
     frame: &[u8],
     phones: &mut [u8],
     numbers: &mut [u16],
 ) -> WalkAnswer
-    requires { ⌜ Fit (length (now words)) (length (now sets)) «left_states» «right_states» × (valid (now image) ≡ true) × (2 ≤ length (now frame)) × (length (now frame) ≤ frameSize) × Symbols (now frame) ⌝ }
-    ensures { λ r. ⌜ walkedOf r (now (phones .exit)) (now (numbers .exit)) ≡ walkedAs (walkBy (leftOf (compiledWith (now (words .entry)) (now (sets .entry)) «left_states» «right_states»)) (rightOf (compiledWith (now (words .entry)) (now (sets .entry)) «left_states» «right_states»)) (now (frame .entry)) (length (now (frame .entry)) - 2) (entriesOf (now (image .entry)))) (now (phones .entry)) (now (numbers .entry)) ⌝ }
+    requires { ⌜ FitsAs (now words) (now sets) «left_states» «right_states» fit × (valid (now image) ≡ true) × Unsaid (now list) (now name) × (now frame ≡ frameOf (now name)) ⌝ }
+    ensures { λ r. ⌜ walkedOf r (now (phones .exit)) (now (numbers .exit)) ≡ walkedAs (walkThrough (compiledWith (now (words .entry)) (now (sets .entry)) «left_states» «right_states») (entriesOf (now (image .entry))) (now (name .entry)) (saysOf (now (list .entry)))) (now (phones .entry)) (now (numbers .entry)) ⌝ }
 {
+    let mut found = [0u16; reading::MAX_FRAME];
     let mut left = [0u16; reading::MAX_FRAME];
     let mut right = [0u16; reading::MAX_FRAME];
-    let passes = passes::run_passes(
+    let passes = passes::run_words(
         words,
         left_states,
         right_states,
+        fit,
+        list,
+        name,
         frame,
+        &mut found,
         &mut left,
         &mut right,
     );
     if !passes.usable {
         return at_once(Refusal::BadTables(0));
     }
-    let mut places = [0u16; rules::MAX_NAME];
-    let reached = letters::read_letters(
+    let mut parts = [0u16; reading::MAX_FRAME];
+    let reached = letters::read_words(
         sets,
-        tables::SET * left_states,
+        right_base(fit, left_states),
         image,
+        name,
         frame,
+        &found,
         &left,
         &right,
-        &mut places,
+        &mut parts,
     );
     let steps = steps_with(reached, passes.steps);
-    let speech = reading::delivery::answer(image, reached, &places, phones, numbers);
-    WalkAnswer { steps, speech }
+    let speech = reading::delivery::answer(image, list, reached, &parts, phones, numbers);
+    // Made anew from its numbers: copied whole, with its unused bytes, it took 5 ns more a name.
+    match speech {
+        Speech::Spoken {
+            phones: p,
+            numbers: n,
+        } => WalkAnswer {
+            steps,
+            speech: Speech::Spoken {
+                phones: p,
+                numbers: n,
+            },
+        },
+        Speech::Refused(x) => WalkAnswer {
+            steps,
+            speech: Speech::Refused(x),
+        },
+    }
 }
 
-// The walk of a sound name through tables whose lengths fit.
+// The walk of a sound name that is not on the list.
 fn walk_sound<'a>(
     words: &'a [u16],
     sets: &'a [u64],
     left_states: usize,
     right_states: usize,
+    fit: bool,
     image: &[u8],
+    list: &[u32],
     name: &[u8],
     phones: &mut [u8],
     numbers: &mut [u16],
 ) -> WalkAnswer
-    requires { ⌜ Fit (length (now words)) (length (now sets)) «left_states» «right_states» × (valid (now image) ≡ true) × (length (now name) ≤ maxName) × Symbols (now name) ⌝ }
-    ensures { λ r. ⌜ walkedOf r (now (phones .exit)) (now (numbers .exit)) ≡ walkedAs (walkBy (leftOf (compiledWith (now (words .entry)) (now (sets .entry)) «left_states» «right_states»)) (rightOf (compiledWith (now (words .entry)) (now (sets .entry)) «left_states» «right_states»)) (framed (now (name .entry))) (length (now (name .entry))) (entriesOf (now (image .entry)))) (now (phones .entry)) (now (numbers .entry)) ⌝ }
+    requires { ⌜ FitsAs (now words) (now sets) «left_states» «right_states» fit × (valid (now image) ≡ true) × Unsaid (now list) (now name) ⌝ }
+    ensures { λ r. ⌜ walkedOf r (now (phones .exit)) (now (numbers .exit)) ≡ walkedAs (walkThrough (compiledWith (now (words .entry)) (now (sets .entry)) «left_states» «right_states») (entriesOf (now (image .entry))) (now (name .entry)) (saysOf (now (list .entry)))) (now (phones .entry)) (now (numbers .entry)) ⌝ }
 {
     let mut frame = [0u8; reading::MAX_FRAME];
-    reading::lay_frame(name, &mut frame);
+    reading::words::lay_frame(name, &mut frame);
     let end = name.len() + 2;
     walk_frame(
         words,
         sets,
         left_states,
         right_states,
+        fit,
         image,
+        list,
+        name,
         &frame[..end],
         phones,
         numbers,
@@ -151,30 +190,31 @@ fn lengths_fit<'a>(
     true
 }
 
-// The walk of a sound name through lent tables with their state counts, for a caller that knows the image valid; nothing in it grows with
-// the number of rules.
+// The walk of a sound name, which is not on the list, through lent tables with their state counts, for a caller that knows the image valid and
+// the list one, or lends too few words for any; nothing in it grows with the number of rules.
 pub fn walk_tables<'a>(
     words: &'a [u16],
     sets: &'a [u64],
     left_states: usize,
     right_states: usize,
     image: &[u8],
+    list: &[u32],
     name: &[u8],
     phones: &mut [u8],
     numbers: &mut [u16],
 ) -> WalkAnswer
-    requires { ⌜ (valid (now image) ≡ true) × SoundName (now name) ⌝ }
-    ensures { λ r. ⌜ walkedOf r (now (phones .exit)) (now (numbers .exit)) ≡ walkedAs (walkThrough (compiledWith (now (words .entry)) (now (sets .entry)) «left_states» «right_states») (entriesOf (now (image .entry))) (now (name .entry))) (now (phones .entry)) (now (numbers .entry)) ⌝ }
+    requires { ⌜ (valid (now image) ≡ true) × Unsaid (now list) (now name) ⌝ }
+    ensures { λ r. ⌜ walkedOf r (now (phones .exit)) (now (numbers .exit)) ≡ walkedAs (walkThrough (compiledWith (now (words .entry)) (now (sets .entry)) «left_states» «right_states») (entriesOf (now (image .entry))) (now (name .entry)) (saysOf (now (list .entry)))) (now (phones .entry)) (now (numbers .entry)) ⌝ }
 {
-    if !lengths_fit(words, sets, left_states, right_states) {
-        return at_once(Refusal::BadTables(0));
-    }
+    let fit = lengths_fit(words, sets, left_states, right_states);
     walk_sound(
         words,
         sets,
         left_states,
         right_states,
+        fit,
         image,
+        list,
         name,
         phones,
         numbers,

@@ -1,11 +1,12 @@
-// The two passes of a walk: over the frame, through the entries of each table, with a count of the entries looked up.
+// The two passes of each word that is not listed: over its frame, through the entries of each table, with a count of the entries looked up.
 ghost use mathlib.Core.Path.{_≡_};
 ghost use mathlib.Core.Bool.{true, false};
 ghost use Prim.Native.Nat.{_+_, _-_, _*_, _<_, _≤_};
 ghost use lib.ListN.{length};
+ghost use Rattle.reading.specs.Words.{frameOf, wordAt, WordOf};
+ghost use Rattle.reading.specs.Places.{Unsaid, frameSize};
 ghost use Rattle.tables.specs.Words.{rowSize, neededWords};
-ghost use Rattle.walk.specs.Passes.{Stepped, Symbols, rowsAt, leftOn, rightOn, Passed, Both};
-ghost use Rattle.walk.specs.Letters.{frameSize};
+ghost use Rattle.walk.specs.Passes.{Stepped, Symbols, rowsAt, leftOn, rightOn, Passed, Both, Rows, memory, Sized, WordPassed, AllPassed};
 
 // A state, and how many entries have been looked up.
 pub struct Step {
@@ -34,7 +35,7 @@ pub struct Pass {
 
 // The left pass reads all positions but the last; at i stands the state after position i - 1.
 fn left_pass(words: &[u16], rows: usize, count: usize, frame: &[u8], states: &mut [u16]) -> Pass
-    requires { ⌜ (rows + rowSize * count ≤ length (now words)) × (0 < count) × (2 ≤ length (now frame)) × (length (now frame) ≤ frameSize) × Symbols (now frame) × (length (now states) ≡ frameSize) ⌝ }
+    requires { ⌜ (rows + rowSize * count ≤ length (now words)) × (0 < count) × (2 ≤ length (now frame)) × (length (now frame) ≤ frameSize) × Symbols (now frame) × (length (now frame) ≤ length (now states)) ⌝ }
     ensures { λ r. ⌜ Passed (leftOn (rowsAt (now (words .entry)) rows count) (now (frame .entry))) count (length (now (frame .entry)) - 1) (length (now (frame .entry)) - 1) frameSize (now (states .exit)) r ⌝ }
 {
     let mut at = Step { state: 0, steps: 0 };
@@ -68,7 +69,7 @@ fn right_pass(
     steps: usize,
     states: &mut [u16],
 ) -> Pass
-    requires { ⌜ (rows + rowSize * count ≤ length (now words)) × (0 < count) × (2 ≤ length (now frame)) × (length (now frame) ≤ frameSize) × (steps ≤ frameSize) × Symbols (now frame) × (length (now states) ≡ frameSize) ⌝ }
+    requires { ⌜ (rows + rowSize * count ≤ length (now words)) × (0 < count) × (2 ≤ length (now frame)) × (length (now frame) ≤ frameSize) × (steps ≤ frameSize) × Symbols (now frame) × (length (now frame) ≤ length (now states)) ⌝ }
     ensures { λ r. ⌜ Passed (rightOn (rowsAt (now (words .entry)) rows count) steps (now (frame .entry))) count (length (now (frame .entry)) - 1) 1 (steps + frameSize) (now (states .exit)) r ⌝ }
 {
     let mut at = Step { state: 0, steps };
@@ -101,7 +102,7 @@ pub fn run_passes(
     left: &mut [u16],
     right: &mut [u16],
 ) -> Pass
-    requires { ⌜ (0 < «left_states») × (0 < «right_states») × (neededWords «left_states» «right_states» ≤ length (now words)) × (2 ≤ length (now frame)) × (length (now frame) ≤ frameSize) × Symbols (now frame) × (length (now left) ≡ frameSize) × (length (now right) ≡ frameSize) ⌝ }
+    requires { ⌜ (0 < «left_states») × (0 < «right_states») × (neededWords «left_states» «right_states» ≤ length (now words)) × (2 ≤ length (now frame)) × (length (now frame) ≤ frameSize) × Symbols (now frame) × (length (now frame) ≤ length (now left)) × (length (now frame) ≤ length (now right)) ⌝ }
     ensures { λ r. ⌜ Both (now (words .entry)) «left_states» «right_states» (now (frame .entry)) (length (now (frame .entry)) - 2) (now (left .exit)) (now (right .exit)) r ⌝ }
 {
     let first = left_pass(words, tables::HEAD, left_states, frame, left);
@@ -116,4 +117,92 @@ pub fn run_passes(
         first.steps,
         right,
     )
+}
+
+// The passes of one word, where the list gives no part for it; that part, or 0, goes to `found`. Where the lengths do not fit, no word can pass.
+fn run_word(
+    words: &[u16],
+    left_states: usize,
+    right_states: usize,
+    fit: bool,
+    list: &[u32],
+    name: &[u8],
+    frame: &[u8],
+    from: usize,
+    end: usize,
+    found: &mut [u16],
+    left: &mut [u16],
+    right: &mut [u16],
+) -> Pass
+    requires { ⌜ (fit ≡ true → Rows (length (now words)) «left_states» «right_states») × Unsaid (now list) (now name) × (now frame ≡ frameOf (now name)) × WordOf (now name) from end × Sized (memory (now found) (now left) (now right)) ⌝ }
+    ensures { λ r. ⌜ WordPassed (now (words .entry)) «left_states» «right_states» fit (now (list .entry)) (wordAt (now (name .entry)) from) from (memory (now (found .entry)) (now (left .entry)) (now (right .entry))) (memory (now (found .exit)) (now (left .exit)) (now (right .exit))) r ⌝ }
+{
+    let part = reading::words::find_word(list, name, from, end);
+    found[from] = part;
+    if part != 0 {
+        return Pass {
+            usable: true,
+            steps: 0,
+        };
+    }
+    if !fit {
+        return Pass {
+            usable: false,
+            steps: 0,
+        };
+    }
+    run_passes(
+        words,
+        left_states,
+        right_states,
+        &frame[from..end + 1],
+        &mut left[from..],
+        &mut right[from..],
+    )
+}
+
+// The passes of the words in turn, and the sum of their steps.
+pub fn run_words(
+    words: &[u16],
+    left_states: usize,
+    right_states: usize,
+    fit: bool,
+    list: &[u32],
+    name: &[u8],
+    frame: &[u8],
+    found: &mut [u16],
+    left: &mut [u16],
+    right: &mut [u16],
+) -> Pass
+    requires { ⌜ (fit ≡ true → Rows (length (now words)) «left_states» «right_states») × Unsaid (now list) (now name) × (now frame ≡ frameOf (now name)) × Sized (memory (now found) (now left) (now right)) ⌝ }
+    ensures { λ r. ⌜ AllPassed (now (words .entry)) «left_states» «right_states» fit (now (list .entry)) (now (name .entry)) (memory (now (found .exit)) (now (left .exit)) (now (right .exit))) r ⌝ }
+{
+    let mut steps = 0;
+    let mut from = 0;
+    while from <= name.len() {
+        let end = reading::words::word_end(name, from);
+        let pass = run_word(
+            words,
+            left_states,
+            right_states,
+            fit,
+            list,
+            name,
+            frame,
+            from,
+            end,
+            &mut *found,
+            &mut *left,
+            &mut *right,
+        );
+        if !pass.usable {
+            return pass;
+        }
+        steps += pass.steps;
+        from = end;
+    }
+    Pass {
+        usable: true,
+        steps,
+    }
 }

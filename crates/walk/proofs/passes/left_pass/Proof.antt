@@ -6,12 +6,12 @@ use native.Mathlib.Omega.{arith}
 use lib.ListN.{length}
 use Rattle.walk.specs.Passes.{rowsAt, leftOn}
 use Rattle.walk.proofs.Passing.{Passing, go-on, stop, finished, left-begin, left-state, left-steps}
-use Rattle.walk.specs.Letters.{frameSize}
+use Rattle.reading.specs.Places.{frameSize}
 use Rattle.walk.proofs.passes.left_pass.Statement.{statement}
 use Rattle.walk.proofs.passes.left_pass.Tie as tie
 
 abbrev Inv-loop : tie.InvT-loop
-Inv-loop words rows count frame states₀ at₀ end i₀ states at i = (i ≤ end) × (at .steps ≡ i) × Passing (leftOn (rowsAt words rows count) frame) count 1 i states at i
+Inv-loop words rows count frame states₀ at₀ end i₀ states at i = (i ≤ end) × (at .steps ≡ i) × Passing (leftOn (rowsAt words rows count) frame) count 1 i (length states₀) states at i
 
 abbrev μ-loop : tie.MeasureT-loop
 μ-loop words rows count frame states₀ at₀ end i₀ states at i = end - i
@@ -22,7 +22,7 @@ sub-end c = omega arith
 loop-holds : tie.Need-loop-holds Inv-loop μ-loop
 loop-holds c =
     let a = c .before .before .before .args in
-    (omega arith, refl, left-begin (a .words .now) (a .rows) (a .count) (a .frame .now) (a .states .now) (c .before .before .before .pre .5) (omega arith))
+    (omega arith, refl, left-begin (a .words .now) (a .rows) (a .count) (a .frame .now) (a .states .now) (omega arith))
 
 shared-slice-read-look-up : tie.Need-shared-slice-read-look-up Inv-loop μ-loop
 shared-slice-read-look-up c = omega arith
@@ -37,7 +37,7 @@ wide16-requires : tie.Need-wide16-requires Inv-loop μ-loop
 wide16-requires c κs = tt
 
 same-length : tie.Need-same-length Inv-loop μ-loop
-same-length c = c .before .before .before .before .before .loop .inv .2 .room ∙ sym (c .before .before .before .before .before .before .before .before .before .pre .5)
+same-length c = c .before .before .before .before .before .loop .inv .2 .room
 
 returns : tie.Need-returns Inv-loop μ-loop
 returns c =
@@ -78,7 +78,7 @@ loop-again c =
     )
 
 same-length-2 : tie.Need-same-length-2 Inv-loop μ-loop
-same-length-2 c = c .before .loop .inv .2 .room ∙ sym (c .before .before .before .before .before .pre .5)
+same-length-2 c = c .before .loop .inv .2 .room
 
 returns-2 : tie.Need-returns-2 Inv-loop μ-loop
 returns-2 c =

@@ -6,12 +6,12 @@ use native.Mathlib.Omega.{arith}
 use lib.ListN.{length}
 use Rattle.walk.specs.Passes.{rowsAt, rightOn}
 use Rattle.walk.proofs.Passing.{Passing, go-on, stop, finished, right-start, right-state, right-steps}
-use Rattle.walk.specs.Letters.{frameSize}
+use Rattle.reading.specs.Places.{frameSize}
 use Rattle.walk.proofs.passes.right_pass.Statement.{statement}
 use Rattle.walk.proofs.passes.right_pass.Tie as tie
 
 abbrev Inv-loop : tie.InvT-loop
-Inv-loop words rows count frame steps states₀ at₀ i₀ states at i = (0 < i) × (i ≤ length frame) × (at .steps + i ≡ steps + length frame) × Passing (rightOn (rowsAt words rows count) steps frame) count i (length frame - 1) states at i
+Inv-loop words rows count frame steps states₀ at₀ i₀ states at i = (0 < i) × (i ≤ length frame) × (at .steps + i ≡ steps + length frame) × Passing (rightOn (rowsAt words rows count) steps frame) count i (length frame - 1) (length states₀) states at i
 
 abbrev μ-loop : tie.MeasureT-loop
 μ-loop words rows count frame steps states₀ at₀ i₀ states at i = i
@@ -19,7 +19,7 @@ abbrev μ-loop : tie.MeasureT-loop
 loop-holds : tie.Need-loop-holds Inv-loop μ-loop
 loop-holds c =
     let a = c .before .before .before .args in
-    (omega arith, omega arith, refl, right-start (a .words .now) (a .rows) (a .count) (a .frame .now) (a .steps) (a .states .now) (c .before .before .before .pre .6) (omega arith) (omega arith))
+    (omega arith, omega arith, refl, right-start (a .words .now) (a .rows) (a .count) (a .frame .now) (a .steps) (a .states .now) (omega arith) (omega arith))
 
 sub-i : tie.Need-sub-i Inv-loop μ-loop
 sub-i c = omega arith
@@ -37,7 +37,7 @@ wide16-requires : tie.Need-wide16-requires Inv-loop μ-loop
 wide16-requires c κs = tt
 
 same-length : tie.Need-same-length Inv-loop μ-loop
-same-length c = c .before .before .before .before .before .loop .inv .3 .room ∙ sym (c .before .before .before .before .before .before .before .before .before .pre .6)
+same-length c = c .before .before .before .before .before .loop .inv .3 .room
 
 returns : tie.Need-returns Inv-loop μ-loop
 returns c =
@@ -76,7 +76,7 @@ loop-again c =
     )
 
 same-length-2 : tie.Need-same-length-2 Inv-loop μ-loop
-same-length-2 c = c .before .loop .inv .3 .room ∙ sym (c .before .before .before .before .before .pre .6)
+same-length-2 c = c .before .loop .inv .3 .room
 
 returns-2 : tie.Need-returns-2 Inv-loop μ-loop
 returns-2 c =

@@ -9,7 +9,7 @@ use lib.ListN.{length}
 use Rattle.walk.specs.Passes.{rowsAt, leftOn, rightOn, Passed}
 use Rattle.walk.proofs.Walked.{both-bad, both-good}
 use Rattle.tables.specs.Words.{headWords, rightRows}
-use Rattle.walk.specs.Letters.{frameSize}
+use Rattle.reading.specs.Places.{frameSize}
 use Rattle.walk.proofs.passes.run_passes.Statement.{statement}
 use Rattle.walk.proofs.passes.run_passes.Tie as tie
 
