@@ -14,7 +14,7 @@ use Rattle.rules.specs.declared.Refusal.the-variants.{NotRuleset, BadList}
 use Rattle.exceptions.specs.Judging.{isList, Listing, listingOf}
 use Rattle.image.specs.Image.{valid, entriesOf}
 use Rattle.reading.specs.Fitting.{Str}
-use Rattle.reading.specs.Speech.{Outcome, atOnce, saidFrom, listedOr, judgedCall, toldOf, Said as Told, saying}
+use Rattle.reading.specs.Speech.{Outcome, atOnce, saidFrom, listedOr, Following, judgedCall, toldOf, Said as Told, saying}
 use Rattle.reading.specs.Places.{SaysListed}
 use Rattle.reading.specs.declared.Speech.{Speech}
 use Rattle.reading.specs.declared.delivery.Listed.{Listed}
@@ -48,7 +48,7 @@ walked-none c image list name phones numbers ok e r f =
 
 module _ (c : Compiled) (image : List ℕ) (ok : valid image ≡ true) (l : Listing) (m : Str → Str) (is : l ≡ some m) (name : Str) (phones numbers : List ℕ)
     (a : Answer) (j : replyOf a ≡ judgedName name) where
-  abbrev walked : Outcome
+  abbrev walked : Following
   walked = walkThrough c (entriesOf image) name
 
   pub walked-refused : (x : Refusal) → a ≡ Refused x → (r : WalkAnswer) → r ≡ record { steps = 0; speech = NotSpoken x } → walkedOf r phones numbers ≡ walkFor c image l name phones numbers
@@ -56,8 +56,8 @@ module _ (c : Compiled) (image : List ℕ) (ok : valid image ≡ true) (l : List
       walked-as c image l name phones numbers (atOnce (refusalNumber x) (refusalPlace x))
       (call-refused image name walked ok l m is (refusalNumber x) (refusalPlace x) (found-refused name a j x e)) _ (ap (λ (y : WalkAnswer). walkedOf y phones numbers) f)
 
-  pub walked-sound : a ≡ Accepted → (w : Walked) → w ≡ walkedAs (listedOr m name walked) phones numbers → w ≡ walkFor c image l name phones numbers
-  walked-sound e = walked-as c image l name phones numbers (listedOr m name walked) (call-sound image name walked ok l m is (found-sound name a j e))
+  pub walked-sound : a ≡ Accepted → (w : Walked) → w ≡ walkedAs (listedOr m name (walked m)) phones numbers → w ≡ walkFor c image l name phones numbers
+  walked-sound e = walked-as c image l name phones numbers (listedOr m name (walked m)) (call-sound image name walked ok l m is (found-sound name a j e))
 
 -- a sound name, by what its look-up found
 module _ (p : Str) (o : Outcome) (phones after numbers : List ℕ) (r : Listed) (is : SaysListed p phones after r) where

@@ -10,8 +10,9 @@ ghost use mathlib.Core.Bool.{true};
 ghost use lib.ListN.{getD};
 ghost use Rattle.rules.specs.Names.{SoundName};
 ghost use Rattle.exceptions.specs.Layout.{wordsOf, phonesFor};
-ghost use Rattle.exceptions.specs.Judging.{isList, listingOf, noList};
+ghost use Rattle.exceptions.specs.Judging.{isList, listingOf, noList, saysOf};
 ghost use Rattle.image.specs.Image.{valid, entriesOf};
+ghost use Rattle.reading.specs.Places.{Unsaid};
 ghost use Rattle.reading.specs.Speech.{listedOr};
 ghost use Rattle.tables.specs.Words.{compiledFrom};
 ghost use Rattle.tables.specs.Walk.{walkThrough, walkedAs, walkSaid};
@@ -50,16 +51,18 @@ pub fn compile<'a>(words: &'a [u16], sets: &'a [u64]) -> Compiled<'a>
     }
 }
 
-// The thin entry: a sound name is sent through a compiled ruleset, which is taken apart for the covered walk. The image is known valid.
+// The thin entry: a sound name that is not on the list is sent through a compiled ruleset, which is taken apart for the covered walk. The
+// image is known valid, and the list one, or too few words for any.
 pub fn speak<'a>(
     compiled: Compiled<'a>,
     image: &[u8],
+    list: &[u32],
     name: &[u8],
     phones: &mut [u8],
     numbers: &mut [u16],
 ) -> WalkAnswer
-    requires { ⌜ (valid (now image) ≡ true) × SoundName (now name) ⌝ }
-    ensures { λ r. ⌜ walkedOf r (now (phones .exit)) (now (numbers .exit)) ≡ walkedAs (walkThrough (compiledWith (now (compiled .entry .words)) (now (compiled .entry .sets)) (compiled .entry .«left_states») (compiled .entry .«right_states»)) (entriesOf (now (image .entry))) (now (name .entry))) (now (phones .entry)) (now (numbers .entry)) ⌝ }
+    requires { ⌜ (valid (now image) ≡ true) × Unsaid (now list) (now name) ⌝ }
+    ensures { λ r. ⌜ walkedOf r (now (phones .exit)) (now (numbers .exit)) ≡ walkedAs (walkThrough (compiledWith (now (compiled .entry .words)) (now (compiled .entry .sets)) (compiled .entry .«left_states») (compiled .entry .«right_states»)) (entriesOf (now (image .entry))) (now (name .entry)) (saysOf (now (list .entry)))) (now (phones .entry)) (now (numbers .entry)) ⌝ }
 {
     walk::walk_tables(
         compiled.words,
@@ -67,26 +70,28 @@ pub fn speak<'a>(
         compiled.left_states,
         compiled.right_states,
         image,
+        list,
         name,
         phones,
         numbers,
     )
 }
 
-// Plain parameters only: the words are compiled, and the sound name is sent through. The image is known valid.
+// Plain parameters only: the words are compiled, and the sound name that is not on the list is sent through, under the same conditions.
 pub fn speak_words<'a>(
     words: &'a [u16],
     sets: &'a [u64],
     image: &[u8],
+    list: &[u32],
     name: &[u8],
     phones: &mut [u8],
     numbers: &mut [u16],
 ) -> WalkAnswer
-    requires { ⌜ (valid (now image) ≡ true) × SoundName (now name) ⌝ }
-    ensures { λ r. ⌜ walkedOf r (now (phones .exit)) (now (numbers .exit)) ≡ walkedAs (walkThrough (compiledFrom (now (words .entry)) (now (sets .entry))) (entriesOf (now (image .entry))) (now (name .entry))) (now (phones .entry)) (now (numbers .entry)) ⌝ }
+    requires { ⌜ (valid (now image) ≡ true) × Unsaid (now list) (now name) ⌝ }
+    ensures { λ r. ⌜ walkedOf r (now (phones .exit)) (now (numbers .exit)) ≡ walkedAs (walkThrough (compiledFrom (now (words .entry)) (now (sets .entry))) (entriesOf (now (image .entry))) (now (name .entry)) (saysOf (now (list .entry)))) (now (phones .entry)) (now (numbers .entry)) ⌝ }
 {
     let compiled = compile(words, sets);
-    speak(compiled, image, name, phones, numbers)
+    speak(compiled, image, list, name, phones, numbers)
 }
 
 // The walk of a name, for a caller that knows the image valid and has no list.
@@ -104,7 +109,15 @@ pub fn speak_valid<'a>(
     let judged = rules::judge_name(name);
     match judged {
         Answer::Refused(x) => walk::at_once(x),
-        Answer::Accepted => speak_words(words, sets, image, name, phones, numbers),
+        Answer::Accepted => speak_words(
+            words,
+            sets,
+            image,
+            &reading::NO_LIST,
+            name,
+            phones,
+            numbers,
+        ),
     }
 }
 
@@ -119,12 +132,12 @@ fn speak_listed<'a>(
     numbers: &mut [u16],
 ) -> WalkAnswer
     requires { ⌜ (valid (now image) ≡ true) × ((isList (now list) ≡ true) × SoundName (now name)) ⌝ }
-    ensures { λ r. ⌜ walkedOf r (now (phones .exit)) (now (numbers .exit)) ≡ walkedAs (listedOr (phonesFor (wordsOf (now (list .entry)))) (now (name .entry)) (walkThrough (compiledFrom (now (words .entry)) (now (sets .entry))) (entriesOf (now (image .entry))) (now (name .entry)))) (now (phones .entry)) (now (numbers .entry)) ⌝ }
+    ensures { λ r. ⌜ walkedOf r (now (phones .exit)) (now (numbers .exit)) ≡ walkedAs (listedOr (phonesFor (wordsOf (now (list .entry)))) (now (name .entry)) (walkThrough (compiledFrom (now (words .entry)) (now (sets .entry))) (entriesOf (now (image .entry))) (now (name .entry)) (phonesFor (wordsOf (now (list .entry)))))) (now (phones .entry)) (now (numbers .entry)) ⌝ }
 {
     let found = delivery::say_listed(list, name, &mut *phones);
     match found {
         Listed::Said(speech) => WalkAnswer { steps: 0, speech },
-        Listed::Unlisted => speak_words(words, sets, image, name, phones, numbers),
+        Listed::Unlisted => speak_words(words, sets, image, list, name, phones, numbers),
     }
 }
 

@@ -23,7 +23,7 @@ use Rattle.reading.specs.Speech.{Outcome, speaks, declines, phonesOf, numbersOf
 use Rattle.reading.proofs.Listed.{sayingListed, listed-said}
 use Rattle.tables.specs.Words.{wordsFor, setsFor, Built, built}
 use Rattle.tables.specs.Walk.{Walked, walkSaid}
-use Rattle.tables.proofs.Theorem.{table-theorem, steps-theorem}
+use Rattle.tables.proofs.Theorem.{table-theorem, steps-theorem, steps-whole}
 use Rattle.tables.proofs.Steps.{listed-walked}
 use Rattle.endtoend.specs.EndToEnd.{result, fromList, Lent, Given, takenEdits, rulesAfter, Enough, Claim, EndToEnd}
 
@@ -99,6 +99,9 @@ module _ (m : Lent) (g : Given)
       steps = λ n u.
           ap (λ (x : Walked). x .steps) walk-is
           ∙ steps-theorem (g .replay .image) (listingOf (m .list)) (m .words) (m .sets) (m .name) (m .«walk-phones») (m .«walk-numbers») ready n u;
+      all-steps = λ n u h.
+          ap (λ (x : Walked). x .steps) walk-is
+          ∙ steps-whole (g .replay .image) (listingOf (m .list)) (m .words) (m .sets) (m .name) (m .«walk-phones») (m .«walk-numbers») ready n u h;
       listed = λ n q u. (
         ap result (p ∙ listed-said (g .replay .image) (listingOf (m .list)) (m .name) q (m .«plain-phones») (m .«plain-numbers») (done .kept) n u)
             ∙ listed-result q (m .«plain-phones») (m .«plain-numbers»),

@@ -1,5 +1,5 @@
 -- Demand 3 of document 01, as one claim: a list of edits from the empty ruleset, the tables built after it in memory that held anything,
--- and a name, read plainly and walked through those tables, with a lent exceptions list (document 02, request 1).
+-- and a name of any number of words, read plainly and walked through those tables, with a lent exceptions list (document 02, requests 1 and 3).
 -- Assumes nothing.
 use Prim.Native.Nat.{ℕ, _+_, _*_, _≤_}
 use mathlib.Core.Path.{_≡_}
@@ -16,7 +16,8 @@ use Rattle.image.specs.Image.{imageSize}
 use Rattle.edits.specs.Ledger.{Edit, afterAll}
 use Rattle.history.specs.Replay.{taken, Replay, FromEmpty, Replayed}
 use Rattle.reading.specs.Fitting.{Str}
-use Rattle.reading.specs.Speech.{Told, spoken, refused, Unlisted, ListedAs, Said, plainSaid}
+use Rattle.reading.specs.Words.{Word, wordsIn, unlisted, stepsFor}
+use Rattle.reading.specs.Speech.{Told, spoken, refused, saidOf, Unlisted, ListedAs, Said, plainSaid}
 use Rattle.tables.specs.Words.{wordsFor, setsFor, Built, built}
 use Rattle.tables.specs.Walk.{Walked, walkSaid}
 
@@ -85,6 +86,10 @@ takenEdits m = taken (m .code) (m .answers) (m .places)
 abbrev pub rulesAfter : Lent → List Entry
 rulesAfter m = rulesOf (afterAll start (takenEdits m))
 
+-- the words of the name that the lent list does not say
+abbrev pub unlistedWords : Lent → List Word
+unlistedWords m = unlisted (saidOf (listingOf (m .list))) (wordsIn (m .name))
+
 -- the memory is long enough for a ruleset and for the tables of the rules after the edits, and both readings are lent as much
 pub record Enough (m : Lent) : Type 0 where
   pub image : imageSize ≤ length (m .image)
@@ -100,8 +105,10 @@ pub record Claim (m : Lent) (g : Given) : Type 0 where
   pub tables : g .build .reply ≡ accepted
   -- walk and plain reading are alike, of listed names and all others, and where the lent list is none
   pub alike : result (g .walk .said) ≡ result (g .plain)
-  -- the steps counted for a name that is not on the list are 2n + 2
-  pub steps : SoundName (m .name) → Unlisted (listingOf (m .list)) (m .name) → g .walk .steps ≡ 2 * length (m .name) + 2
+  -- the steps counted for a name that is not on the list are 2 |w| + 2 for each of its words that is not
+  pub steps : SoundName (m .name) → Unlisted (listingOf (m .list)) (m .name) → g .walk .steps ≡ stepsFor (unlistedWords m)
+  -- which is 2n + 2 where no word is on it
+  pub all-steps : SoundName (m .name) → Unlisted (listingOf (m .list)) (m .name) → unlistedWords m ≡ wordsIn (m .name) → g .walk .steps ≡ 2 * length (m .name) + 2
   -- a name on the list is said from it, with no steps
   pub listed : SoundName (m .name) → (p : Str) → ListedAs (listingOf (m .list)) (m .name) p
       → (result (g .plain) ≡ fromList p (length (m .«plain-phones»))) × (g .walk .steps ≡ 0)

@@ -1,12 +1,16 @@
--- `compiled::speak_listed` meets its contract: what the list says, or else the walk.
+-- `compiled::speak_listed` meets its contract: what the list says, or else the walk of its words.
 -- Assumes nothing.
-use mathlib.Core.List.{List}
-use mathlib.Core.Path.{_∙_}
-use Prim.Native.Nat.{ℕ}
-use Rattle.reading.specs.Speech.{Outcome}
-use Rattle.reading.proofs.Lookup.{unlisted-answer}
-use Rattle.tables.specs.Walk.{walkedAs}
 use Rattle.compiled.proofs.Speaking.{walked-listed}
+use Rattle.reading.proofs.Lookup.{unlisted-answer, unlisted-none, says-all, unsaid-list}
+use Rattle.reading.specs.Speech.{Outcome}
+use Rattle.exceptions.specs.Layout.{wordsOf, phonesFor}
+use Prim.Native.Nat.{ℕ}
+use mathlib.Core.List.{List}
+use mathlib.Core.Path.{ap, _∙_}
+use Rattle.tables.specs.Walk.{walkThrough, walkedAs}
+use Rattle.tables.specs.Words.{compiledFrom}
+use Rattle.reading.specs.Fitting.{Str}
+use Rattle.image.specs.Image.{entriesOf}
 use borrow.Author.Needs.{needs}
 use Rattle.compiled.proofs.speak_listed.Statement.{statement}
 use Rattle.compiled.proofs.speak_listed.Tie as tie
@@ -21,15 +25,13 @@ enum-told : tie.Need-enum-told
 enum-told c = search needs
 
 speak-words-requires : tie.Need-speak-words-requires
-speak-words-requires c κs = search needs
+speak-words-requires c κs = (c .before .before .before .before .before .before .before .before .before .before .before .before .before .before .before .pre .0, unsaid-list (c .before .before .before .before .before .before .before .before .before .before .before .before .before .before .before .args .list .now) (c .before .before .before .before .before .before .before .before .before .before .before .before .before .before .before .args .name .now) (c .before .before .before .before .before .before .before .before .before .before .before .before .before .before .before .pre .1 .0) (c .before .before .before .before .before .before .before .before .before .before .before .before .before .before .before .pre .1 .1) (unlisted-none (phonesFor (wordsOf (c .before .before .before .before .before .before .before .before .before .before .before .before .before .before .before .args .list .now)) (c .before .before .before .before .before .before .before .before .before .before .before .before .before .before .before .args .name .now)) (walkThrough (compiledFrom (c .before .before .before .before .before .before .before .before .before .before .before .before .before .before .before .args .words .now) (c .before .before .before .before .before .before .before .before .before .before .before .before .before .before .before .args .sets .now)) (entriesOf (c .before .before .before .before .before .before .before .before .before .before .before .before .before .before .before .args .image .now)) (c .before .before .before .before .before .before .before .before .before .before .before .before .before .before .before .args .name .now) (phonesFor (wordsOf (c .before .before .before .before .before .before .before .before .before .before .before .before .before .before .before .args .list .now)))) (c .before .before .before .before .before .before .before .before .before .before .before .before .before .before .before .args .phones .now) _ (c .before .before .before .before .before .before .before .before .before .before .before .before .before .before .before .args .numbers .now) _ (c .before .before .before .before .before .before .say-listed .ensures) (c .before .before .enum-told .given .1)))
 
 same-length : tie.Need-same-length
 same-length c = search needs
 
 returns : tie.Need-returns
-returns c =
-    let a = c .before .before .before .before .before .before .before .before .before .before .before .before .before .before .args in
-    walked-listed _ _ (a .phones .now) _ (a .numbers .now) _ (c .before .before .before .before .before .say-listed .ensures) _ (c .before .found .given .1)
+returns c = walked-listed _ _ (c .before .before .before .before .before .before .before .before .before .before .before .before .before .before .args .phones .now) _ (c .before .before .before .before .before .before .before .before .before .before .before .before .before .before .args .numbers .now) _ (c .before .before .before .before .before .say-listed .ensures) _ (c .before .found .given .1)
 
 same-length-2 : tie.Need-same-length-2
 same-length-2 c = search needs
@@ -38,10 +40,7 @@ same-length-3 : tie.Need-same-length-3
 same-length-3 c = search needs
 
 returns-2 : tie.Need-returns-2
-returns-2 c =
-    let a = c .before .before .before .before .before .before .before .before .before .before .before .before .before .before .before .before .before .before .before .before .args in
-    c .before .before .before .before .speak-words .ensures
-    ∙ unlisted-answer _ _ (a .phones .now) _ (a .numbers .now) _ (c .before .before .before .before .before .before .before .before .before .before .before .say-listed .ensures) (λ (o : Outcome) (l : List ℕ). walkedAs o l (a .numbers .now)) (c .before .before .before .before .before .before .before .enum-told .given .1)
+returns-2 c = c .before .before .before .before .speak-words .ensures ∙ (ap (λ (m : Str → Str). walkedAs (walkThrough (compiledFrom (c .before .before .before .before .before .before .before .before .before .before .before .before .before .before .before .before .before .before .before .before .args .words .now) (c .before .before .before .before .before .before .before .before .before .before .before .before .before .before .before .before .before .before .before .before .args .sets .now)) (entriesOf (c .before .before .before .before .before .before .before .before .before .before .before .before .before .before .before .before .before .before .before .before .args .image .now)) (c .before .before .before .before .before .before .before .before .before .before .before .before .before .before .before .before .before .before .before .before .args .name .now) m) (c .before .before .before .before .before .before .before .before .before .before .before .say-listed .last .1 .1 .0) (c .before .before .before .before .before .before .before .before .before .before .before .before .before .before .before .before .before .before .before .before .args .numbers .now)) (says-all (c .before .before .before .before .before .before .before .before .before .before .before .before .before .before .before .before .before .before .before .before .args .list .now) (c .before .before .before .before .before .before .before .before .before .before .before .before .before .before .before .before .before .before .before .before .pre .1 .0)) ∙ unlisted-answer _ _ (c .before .before .before .before .before .before .before .before .before .before .before .before .before .before .before .before .before .before .before .before .args .phones .now) _ (c .before .before .before .before .before .before .before .before .before .before .before .before .before .before .before .before .before .before .before .before .args .numbers .now) _ (c .before .before .before .before .before .before .before .before .before .before .before .say-listed .ensures) (λ (o : Outcome) (l : List ℕ). walkedAs o l (c .before .before .before .before .before .before .before .before .before .before .before .before .before .before .before .before .before .before .before .before .args .numbers .now)) (c .before .before .before .before .before .before .before .enum-told .given .1))
 
 pub speak-listed-spec : {M : Type 1} → statement M
 speak-listed-spec =
