@@ -113,7 +113,7 @@ pub fn both_fit(image: &[u8], p: usize, q: usize, name: &[u8], before: usize) ->
         return false;
     }
     let mut frame = [0u8; 66];
-    reading::lay_frame(name, &mut frame);
+    reading::words::lay_frame(name, &mut frame);
     let end = name.len() + 2;
     if !fits(image, p, &frame[..end], before + 1) {
         return false;

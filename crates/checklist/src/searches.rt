@@ -4,7 +4,7 @@ use crate::names;
 use crate::names::Name;
 use crate::ruleset;
 use crate::speaking;
-use rules::MAX_NAME_BYTE;
+use rules::MAX_LETTER;
 ghost use mathlib.Core.Path.{_≡_};
 ghost use mathlib.Core.Bool.{true};
 ghost use Rattle.image.specs.Image.{valid};
@@ -231,7 +231,7 @@ pub fn uncovered(image: &[u8]) -> Search
 {
     let mut at = begin();
     let mut x: u8 = 1;
-    while x <= MAX_NAME_BYTE {
+    while x <= MAX_LETTER {
         at = try_letter(image, at, x);
         if at.found {
             return at;
