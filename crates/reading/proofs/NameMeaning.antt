@@ -4,16 +4,17 @@
 --     said-finished, uncovered-stops      and where they are said so, or a letter is so uncovered, it ends just there
 -- Assumes nothing.
 use Prim.Native.Nat.{ℕ, _+_, _≤_}
-use mathlib.Core.Path.{_≡_, refl, sym, ap, ap₂, _∙_, subst}
+use mathlib.Core.Path.{_≡_, refl, ap, ap₂, _∙_}
 use mathlib.Core.List.{List, [], _∷_, _++_}
 use native.Mathlib.Omega.{arith}
 use lib.ListN.{length}
 use Rattle.rules.specs.Shape.{Entry}
 use Rattle.reading.specs.Fitting.{Str}
-use Rattle.reading.specs.Reading.{Piece, listed, Reading, finished, uncovered, after, plain}
+use Rattle.reading.specs.Reading.{Piece, listed, Reading, finished, uncovered, plain}
 use Rattle.reading.specs.Words.{Word, inName, phonesOr, readWord, followed, readWords}
-use Rattle.reading.specs.Meaning.{Uncovered, Reads, piecesOf, SaidWord, fromList, byRules, SaidWords, none, next, UncoveredIn, here, later}
+use Rattle.reading.specs.Meaning.{Uncovered, piecesOf, SaidWord, fromList, byRules, SaidWords, none, next, UncoveredIn, here, later}
 use Rattle.reading.proofs.Search.{Targets}
+use Rattle.reading.proofs.NameReading.{listed-word}
 use Rattle.reading.proofs.Meaning.{Ending, ended, stuck, plain-ends, reads-finished, is-uncovered}
 
 -- what a word, and what words come to, with the meaning of each
@@ -24,10 +25,6 @@ data WordEnding (rules : List Entry) (m : Str → Str) (w : Word) : Type 0 where
 pub data WordsEnding (rules : List Entry) (m : Str → Str) (ws : List Word) : Type 0 where
   finish : (xs : List Piece) → SaidWords rules m ws xs → readWords m (plain rules) ws ≡ finished xs → WordsEnding rules m ws
   stop : (i : ℕ) → UncoveredIn rules m ws i → readWords m (plain rules) ws ≡ uncovered i → WordsEnding rules m ws
-
-listed-word : (p : Str) (r : Reading) → 1 ≤ length p → phonesOr p r ≡ finished (listed p ∷ [])
-listed-word [] r h = absurd (omega arith)
-listed-word (x ∷ p) r h = refl
 
 module _ (rules : List Entry) (m : Str → Str) (targets : Targets rules) where
   read-by : (w : Word) → m (w .letters) ≡ [] → (r : Reading) → plain rules (w .letters) ≡ r → readWord m (plain rules) w ≡ inName (w .before) r

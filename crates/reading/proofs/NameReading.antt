@@ -1,8 +1,8 @@
 -- The words of a name read one after another, as a loop goes through them with the parts found so far in hand. How a word's letters are read is any.
 -- Assumes nothing.
-use Prim.Native.Nat.{ℕ, zero, suc, _+_, _-_, _≤_, _<_}
+use Prim.Native.Nat.{ℕ, suc, _+_, _-_, _≤_, _<_}
 use mathlib.Core.Path.{_≡_, refl, sym, ap, ap₂, _∙_, subst}
-use mathlib.Core.List.{List, [], _∷_, _++_, map, append-assoc, append-nil}
+use mathlib.Core.List.{List, [], _∷_, _++_, append-assoc, append-nil, map-append}
 use mathlib.Core.Bool.{Bool, true, cond}
 use native.Mathlib.Omega.{arith}
 use native.Mathlib.Numerals.{add-one}
@@ -10,9 +10,9 @@ use borrow.Author.Tests.{lt-ltb, le-ltb, eqb-true, eqb-false}
 use native.Mathlib.Decide.{decLe}
 use mathlib.Core.Logic.{_⊎_, ⊎-elim}
 use denote.Enum.Declared.{tagOf}
-use lib.Dec.{ltb, eqb}
-use lib.ListN.{length, getD, take, drop, set, length-set, length-append, length-drop, List·getD-append}
-use lib.Seq.{take-suc-set, take-at, take-append-add, getD-set-same, getD-set-other, getD-take, getD-append-add, length-take-le, take-take}
+use lib.Dec.{eqb}
+use lib.ListN.{length, getD, take, drop, set, length-set, length-append, List·getD-append}
+use lib.Seq.{take-suc-set, take-append-add, getD-set-same, getD-set-other, getD-take, getD-append-add, length-take-le}
 use Rattle.rules.proofs.Cases.{byBool}
 use Rattle.rules.specs.Limits.{maxRules, maxName}
 use Rattle.rules.specs.Names.{SoundName}
@@ -23,7 +23,7 @@ use Rattle.image.proofs.Tests.{valid-count}
 use Rattle.reading.specs.Fitting.{Str, frame}
 use Rattle.reading.specs.Reading.{Piece, listed, Reading, finished, uncovered, badTables, after}
 use Rattle.reading.specs.Words.{Word, word, wordsIn, inName, phonesOr, readWord, followed, readWords, frameOf, wordAt, endAt, Starts, WordOf, wordsFrom}
-use Rattle.reading.specs.Places.{piecesAt, pieceAt, Within, readingOf, EndsBy, Placed, partAt, partsAt, PartIn, PartsIn, frameSize, FoundFor, partsReading, Parted, PartsSoFar, ReadOn, endedIn}
+use Rattle.reading.specs.Places.{piecesAt, pieceAt, Within, readingOf, EndsBy, Placed, partAt, partsAt, PartIn, PartsIn, frameSize, FoundFor, partsReading, PartsSoFar, ReadOn, endedIn}
 use Rattle.reading.specs.declared.Reached.{Reached}
 use Rattle.reading.specs.declared.Reached.the-variants.{Rules, Uncovered, BadTables}
 use Rattle.reading.proofs.Reached.{the-type}
@@ -163,11 +163,8 @@ ends-most n k BadTables h l = tt
 
 -- ---- one word more
 
-map-append : {A B : Type 0} (f : A → B) (a b : List A) → map f (a ++ b) ≡ map f a ++ map f b
-map-append f [] b = refl
-map-append f (x ∷ a) b = ap (λ (l : _). f x ∷ l) (map-append f a b)
-
-listed-word : (p : Str) (r : Reading) → 1 ≤ length p → phonesOr p r ≡ finished (listed p ∷ [])
+-- a word that the list gives phones for is said from it
+pub listed-word : (p : Str) (r : Reading) → 1 ≤ length p → phonesOr p r ≡ finished (listed p ∷ [])
 listed-word [] r h = absurd (omega arith)
 listed-word (x ∷ p) r h = refl
 

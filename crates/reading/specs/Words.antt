@@ -8,7 +8,7 @@ use lib.Dec.{eqb, leb}
 use lib.ListN.{length, getD, drop}
 use Rattle.rules.specs.Limits.{separator}
 use Rattle.reading.specs.Fitting.{Str}
-use Rattle.reading.specs.Reading.{Piece, listed, Reading, finished, uncovered, badTables, after}
+use Rattle.reading.specs.Reading.{listed, Reading, finished, uncovered, badTables, after}
 
 -- ---- the words of a name
 

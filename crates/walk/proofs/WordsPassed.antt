@@ -4,7 +4,7 @@ use Prim.Native.Nat.{ℕ, suc, _+_, _-_, _*_, _≤_, _<_}
 use native.Mathlib.Omega.{arith}
 use native.Mathlib.Decide.{decLe}
 use native.Mathlib.Nat.{add-assoc, add-zero, zero-add}
-use mathlib.Core.Path.{_≡_, refl, sym, ap, ap₂, _∙_, subst}
+use mathlib.Core.Path.{_≡_, refl, sym, ap, _∙_, subst}
 use mathlib.Core.Bool.{Bool, true, false, _&&_}
 use mathlib.Core.List.{List, [], _∷_, _++_}
 use lib.ListN.{length, getD, take, drop, set, length-set, List·getD-append}
@@ -18,11 +18,11 @@ use Rattle.reading.specs.Places.{frameSize, FoundFor}
 use Rattle.reading.proofs.Strings.{frame-long}
 use Rattle.reading.proofs.NameWords.{words-begin, words-step, words-end, end-most, starts-first, starts-next, no-start, word-long, frame-length, frame-symbols}
 use Rattle.reading.proofs.NameReading.{part-long}
-use Rattle.tables.specs.Walk.{leftAt, rightAt, walkUsable, walkSteps, allWords, sumWords}
+use Rattle.tables.specs.Walk.{walkUsable, allWords, sumWords}
 use Rattle.tables.proofs.Truth.{clash}
 use Rattle.tables.proofs.Steps.{walk-steps}
 use Rattle.tables.specs.Words.{rowSize}
-use Rattle.walk.specs.Passes.{Symbols, leftRowsOf, rightRowsOf, Both, Memory, memory, Sized, passable, stepsOn, Remembered, KeptTo, WordPassed, Known, AllPassed}
+use Rattle.walk.specs.Passes.{Symbols, leftRowsOf, rightRowsOf, Both, Memory, memory, Sized, passable, stepsOn, KeptTo, WordPassed, Known, AllPassed}
 use Rattle.walk.specs.declared.passes.Pass.{Pass}
 
 -- ---- one word

@@ -6,7 +6,7 @@ use native.Mathlib.Omega.{arith}
 use native.Mathlib.Decide.{decLe}
 use mathlib.Core.Path.{_≡_, refl, sym, ap, ap₂, _∙_, subst}
 use mathlib.Core.Bool.{true}
-use mathlib.Core.List.{List, [], _++_}
+use mathlib.Core.List.{List, _++_}
 use lib.ListN.{length, getD, take, drop, set, length-set, length-drop}
 use lib.Seq.{getD-drop, length-take-le, take-all}
 use Rattle.rules.specs.Limits.{maxName}
@@ -15,14 +15,14 @@ use Rattle.exceptions.specs.Judging.{saysOf}
 use Rattle.image.specs.Image.{valid}
 use Rattle.reading.specs.Fitting.{Str, frame}
 use Rattle.reading.specs.Reading.{Choice, Reading, readFrom}
-use Rattle.reading.specs.Words.{word, wordsIn, readWord, readWords, frameOf, wordAt, endAt, Starts, WordOf}
-use Rattle.reading.specs.Places.{readingOf, EndsBy, Placed, ReadBy, partsAt, frameSize, ReadOn, endedIn}
+use Rattle.reading.specs.Words.{word, readWord, frameOf, wordAt, endAt, Starts, WordOf}
+use Rattle.reading.specs.Places.{EndsBy, Placed, ReadBy, partsAt, frameSize, ReadOn, endedIn}
 use Rattle.reading.specs.declared.Reached.{Reached}
 use Rattle.reading.specs.declared.Reached.the-variants.{Rules, Uncovered, BadTables}
 use Rattle.reading.proofs.NameWords.{end-most, starts-first, starts-next, word-long}
 use Rattle.reading.proofs.NameReading.{WordsRead, words-read-begin, words-read-next, words-read-stop, words-read-end, part-frame, part-long, listed-part, read-part}
 use Rattle.tables.specs.Words.{setSize}
-use Rattle.walk.specs.Letters.{choicesBy, Bounded, suffix, between, LettersRead, WordRead, Held, Tells, NameRead}
+use Rattle.walk.specs.Letters.{choicesBy, Bounded, suffix, between, WordRead, Held, Tells, NameRead}
 
 -- ---- one word
 

@@ -4,7 +4,6 @@ use Rattle.exceptions.proofs.Names.{sound-letters}
 use mathlib.Core.Path.{sym}
 use native.Mathlib.Omega.{arith}
 use lib.Seq.{length-take-le}
-use Rattle.exceptions.proofs.Decided.{list-long}
 use Rattle.exceptions.proofs.Sizes.{size-is}
 use Rattle.exceptions.proofs.Looking.{list-words, says-none, ends-list}
 use Rattle.exceptions.proofs.end_state.Statement.{statement}

@@ -2,8 +2,6 @@
 -- Assumes nothing.
 use lib.ListN.{length}
 use Prim.Native.Nat.{_-_}
-use mathlib.Core.Path.{subst}
-use Rattle.reading.specs.Places.{EndsBy}
 use borrow.Rule.Slice.PartMut.{mid-len}
 use Rattle.rules.proofs.Memory.{put-tail}
 use Rattle.reading.proofs.Plain.{plain-word}

@@ -1,9 +1,8 @@
 -- `reading::read_words` meets its contract: one word more at each turn.
 -- Assumes nothing.
 use borrow.Author.Needs.{needs}
-use Rattle.rules.specs.Names.{SoundName}
 use Prim.Native.Nat.{_+_, _-_}
-use mathlib.Core.Path.{_≡_, refl, sym, _∙_}
+use mathlib.Core.Path.{sym, _∙_}
 use lib.ListN.{length}
 use Rattle.exceptions.specs.Judging.{saysOf}
 use Rattle.image.specs.Image.{entriesOf}

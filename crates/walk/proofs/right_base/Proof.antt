@@ -4,7 +4,6 @@ use mathlib.Core.Path.{refl}
 use native.Mathlib.Omega.{arith}
 use borrow.Author.Tests.{not-true, not-false}
 use Rattle.tables.proofs.Truth.{clash}
-use borrow.Author.Needs.{needs}
 use Rattle.walk.proofs.right_base.Statement.{statement}
 use Rattle.walk.proofs.right_base.Tie as tie
 

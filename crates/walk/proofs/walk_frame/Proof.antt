@@ -8,7 +8,6 @@ use Rattle.reading.specs.declared.Speech.{Speech}
 use Rattle.reading.specs.Speech.{Outcome}
 use borrow.Author.Tests.{not-true, not-false}
 use Rattle.walk.proofs.Walked.{through-unusable, through-read, parts-read, states-held, walked-answer}
-use native.Mathlib.Omega.{arith}
 use borrow.Author.Needs.{needs}
 use Rattle.walk.proofs.walk_frame.Statement.{statement}
 use Rattle.walk.proofs.walk_frame.Tie as tie
