@@ -169,7 +169,10 @@ module _ (image ws ss : List ℕ) (l r : ℕ) (fit : Bool) (fits-as : FitsAs ws 
   through-unusable e =
       sym (ap (λ (t : Bool). cond t (answered (readWords (saysOf list) (walkWord c (entriesOf image)) (wordsIn name)) (stepsOver c unsaid)) (atOnce 16 0)) (sym usable-is ∙ e))
 
-  module _ (e : p .usable ≡ true) (base : ℕ) (based : fit ≡ true → base ≡ rightSets l) where
+  module _ (e : p .usable ≡ true) (base : ℕ) (is : base ≡ cond fit (rightSets l) 0) where
+    based : fit ≡ true → base ≡ rightSets l
+    based t = is ∙ ap (λ (b : Bool). cond b (rightSets l) 0) t
+
     -- the memory after the passes tells of the list and the walk
     tells : Tells image ss base name (m .found) (m .left) (m .right) list (walkWord c (entriesOf image))
     unfolding walkWord walk

@@ -7,12 +7,12 @@ use reading::Reached;
 use reading::Speech;
 use rules::Refusal;
 ghost use mathlib.Core.Path.{_≡_};
-ghost use mathlib.Core.Bool.{true, false};
+ghost use mathlib.Core.Bool.{true, cond};
+ghost use Prim.Native.Nat.{_<_};
 ghost use Rattle.exceptions.specs.Judging.{saysOf};
 ghost use Rattle.image.specs.Image.{valid, entriesOf};
 ghost use Rattle.reading.specs.Words.{frameOf};
 ghost use Rattle.reading.specs.Places.{Unsaid};
-ghost use Prim.Native.Nat.{_<_};
 ghost use Rattle.tables.specs.Words.{rightSets};
 ghost use Rattle.tables.specs.Walk.{lengthsFit, walkThrough, walkedAs};
 ghost use Rattle.walk.specs.Walked.{walkedOf, compiledWith, stepsWith, FitsAs};
@@ -45,7 +45,7 @@ fn steps_with(reached: Reached, steps: usize) -> usize
 // The set word with which the right sets begin; where the lengths do not fit, no set is looked at.
 fn right_base(fit: bool, left_states: usize) -> usize
     requires { ⌜ (fit ≡ true → rightSets «left_states» < 18446744073709551616) ⌝ }
-    ensures { λ r. ⌜ (fit ≡ true → r ≡ rightSets «left_states») ⌝ }
+    ensures { λ r. ⌜ r ≡ cond fit (rightSets «left_states») 0 ⌝ }
 {
     if !fit {
         return 0;
