@@ -17,10 +17,10 @@ use Rattle.reading.specs.Reading.{listed}
 use Rattle.reading.specs.Speech.{Outcome, speaks, answered, ListedAs, spoken, refused, Said as Told, saying, delivered, plainWords, plainSaid}
 use Rattle.reading.proofs.Call.{call-listed}
 
--- the phones p at the front of the lent bytes, no number, or 4 with the phones needed
+-- the phones p at the front of the lent bytes, no number and no contested letter, or 4 with the phones needed
 abbrev pub sayingListed : Str → List ℕ → List ℕ → Told
 sayingListed p phones numbers =
-    cond (leb (length p) (length phones)) (saying (spoken (length p) 0) (over p phones) numbers) (saying (refused 4 (length p)) phones numbers)
+    cond (leb (length p) (length phones)) (saying (spoken (length p) 0 0) (over p phones) numbers) (saying (refused 4 (length p)) phones numbers)
 
 pub listed-delivered : (p : Str) (phones numbers : List ℕ) → delivered (speaks (listed p ∷ []) 0) phones numbers ≡ sayingListed p phones numbers
 listed-delivered p phones numbers = rw (append-nil p, le-leb 0 (length numbers) (omega arith))

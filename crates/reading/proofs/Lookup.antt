@@ -30,9 +30,9 @@ use Rattle.reading.proofs.Listed.{listed-delivered}
 
 -- the answer where there is room, and where there is none
 listed-by : (p : Str) (phones numbers : List ℕ) (b : Bool) → leb (length p) (length phones) ≡ b
-    → cond b (saying (spoken (length p) 0) (over p phones) numbers) (saying (refused 4 (length p)) phones numbers) ≡ delivered (speaks (listed p ∷ []) 0) phones numbers
+    → cond b (saying (spoken (length p) 0 0) (over p phones) numbers) (saying (refused 4 (length p)) phones numbers) ≡ delivered (speaks (listed p ∷ []) 0) phones numbers
 listed-by p phones numbers b e =
-    sym (listed-delivered p phones numbers ∙ ap (λ (t : Bool). cond t (saying (spoken (length p) 0) (over p phones) numbers) (saying (refused 4 (length p)) phones numbers)) e)
+    sym (listed-delivered p phones numbers ∙ ap (λ (t : Bool). cond t (saying (spoken (length p) 0 0) (over p phones) numbers) (saying (refused 4 (length p)) phones numbers)) e)
 
 -- which of the three a look-up gave, and how many phones
 kind : Lookup → ℕ
@@ -73,16 +73,16 @@ module _ (p : Str) (phones after : List ℕ) (r : Lookup) (is : lookingUp r afte
       by (fitting h f g) = absurd (other Absent e _ g (λ z. omega arith))
       by (short h f g) = absurd (other Absent e _ g (λ z. omega arith))
 
-  pub found-given : (n : ℕ) → r ≡ Given n → SaysListed p phones after (Said (Spoken n 0))
+  pub found-given : (n : ℕ) → r ≡ Given n → SaysListed p phones after (Said (Spoken n 0 0))
   unfolding kind size
   found-given n e = by (found p phones)
     where
-      by : Found p phones → SaysListed p phones after (Said (Spoken n 0))
+      by : Found p phones → SaysListed p phones after (Said (Spoken n 0 0))
       by (absent m g) = absurd (other (Given n) e _ g (λ z. omega arith))
       by (fitting h f g) = (
         h,
         λ numbers.
-            ap₂ (λ (k : ℕ) (l : List ℕ). saying (spoken k 0) l numbers) (tells (λ y. size (y .answer)) (Given n) e _ g) (tells (λ y. y .phones) (Given n) e _ g)
+            ap₂ (λ (k : ℕ) (l : List ℕ). saying (spoken k 0 0) l numbers) (tells (λ y. size (y .answer)) (Given n) e _ g) (tells (λ y. y .phones) (Given n) e _ g)
             ∙ listed-by p phones numbers true f,
       )
       by (short h f g) = absurd (other (Given n) e _ g (λ z. omega arith))

@@ -10,26 +10,27 @@ use borrow.Author.Tests.{lt-ltb, le-ltb, eqb-true, eqb-false}
 use native.Mathlib.Decide.{decLe}
 use mathlib.Core.Logic.{_⊎_, ⊎-elim}
 use denote.Enum.Declared.{tagOf}
-use lib.Dec.{eqb}
+use lib.Dec.{eqb, ltb}
 use lib.ListN.{length, getD, take, drop, set, length-set, length-append, List·getD-append}
 use lib.Seq.{take-suc-set, take-append-add, getD-set-same, getD-set-other, getD-take, getD-append-add, length-take-le}
 use Rattle.rules.proofs.Cases.{byBool}
 use Rattle.rules.specs.Limits.{maxRules, maxName}
 use Rattle.rules.specs.Names.{SoundName}
 use Rattle.exceptions.specs.Layout.{wordsOf, phonesEnding}
-use Rattle.exceptions.specs.Judging.{saysOf}
+use Rattle.exceptions.specs.Judging.{saysOf, StateOf}
 use Rattle.image.specs.Image.{countOf, valid}
 use Rattle.image.proofs.Tests.{valid-count}
 use Rattle.reading.specs.Fitting.{Str, frame}
 use Rattle.reading.specs.Reading.{Piece, listed, Reading, finished, uncovered, badTables, after}
 use Rattle.reading.specs.Words.{Word, word, wordsIn, inName, phonesOr, readWord, followed, readWords, frameOf, wordAt, endAt, Starts, WordOf, wordsFrom}
-use Rattle.reading.specs.Places.{piecesAt, pieceAt, Within, readingOf, EndsBy, Placed, partAt, partsAt, PartIn, PartsIn, frameSize, FoundFor, partsReading, PartsSoFar, ReadOn, endedIn}
+use Rattle.reading.specs.Places.{placeIn, piecesAt, pieceAt, Within, readingOf, EndsBy, Placed, partAt, partsAt, PartIn, PartsIn, frameSize, FoundFor, partsReading, PartsSoFar, ReadOn, endedIn}
 use Rattle.reading.specs.declared.Reached.{Reached}
 use Rattle.reading.specs.declared.Reached.the-variants.{Rules, Uncovered, BadTables}
 use Rattle.reading.proofs.Reached.{the-type}
 use Rattle.reading.proofs.Loop.{after-none}
 use Rattle.reading.proofs.Plain.{not-rules, not-rules-16}
 use Rattle.reading.proofs.NameWords.{words-begin, words-step, words-end, end-most, starts-first, starts-next, word-long, word-frame, frame-length}
+use Rattle.reading.proofs.FoundWord.{state-most}
 use Rattle.reading.proofs.Strings.{frame-long}
 
 -- ---- readings one after another
@@ -169,18 +170,23 @@ listed-word [] r h = absurd (omega arith)
 listed-word (x ∷ p) r h = refl
 
 -- a part that is a state of the list
-state-part : (image list : List ℕ) (p : ℕ) → maxRules ≤ p → partAt image list p ≡ listed (phonesEnding (wordsOf list) (p - maxRules))
-state-part image list p h = ap (λ (b : Bool). cond b (pieceAt image p) (listed (phonesEnding (wordsOf list) (p - maxRules)))) (le-ltb p maxRules h)
+state-part : (image list : List ℕ) (p : ℕ) → maxRules ≤ p → placeIn p ≡ p → partAt image list p ≡ listed (phonesEnding (wordsOf list) (p - maxRules))
+state-part image list p h e =
+    ap (λ (q : ℕ). cond (ltb q maxRules) (pieceAt image p) (listed (phonesEnding (wordsOf list) (q - maxRules)))) e
+    ∙ ap (λ (b : Bool). cond b (pieceAt image p) (listed (phonesEnding (wordsOf list) (p - maxRules)))) (le-ltb p maxRules h)
 
--- places of rules are parts
+found-place : (list : List ℕ) (w : Str) (p : ℕ) → FoundFor list w p → 0 < p → placeIn p ≡ p
+found-place list w p f h = omega (arith, state-most list (p - maxRules) (f .state h .1))
+
+-- parts of rules alone
 rule-parts : (image list : List ℕ) → valid image ≡ true → (ps : List ℕ) → Within image ps → partsAt image list ps ≡ piecesAt image ps
 rule-parts image list ok [] h = refl
 rule-parts image list ok (p ∷ ps) h =
     ap₂ (λ (x : Piece) (l : List Piece). x ∷ l)
-    (ap (λ (b : Bool). cond b (pieceAt image p) (listed (phonesEnding (wordsOf list) (p - maxRules)))) (lt-ltb p maxRules (omega (arith, valid-count image ok, h 0 (omega arith)))))
+    (ap (λ (b : Bool). cond b (pieceAt image p) (listed (phonesEnding (wordsOf list) (placeIn p - maxRules)))) (lt-ltb (placeIn p) maxRules (omega (arith, valid-count image ok, h 0 (omega arith)))))
     (rule-parts image list ok ps (λ k u. h (suc k) (omega arith)))
 
-rule-in : (image list : List ℕ) → valid image ≡ true → (p : ℕ) → p < countOf image → PartIn image list p
+rule-in : (image list : List ℕ) → valid image ≡ true → (p : ℕ) → placeIn p < countOf image → PartIn image list p
 rule-in image list ok p h = record { rule = λ u. h; state = λ u. absurd (omega (arith, valid-count image ok)) }
 
 module _ (image list ps : List ℕ) (count b : ℕ) (s : PartsSoFar image list ps count b) (near : b ≤ maxName) where
@@ -209,20 +215,21 @@ module _ (image list ps : List ℕ) (count b : ℕ) (s : PartsSoFar image list p
     pub listed-part : (p : ℕ) → 0 < p → FoundFor list w p
         → ReadOn image list (partsAt image list (take count ps)) (readWord (saysOf list) read (word b w)) e (set ps count p) (Rules (count + 1))
     listed-part p h f =
-        let i : PartIn image list p = record { rule = λ u. absurd (omega (arith, f .state h .0)); state = λ u. f .state h .1 } in
+        let q = found-place list w p f h in
+        let i : PartIn image list p = record { rule = λ u. absurd (omega (arith, f .state h .0)); state = λ u. subst (λ (x : ℕ). StateOf list (x - maxRules)) (sym q) (f .state h .1) } in
         record {
           parted = record {
             sized = length-set ps count p ∙ s .sized;
             few = omega (arith, s .few);
-            within = λ k q. let z : count + 1 ≡ k = cc in rw (sym z) (part-in p i);
+            within = λ k y. let z : count + 1 ≡ k = cc in rw (sym z) (part-in p i);
           };
           says = ap finished
               (one-part p i
-              ∙ ap (λ (x : Piece). partsAt image list (take count ps) ++ (x ∷ [])) (state-part image list p (f .state h .0) ∙ ap listed (f .says h)))
+              ∙ ap (λ (x : Piece). partsAt image list (take count ps) ++ (x ∷ [])) (state-part image list p (f .state h .0) q ∙ ap listed (f .says h)))
               ∙ sym (ap (after (partsAt image list (take count ps))) (listed-word (saysOf list w) (inName b (read w)) (f .some h)));
         }
 
-    -- read by rules, whose places were laid after the parts
+    -- read by rules, whose parts were laid after the others
     module _ (ok : valid image ≡ true) (ps₂ ps′ : List ℕ) (laid : ps′ ≡ take count ps ++ ps₂) (long : length ps′ ≡ length ps) (r : Reached) (placed : Placed image (length w) ps₂ r)
         (absent : saysOf list w ≡ []) (said : readingOf image ps₂ r ≡ read w) where
       word-is : readWord (saysOf list) read (word b w) ≡ inName b (readingOf image ps₂ r)

@@ -56,7 +56,7 @@ room-refused xs phones numbers i e =
     (λ p. byBool (leb (length (numbersOf xs)) (length numbers)) (λ q. spoken-not (rw (p, q) at e)) (λ q. five (rw (p, q) at e)))
     (λ p. four (rw p at e))
   where
-    spoken-not : {a b i : ℕ} → spoken a b ≡ refused 3 i → ⊥
+    spoken-not : {a b c i : ℕ} → spoken a b c ≡ refused 3 i → ⊥
     spoken-not e = let z : _≡_ {A = ℕ} 0 1 = cc in omega arith
 
     four : {p i : ℕ} → refused 4 p ≡ refused 3 i → ⊥

@@ -16,7 +16,7 @@ ghost use Rattle.exceptions.specs.Layout.{wordsOf, phonesFor};
 ghost use Rattle.exceptions.specs.Judging.{isList, listingOf, noList, saysOf};
 ghost use Rattle.image.specs.Image.{countOf, entriesOf, entryAt, valid};
 ghost use Rattle.reading.specs.Fitting.{same, starts, ends, fits};
-ghost use Rattle.reading.specs.Reading.{firstFit, plain};
+ghost use Rattle.reading.specs.Reading.{passing, firstFit, plain};
 ghost use Rattle.reading.specs.Words.{word, readWord, frameOf, wordAt, WordOf};
 ghost use Rattle.reading.specs.Speech.{toldOf, saying, answered, listedOr, delivered, plainWords, plainSaid};
 ghost use Rattle.reading.specs.Places.{FitAt, ReadBy, Unsaid, frameSize, partsAt, PartsSoFar, ReadOn};
@@ -27,15 +27,20 @@ pub const MAX_FRAME: usize = rules::MAX_NAME + 2;
 // Lent as a list where there is none: too few words for any.
 pub const NO_LIST: [u32; 1] = [0];
 
-// The answer of a call that speaks a name: how many phones and rule numbers it gave, or why it declined.
+// The answer of a call that speaks a name: how many phones and rule numbers it gave, and at how many reached letters more than one rule fits; or
+// why it declined.
 pub enum Speech {
-    Spoken { phones: usize, numbers: usize },
+    Spoken {
+        phones: usize,
+        numbers: usize,
+        contested: usize,
+    },
     Refused(Refusal),
 }
 
-// A rule that fits, by its place.
+// A rule that fits, by its place, and how many rules fit there.
 pub enum Fit {
-    Rule(usize),
+    Rule { place: usize, fitting: usize },
     Nothing,
 }
 
@@ -109,7 +114,23 @@ pub fn target_len_at(image: &[u8], place: usize) -> usize
     target.len()
 }
 
-// The first rule in order that fits at `i`.
+// How many of the rules from `from` on fit at `i`.
+fn count_fits(image: &[u8], count: usize, frame: &[u8], i: usize, from: usize) -> usize
+    requires { ⌜ (valid (now image) ≡ true) × ((count ≡ countOf (now image)) × ((i ≤ length (now frame)) × (from ≤ count))) ⌝ }
+    ensures { λ r. ⌜ r ≡ passing (λ e. fits (e .rule) (now (frame .entry)) i) (drop from (entriesOf (now (image .entry)))) ⌝ }
+{
+    let mut fitting = 0;
+    let mut p = from;
+    while p < count {
+        if fits_at(image, p, frame, i) {
+            fitting += 1;
+        }
+        p += 1;
+    }
+    fitting
+}
+
+// The first rule in order that fits at `i`, and how many do: none before it.
 fn first_fit(image: &[u8], count: usize, frame: &[u8], i: usize) -> Fit
     requires { ⌜ (valid (now image) ≡ true) × ((count ≡ countOf (now image)) × (i ≤ length (now frame))) ⌝ }
     ensures { λ r. ⌜ FitAt (now (image .entry)) (now (frame .entry)) i r ⌝ }
@@ -117,17 +138,20 @@ fn first_fit(image: &[u8], count: usize, frame: &[u8], i: usize) -> Fit
     let mut p = 0;
     while p < count {
         if fits_at(image, p, frame, i) {
-            return Fit::Rule(p);
+            return Fit::Rule {
+                place: p,
+                fitting: count_fits(image, count, frame, i, p),
+            };
         }
         p += 1;
     }
     Fit::Nothing
 }
 
-// The places of the rules applied to a framed word, in order, from its first letter on.
-fn read_places(image: &[u8], frame: &[u8], places: &mut [u16]) -> Reached
-    requires { ⌜ (valid (now image) ≡ true) × ((2 ≤ length (now frame)) × ((length (now frame) ≤ frameSize) × (length (now frame) - 2 ≤ length (now places)))) ⌝ }
-    ensures { λ r. ⌜ ReadBy (now (image .entry)) (firstFit (entriesOf (now (image .entry))) (now (frame .entry))) (length (now (frame .entry)) - 2) (now (places .exit)) r ⌝ }
+// The parts of the rules applied to a framed word, in order, from its first letter on.
+fn read_letters(image: &[u8], frame: &[u8], parts: &mut [u32]) -> Reached
+    requires { ⌜ (valid (now image) ≡ true) × ((2 ≤ length (now frame)) × ((length (now frame) ≤ frameSize) × (length (now frame) - 2 ≤ length (now parts)))) ⌝ }
+    ensures { λ r. ⌜ ReadBy (now (image .entry)) (firstFit (entriesOf (now (image .entry))) (now (frame .entry))) (length (now (frame .entry)) - 2) (now (parts .exit)) r ⌝ }
 {
     let count = image::rule_count(image);
     let n = frame.len() - 2;
@@ -135,10 +159,10 @@ fn read_places(image: &[u8], frame: &[u8], places: &mut [u16]) -> Reached
     let mut i = 1;
     while i <= n {
         let fit = first_fit(image, count, frame, i);
-        let Fit::Rule(place) = fit else {
+        let Fit::Rule { place, fitting } = fit else {
             return Reached::Uncovered(i);
         };
-        places[k] = place as u16;
+        parts[k] = delivery::part_of(place, fitting);
         k += 1;
         i += target_len_at(image, place);
     }
@@ -153,7 +177,7 @@ fn read_word(
     frame: &[u8],
     from: usize,
     end: usize,
-    parts: &mut [u16],
+    parts: &mut [u32],
     count: usize,
 ) -> Reached
     requires { ⌜ (valid (now image) ≡ true) × Unsaid (now list) (now name) × (now frame ≡ frameOf (now name)) × WordOf (now name) from end × PartsSoFar (now image) (now list) (now parts) count from ⌝ }
@@ -161,15 +185,15 @@ fn read_word(
 {
     let part = words::find_word(list, name, from, end);
     if part != 0 {
-        parts[count] = part;
+        parts[count] = part as u32;
         return Reached::Rules(count + 1);
     }
-    let read = read_places(image, &frame[from..end + 1], &mut parts[count..]);
+    let read = read_letters(image, &frame[from..end + 1], &mut parts[count..]);
     words::in_name(read, count, from)
 }
 
 // The words of a name that is not on the list, in turn.
-fn read_words(image: &[u8], list: &[u32], name: &[u8], frame: &[u8], parts: &mut [u16]) -> Reached
+fn read_words(image: &[u8], list: &[u32], name: &[u8], frame: &[u8], parts: &mut [u32]) -> Reached
     requires { ⌜ (valid (now image) ≡ true) × Unsaid (now list) (now name) × (now frame ≡ frameOf (now name)) × (length (now parts) ≡ frameSize) ⌝ }
     ensures { λ r. ⌜ ReadOn (now (image .entry)) (now (list .entry)) [] (plainWords (entriesOf (now (image .entry))) (now (name .entry)) (saysOf (now (list .entry)))) frameSize (now (parts .exit)) r ⌝ }
 {
@@ -201,7 +225,7 @@ fn read_sound(
     let mut frame = [0u8; MAX_FRAME];
     words::lay_frame(name, &mut frame);
     let end = name.len() + 2;
-    let mut parts = [0u16; MAX_FRAME];
+    let mut parts = [0u32; MAX_FRAME];
     let reached = read_words(image, list, name, &frame[..end], &mut parts);
     delivery::answer(image, list, reached, &parts, phones, numbers)
 }

@@ -9,28 +9,28 @@ use Rattle.reading.proofs.Written.{rule-phones, listed-phones}
 use Rattle.reading.proofs.delivery.part_phones.Statement.{statement}
 use Rattle.reading.proofs.delivery.part_phones.Tie as tie
 
-wide16-requires : tie.Need-wide16-requires
-wide16-requires c κs = search needs
+place-in-requires : tie.Need-place-in-requires
+place-in-requires c κs = search needs
 
 phones-at-requires : tie.Need-phones-at-requires
-phones-at-requires c κs = (c .before .before .before .before .pre .0, omega (arith, c .before .before .before .before .pre .1 .rule (omega (arith, c .before .wide16 .ensures .0)), c .before .wide16 .ensures .0))
+phones-at-requires c κs = (c .before .before .before .before .pre .0, omega (arith, c .before .before .before .before .pre .1 .rule (omega (arith, c .before .place-in .ensures)), c .before .place-in .ensures))
 
 returns : tie.Need-returns
 returns c =
     let st = c .before .before .before .before .before in
-    let e = c .before .before .wide16 .ensures .0 in (
-      ap length (c .phones-at .ensures ∙ sym (rule-phones (st .args .image .now) (st .args .list .now) (st .args .part) (c .before .before .wide16 .result) e (c .before .if1 .taken))),
-      omega (arith, ap length (c .phones-at .ensures), entry-shaped (st .args .image .now) (st .pre .0) (c .before .before .wide16 .result) (omega (arith, st .pre .1 .rule (omega arith))) .phones-most),
+    let e = c .before .before .place-in .ensures in (
+      ap length (c .phones-at .ensures ∙ sym (rule-phones (st .args .image .now) (st .args .list .now) (st .args .part) (c .before .before .place-in .result) e (c .before .if1 .taken))),
+      omega (arith, ap length (c .phones-at .ensures), entry-shaped (st .args .image .now) (st .pre .0) (c .before .before .place-in .result) (omega (arith, st .pre .1 .rule (omega arith))) .phones-most),
     )
 
 phone-count-requires : tie.Need-phone-count-requires
-phone-count-requires c κs = rw (c .before .wide16 .ensures .0) (c .before .before .before .before .pre .1 .state (omega (arith, c .before .wide16 .ensures .0)))
+phone-count-requires c κs = rw (c .before .place-in .ensures) (c .before .before .before .before .pre .1 .state (omega (arith, c .before .place-in .ensures)))
 
 returns-2 : tie.Need-returns-2
 returns-2 c =
     let st = c .before .before .before .before .before in
-    (c .phone-count .ensures .0 ∙ sym (ap length (listed-phones (st .args .image .now) (st .args .list .now) (st .args .part) (c .before .before .wide16 .result) (c .before .before .wide16 .ensures .0) (c .before .if1 .left))), c .phone-count .ensures .1)
+    (c .phone-count .ensures .0 ∙ sym (ap length (listed-phones (st .args .image .now) (st .args .list .now) (st .args .part) (c .before .before .place-in .result) (c .before .before .place-in .ensures) (c .before .if1 .left))), c .phone-count .ensures .1)
 
 pub part-phones-spec : {M : Type 1} → statement M
 part-phones-spec =
-    tie.close (tie.spec wide16-requires phones-at-requires returns phone-count-requires returns-2)
+    tie.close (tie.spec place-in-requires phones-at-requires returns phone-count-requires returns-2)

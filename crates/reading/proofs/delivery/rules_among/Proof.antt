@@ -18,14 +18,14 @@ abbrev μ-loop : tie.MeasureT-loop
 loop-holds : tie.Need-loop-holds Inv-loop μ-loop
 loop-holds c = tallied-begin (c .before .args .parts .now)
 
-mul-wide16 : tie.Need-mul-wide16 Inv-loop μ-loop
-mul-wide16 c = search needs
+mul-place-in : tie.Need-mul-place-in Inv-loop μ-loop
+mul-place-in c = search needs
 
-shared-slice-read-wide16 : tie.Need-shared-slice-read-wide16 Inv-loop μ-loop
-shared-slice-read-wide16 c = search needs
+shared-slice-read-place-in : tie.Need-shared-slice-read-place-in Inv-loop μ-loop
+shared-slice-read-place-in c = search needs
 
-wide16-requires : tie.Need-wide16-requires Inv-loop μ-loop
-wide16-requires c κs = search needs
+place-in-requires : tie.Need-place-in-requires Inv-loop μ-loop
+place-in-requires c κs = search needs
 
 add-count : tie.Need-add-count Inv-loop μ-loop
 add-count c = omega (arith, c .before .before .before .before .loop .inv .small, c .before .before .before .before .before .before .pre)
@@ -41,8 +41,8 @@ loop-again c =
     let ps = c .before .before .before .before .before .before .args .parts .now in
     let l = c .before .before .before .before .loop in
     ⊎-elim
-    (λ a. rw (a .1) (tallied-rule ps (l .k) (l .count) (l .inv) (omega arith) (omega (arith, a .0 .taken, c .before .wide16 .ensures .0))))
-    (λ a. rw (a .1) (tallied-other ps (l .k) (l .count) (l .inv) (omega arith) (omega (arith, a .0 .left, c .before .wide16 .ensures .0))))
+    (λ a. rw (a .1) (tallied-rule ps (l .k) (l .count) (l .inv) (omega arith) (omega (arith, a .0 .taken, c .before .place-in .ensures))))
+    (λ a. rw (a .1) (tallied-other ps (l .k) (l .count) (l .inv) (omega arith) (omega (arith, a .0 .left, c .before .place-in .ensures))))
     (c .if1 .came)
 
 returns : tie.Need-returns Inv-loop μ-loop
@@ -55,9 +55,9 @@ rules-among-spec =
     Inv-loop
     μ-loop
     loop-holds
-    mul-wide16
-    shared-slice-read-wide16
-    wide16-requires
+    mul-place-in
+    shared-slice-read-place-in
+    place-in-requires
     add-count
     add-k
     loop-less
