@@ -17,14 +17,14 @@ use Rattle.image.specs.Image.{entriesOf, valid, entryAt, countOf}
 use Rattle.image.proofs.Entries.{entries-length}
 use Rattle.reading.specs.Fitting.{fits}
 use Rattle.reading.specs.Reading.{Application, apply, Choice, chosen, nothing, unusable, past}
-use Rattle.reading.specs.Places.{applyAt, ReadBy}
+use Rattle.reading.specs.Places.{partOf, applyAt, ReadBy}
 use Rattle.reading.specs.declared.Reached.the-variants.{Rules}
 use Rattle.reading.proofs.Search.{Targets, valid-targets}
-use Rattle.reading.proofs.Loop.{Going, going-begin, going-next}
-use Rattle.reading.proofs.Plain.{read-none, read-unusable, read-end}
+use Rattle.reading.proofs.Loop.{Going, going-begin}
+use Rattle.reading.proofs.Plain.{going-part, read-none, read-unusable, read-end}
 use Rattle.tables.specs.Words.{setSize}
 use Rattle.tables.specs.Walk.{lookup}
-use Rattle.walk.specs.Letters.{foundOf, lowestShared, choiceBy, choicesBy, choiceOf, endingAt}
+use Rattle.walk.specs.Letters.{foundOf, lowestShared, countShared, choiceBy, choicesBy, choiceOf, endingAt}
 use Rattle.walk.specs.declared.letters.Found.the-variants.{Place, Empty}
 use Rattle.walk.specs.declared.letters.Chosen.{Chosen}
 use Rattle.walk.specs.declared.letters.Chosen.the-variants.{Rule, Nothing, Unusable}
@@ -39,58 +39,58 @@ pub found-some : (o : Option ℕ) (p : ℕ) → foundOf o ≡ Place p → o ≡ 
 found-some none p e = let z : _≡_ {A = ℕ} 0 1 = cc in absurd (omega arith)
 found-some (some q) p e = let g : q ≡ p = cc in ap some g
 
-lookup-past : (t : Entry → Bool) (rs : List Entry) (p : ℕ) → length rs ≤ p → lookup t rs (some p) ≡ unusable
-lookup-past t [] p h = refl
-lookup-past t (r ∷ rs) zero h = absurd (not-suc-le-zero h)
-lookup-past t (r ∷ rs) (suc p) h = lookup-past t rs p (le-of-suc-le-suc h)
+lookup-past : (t : Entry → Bool) (n : ℕ) (rs : List Entry) (p : ℕ) → length rs ≤ p → lookup t n rs (some p) ≡ unusable
+lookup-past t n [] p h = refl
+lookup-past t n (r ∷ rs) zero h = absurd (not-suc-le-zero h)
+lookup-past t n (r ∷ rs) (suc p) h = lookup-past t n rs p (le-of-suc-le-suc h)
 
-lookup-in : (t : Entry → Bool) (rs : List Entry) (p : ℕ) → p < length rs → lookup t rs (some p) ≡ cond (t (getD rs p noEntry)) (chosen (apply (getD rs p noEntry))) unusable
-lookup-in t [] p h = absurd (not-suc-le-zero h)
-lookup-in t (r ∷ rs) zero h = refl
-lookup-in t (r ∷ rs) (suc p) h = lookup-in t rs p (le-of-suc-le-suc h)
+lookup-in : (t : Entry → Bool) (n : ℕ) (rs : List Entry) (p : ℕ) → p < length rs → lookup t n rs (some p) ≡ cond (t (getD rs p noEntry)) (chosen (apply n (getD rs p noEntry))) unusable
+lookup-in t n [] p h = absurd (not-suc-le-zero h)
+lookup-in t n (r ∷ rs) zero h = refl
+lookup-in t n (r ∷ rs) (suc p) h = lookup-in t n rs p (le-of-suc-le-suc h)
 
 module _ (image ss : List ℕ) (s t : ℕ) (f : List ℕ) (i : ℕ) where
   pub none-shared : lowestShared ss s t ≡ none → choiceBy image ss s t f i ≡ nothing
   unfolding choiceBy
-  none-shared e = ap (lookup (λ r. fits (r .rule) f i) (entriesOf image)) e
+  none-shared e = ap (lookup (λ r. fits (r .rule) f i) (countShared ss s t) (entriesOf image)) e
 
   module _ (p : ℕ) (e : lowestShared ss s t ≡ some p) where
     pub place-past : countOf image ≤ p → choiceBy image ss s t f i ≡ unusable
     unfolding choiceBy
     place-past h =
-        ap (lookup (λ r. fits (r .rule) f i) (entriesOf image)) e
-        ∙ lookup-past (λ r. fits (r .rule) f i) (entriesOf image) p (omega (arith, entries-length image))
+        ap (lookup (λ r. fits (r .rule) f i) (countShared ss s t) (entriesOf image)) e
+        ∙ lookup-past (λ r. fits (r .rule) f i) (countShared ss s t) (entriesOf image) p (omega (arith, entries-length image))
 
-    place-in : p < countOf image → choiceBy image ss s t f i ≡ cond (fits (entryAt image p .rule) f i) (chosen (applyAt image p)) unusable
+    place-in : p < countOf image → choiceBy image ss s t f i ≡ cond (fits (entryAt image p .rule) f i) (chosen (apply (countShared ss s t) (entryAt image p))) unusable
     unfolding choiceBy
     place-in h =
-        ap (lookup (λ r. fits (r .rule) f i) (entriesOf image)) e
-        ∙ lookup-in (λ r. fits (r .rule) f i) (entriesOf image) p (omega (arith, entries-length image))
+        ap (lookup (λ r. fits (r .rule) f i) (countShared ss s t) (entriesOf image)) e
+        ∙ lookup-in (λ r. fits (r .rule) f i) (countShared ss s t) (entriesOf image) p (omega (arith, entries-length image))
 
     pub place-unfit : p < countOf image → fits (entryAt image p .rule) f i ≡ false → choiceBy image ss s t f i ≡ unusable
-    place-unfit h q = place-in h ∙ ap (λ (b : Bool). cond b (chosen (applyAt image p)) unusable) q
+    place-unfit h q = place-in h ∙ ap (λ (b : Bool). cond b (chosen (apply (countShared ss s t) (entryAt image p))) unusable) q
 
-    pub place-fits : p < countOf image → fits (entryAt image p .rule) f i ≡ true → choiceBy image ss s t f i ≡ chosen (applyAt image p)
-    place-fits h q = place-in h ∙ ap (λ (b : Bool). cond b (chosen (applyAt image p)) unusable) q
+    pub place-fits : p < countOf image → fits (entryAt image p .rule) f i ≡ true → choiceBy image ss s t f i ≡ chosen (apply (countShared ss s t) (entryAt image p))
+    place-fits h q = place-in h ∙ ap (λ (b : Bool). cond b (chosen (apply (countShared ss s t) (entryAt image p))) unusable) q
 
 -- ---- the loop of reading, `Going`, with these choices
 
 -- reading goes on past the target of a rule that is looked up
-lookup-past-target : (t : Entry → Bool) (rs : List Entry) → Targets rs → (o : Option ℕ) (i : ℕ) (a : Application) → lookup t rs o ≡ chosen a → i < past i a
-lookup-past-target t rs h none i a e = let z : _≡_ {A = ℕ} 0 1 = cc in absurd (omega arith)
-lookup-past-target t rs h (some p) i a e =
+lookup-past-target : (t : Entry → Bool) (n : ℕ) (rs : List Entry) → Targets rs → (o : Option ℕ) (i : ℕ) (a : Application) → lookup t n rs o ≡ chosen a → i < past i a
+lookup-past-target t n rs h none i a e = let z : _≡_ {A = ℕ} 0 1 = cc in absurd (omega arith)
+lookup-past-target t n rs h (some p) i a e =
     go (decLe (length rs) p)
   where
     on : getD rs p noEntry ≡ a .entry → p < length rs → i < past i a
     on q l = let g : 0 < length (a .entry .rule .target) = subst (λ (y : Entry). 0 < length (y .rule .target)) q (h p l) in omega arith
 
     go : Dec (length rs ≤ p) → i < past i a
-    go (yes y) = let x : unusable ≡ chosen a = sym (lookup-past t rs p y) ∙ e in let z : _≡_ {A = ℕ} 0 1 = cc in absurd (omega arith)
+    go (yes y) = let x : unusable ≡ chosen a = sym (lookup-past t n rs p y) ∙ e in let z : _≡_ {A = ℕ} 0 1 = cc in absurd (omega arith)
     go (no y) =
         byBool (t (getD rs p noEntry))
-        (λ b. let x : chosen (apply (getD rs p noEntry)) ≡ chosen a = sym (lookup-in t rs p (omega arith) ∙ rw b) ∙ e in
+        (λ b. let x : chosen (apply n (getD rs p noEntry)) ≡ chosen a = sym (lookup-in t n rs p (omega arith) ∙ rw b) ∙ e in
         let q : getD rs p noEntry ≡ a .entry = cc in on q (omega arith))
-        (λ b. let x : unusable ≡ chosen a = sym (lookup-in t rs p (omega arith) ∙ rw b) ∙ e in let z : _≡_ {A = ℕ} 0 1 = cc in absurd (omega arith))
+        (λ b. let x : unusable ≡ chosen a = sym (lookup-in t n rs p (omega arith) ∙ rw b) ∙ e in let z : _≡_ {A = ℕ} 0 1 = cc in absurd (omega arith))
 
 module _ (image ss : List ℕ) (base : ℕ) (left right f : List ℕ) where
   abbrev choose : ℕ → Choice
@@ -109,20 +109,20 @@ module _ (image ss : List ℕ) (base : ℕ) (left right f : List ℕ) (ok : vali
 
   ahead : (i : ℕ) (a : Application) → made i ≡ chosen a → i < past i a
   unfolding choiceBy
-  ahead i a e = lookup-past-target (λ q. fits (q .rule) f i) (entriesOf image) (valid-targets image ok) (lowestShared ss (setSize * getD left i 0) (base + setSize * getD right i 0)) i a e
+  ahead i a e = lookup-past-target (λ q. fits (q .rule) f i) _ (entriesOf image) (valid-targets image ok) (lowestShared ss (setSize * getD left i 0) (base + setSize * getD right i 0)) i a e
 
   pub begin : (places : List ℕ) → length f - 2 ≤ length places → Read places 0 1
   begin = going-begin made (length f - 2) ahead (applyAt image) (countOf image)
 
   module _ (places : List ℕ) (count i : ℕ) (g : Read places count i) where
     module _ (h : i ≤ length f - 2) where
-      pub next : (p : ℕ) → made i ≡ chosen (applyAt image p) → p < countOf image → (l : ℕ) → l ≡ length (entryAt image p .rule .target) → 1 ≤ l → l ≤ maxTarget
-          → Read (set places count p) (count + 1) (i + l)
-      next = going-next made (length f - 2) ahead (applyAt image) (countOf image) places count i g h
+      pub next : (p n : ℕ) → made i ≡ chosen (apply n (entryAt image p)) → p < countOf image → (x : ℕ) → x ≡ partOf p n → (l : ℕ) → l ≡ length (entryAt image p .rule .target) → 1 ≤ l → l ≤ maxTarget
+          → Read (set places count x) (count + 1) (i + l)
+      next p n e u x is = going-part made (length f - 2) ahead image ok places count i g h p n e u x is
 
       -- no rule is chosen
-      pub declines : (x : Chosen) → choiceOf image x ≡ made i → ((p : ℕ) → x ≡ Rule p → ⊥) → ReadBy image made (length f - 2) places (endingAt x i)
-      declines (Rule p) e other = absurd (other p refl)
+      pub declines : (x : Chosen) → choiceOf image x ≡ made i → ((p n : ℕ) → x ≡ Rule p n → ⊥) → ReadBy image made (length f - 2) places (endingAt x i)
+      declines (Rule p n) e other = absurd (other p n refl)
       declines Nothing e other = read-none image made (length f - 2) ahead places count i g h (sym e)
       declines Unusable e other = read-unusable image made (length f - 2) ahead places count i g h (sym e)
 

@@ -5,6 +5,7 @@ use native.Mathlib.Omega.{arith}
 use mathlib.Core.Path.{_≡_, refl, sym, ap, ap₂, _∙_, subst}
 use mathlib.Core.Bool.{Bool, true, false, cond, _&&_}
 use mathlib.Core.List.{List, [], _∷_, reverse}
+use mathlib.Core.Option.{Option}
 use lib.Dec.{ltb, leb}
 use lib.ListN.{length, getD, take, drop}
 use lib.Seq.{getD-drop}
@@ -23,12 +24,12 @@ use Rattle.reading.specs.declared.Reached.the-variants.{Rules, Uncovered, BadTa
 use Rattle.reading.proofs.Loop.{after-none}
 use Rattle.tables.specs.Tables.{Table}
 use Rattle.tables.specs.Words.{headWords, setSize, rightRows, rightSets, neededWords, neededSets, tableAt, Compiled, leftOf, rightOf}
-use Rattle.tables.specs.Walk.{Step as State, step, pass, from, allBelow, lookup, lowest, places, leftAt, rightAt, walkUsable, walkChoice, walkSteps, walk, lengthsFit, allWords, sumWords, usable, stepsIn, walkWord, allUsable, stepsOver, walkThrough, walkedAs}
+use Rattle.tables.specs.Walk.{Step as State, step, pass, from, allBelow, lookup, lowest, howMany, places, leftAt, rightAt, walkUsable, walkChoice, walkSteps, walk, lengthsFit, allWords, sumWords, usable, stepsIn, walkWord, allUsable, stepsOver, walkThrough, walkedAs}
 use Rattle.tables.proofs.Truth.{clash}
-use Rattle.tables.proofs.Sets.{choice-tables}
+use Rattle.tables.proofs.SetWords.{choice-tables, shared-tables}
 use Rattle.tables.proofs.Theorem.{delivered-steps}
 use Rattle.walk.specs.Passes.{rowsAt, leftOn, rightOn, Passed, leftRowsOf, rightRowsOf, Both, Memory, passable, stepsOn, AllPassed}
-use Rattle.walk.specs.Letters.{lowestShared, choiceBy, choicesBy, Held, Tells, NameRead}
+use Rattle.walk.specs.Letters.{lowestShared, countShared, choiceBy, choicesBy, Held, Tells, NameRead}
 use Rattle.walk.specs.Walked.{walkedOf, compiledWith, stepsWith, Fit, FitsAs}
 use Rattle.walk.specs.declared.passes.Pass.{Pass}
 use Rattle.walk.specs.declared.WalkAnswer.{WalkAnswer}
@@ -135,10 +136,12 @@ module _ (ws ss : List ℕ) (l r : ℕ) (f : List ℕ) (n : ℕ) where
       let x : getD left i 0 ≡ leftAt tl tr f n i .state = a ∙ ap (λ (s : State). s .state) (left-same i) in
       let y : getD right i 0 ≡ rightAt tl tr f n i .state = b ∙ ap (λ (s : State). s .state) (right-same i) in
       let z : setSize * getD left i 0 ≡ 0 + setSize * getD left i 0 = omega arith in
-      ap (lookup (λ q. fits (q .rule) f i) (entriesOf image))
-      (ap (λ (k : ℕ). lowestShared ss k (rightSets l + setSize * getD right i 0)) z
-      ∙ (sym (choice-tables ws ws ss headWords 0 l (rightRows l) (rightSets l) r (getD left i 0) (getD right i 0))
-      ∙ ap₂ (λ (q t : ℕ). lowest (λ k. tl .holds q k && tr .holds t k) places) x y))
+      ap (λ (k : ℕ). lookup (λ e. fits (e .rule) f i) (countShared ss k (rightSets l + setSize * getD right i 0)) (entriesOf image) (lowestShared ss k (rightSets l + setSize * getD right i 0))) z
+      ∙ (sym (ap₂ (λ (n : ℕ) (o : Option ℕ). lookup (λ e. fits (e .rule) f i) n (entriesOf image) o)
+      (shared-tables ws ws ss headWords 0 l (rightRows l) (rightSets l) r (getD left i 0) (getD right i 0))
+      (choice-tables ws ws ss headWords 0 l (rightRows l) (rightSets l) r (getD left i 0) (getD right i 0)))
+      ∙ ap₂
+      (λ (q t : ℕ). lookup (λ e. fits (e .rule) f i) (howMany (λ k. tl .holds q k && tr .holds t k) places) (entriesOf image) (lowest (λ k. tl .holds q k && tr .holds t k) places)) x y)
 
 -- ---- all words
 

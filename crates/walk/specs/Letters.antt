@@ -5,17 +5,18 @@ use mathlib.Core.Path.{_≡_}
 use mathlib.Core.List.{List, [], _++_}
 use mathlib.Core.Option.{Option, none, some}
 use lib.ListN.{length, getD, take, drop, set}
-use Rattle.image.specs.Image.{countOf, entriesOf}
+use Rattle.rules.specs.Limits.{maxRules}
+use Rattle.image.specs.Image.{countOf, entriesOf, entryAt}
 use Rattle.exceptions.specs.Judging.{saysOf}
 use Rattle.reading.specs.Fitting.{Str, frame, fits}
-use Rattle.reading.specs.Reading.{Choice, chosen, nothing, unusable, Reading, readFrom}
+use Rattle.reading.specs.Reading.{apply, Choice, chosen, nothing, unusable, Reading, readFrom}
 use Rattle.reading.specs.Words.{wordsIn, readWords, wordAt, Starts}
-use Rattle.reading.specs.Places.{applyAt, frameSize, FoundFor, endedIn, ReadBy, ReadOn}
+use Rattle.reading.specs.Places.{frameSize, FoundFor, endedIn, ReadBy, ReadOn}
 use Rattle.reading.specs.declared.Reached.{Reached}
 use Rattle.reading.specs.declared.Reached.the-variants.{Rules, Uncovered, BadTables}
 use Rattle.tables.specs.Words.{setSize}
 use Rattle.tables.specs.Walk.{lookup}
-use Rattle.tables.specs.Lowest.{lowestFrom, meetWord}
+use Rattle.tables.specs.SetWords.{lowestFrom, onesFrom, meetWord}
 use Rattle.walk.specs.declared.letters.Found.{Found}
 use Rattle.walk.specs.declared.letters.Found.the-variants.{Place, Empty}
 use Rattle.walk.specs.declared.letters.Chosen.{Chosen}
@@ -30,23 +31,27 @@ foundOf (some p) = Place p
 abbrev pub lowestShared : List ℕ → ℕ → ℕ → Option ℕ
 lowestShared ss s t = lowestFrom (meetWord ss s t) 0 setSize
 
+-- how many places they share
+abbrev pub countShared : List ℕ → ℕ → ℕ → ℕ
+countShared ss s t = onesFrom (meetWord ss s t) 0 setSize
+
 -- the choice at position i of the frame f by these two sets
 unfoldable pub choiceBy : List ℕ → List ℕ → ℕ → ℕ → List ℕ → ℕ → Choice
-choiceBy image ss s t f i = lookup (λ e. fits (e .rule) f i) (entriesOf image) (lowestShared ss s t)
+choiceBy image ss s t f i = lookup (λ e. fits (e .rule) f i) (countShared ss s t) (entriesOf image) (lowestShared ss s t)
 
 -- what the answer `Chosen` says
 abbrev pub choiceOf : List ℕ → Chosen → Choice
-choiceOf image (Rule p) = chosen (applyAt image p)
+choiceOf image (Rule p n) = chosen (apply n (entryAt image p))
 choiceOf image Nothing = nothing
 choiceOf image Unusable = unusable
 
 pub record Chooses (image : List ℕ) (choice : Choice) (r : Chosen) : Type 0 where
   pub is : choiceOf image r ≡ choice
-  pub inside : (p : ℕ) → r ≡ Rule p → p < countOf image
+  pub inside : (p n : ℕ) → r ≡ Rule p n → (p < countOf image) × (n ≤ maxRules)
 
 -- how reading ends at position i where no rule is chosen
 abbrev pub endingAt : Chosen → ℕ → Reached
-endingAt (Rule p) i = Uncovered i
+endingAt (Rule p n) i = Uncovered i
 endingAt Nothing i = Uncovered i
 endingAt Unusable i = BadTables
 
@@ -70,7 +75,7 @@ suffix b l = take (length l - b) (drop b l)
 abbrev pub between : ℕ → ℕ → List ℕ → List ℕ
 between b e l = take (e - b) (drop b l)
 
--- the rules applied to the letters of a word that follows b bytes, their places laid after `count` parts
+-- the rules applied to the letters of a word that follows b bytes, laid after `count` parts
 pub record LettersRead (image : List ℕ) (choose : ℕ → Choice) (n count b : ℕ) (before after : List ℕ) (r : Reached) : Type 0 where
   pub places : List ℕ
   pub laid : after ≡ take count before ++ places

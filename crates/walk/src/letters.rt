@@ -4,12 +4,13 @@ ghost use mathlib.Core.Path.{_≡_};
 ghost use mathlib.Core.Bool.{true};
 ghost use Prim.Native.Nat.{_+_, _-_, _*_, _<_, _≤_};
 ghost use lib.ListN.{length};
+ghost use Rattle.rules.specs.Limits.{maxRules};
 ghost use Rattle.rules.specs.Names.{SoundName};
 ghost use Rattle.image.specs.Image.{countOf, valid};
 ghost use Rattle.reading.specs.Words.{frameOf};
 ghost use Rattle.reading.specs.Places.{frameSize, ReadBy};
 ghost use Rattle.tables.specs.Words.{setSize};
-ghost use Rattle.walk.specs.Letters.{foundOf, lowestShared, choiceBy, Chooses, endingAt, choicesBy, Bounded, suffix, between, WordRead, Held, NameRead};
+ghost use Rattle.walk.specs.Letters.{foundOf, lowestShared, countShared, choiceBy, Chooses, endingAt, choicesBy, Bounded, suffix, between, WordRead, Held, NameRead};
 
 // The lowest place that two sets share.
 pub enum Found {
@@ -34,9 +35,24 @@ fn lowest_place(sets: &[u64], s: usize, t: usize) -> Found
     Found::Empty
 }
 
-// What is found at a reached letter: the place of the rule to apply, no place, or tables that are unusable.
+// How many places two sets share: the ones of the eight words in which the sets from `s` and from `t` on meet.
+fn count_shared(sets: &[u64], s: usize, t: usize) -> usize
+    requires { ⌜ (s + setSize ≤ length (now sets)) × (t + setSize ≤ length (now sets)) ⌝ }
+    ensures { λ r. ⌜ (r ≡ countShared (now (sets .entry)) s t) × (r ≤ maxRules) ⌝ }
+{
+    let mut count: usize = 0;
+    let mut j: usize = 0;
+    while j < tables::SET {
+        let x = sets[s + j] & sets[t + j];
+        count += u64::count_ones(x) as usize;
+        j += 1;
+    }
+    count
+}
+
+// What is found at a reached letter: the place of the rule to apply and how many places there are, no place, or tables that are unusable.
 pub enum Chosen {
-    Rule(usize),
+    Rule { place: usize, fitting: usize },
     Nothing,
     Unusable,
 }
@@ -64,7 +80,10 @@ fn choose(
     if !reading::fits_at(image, place, frame, i) {
         return Chosen::Unusable;
     }
-    Chosen::Rule(place)
+    Chosen::Rule {
+        place,
+        fitting: count_shared(sets, s, t),
+    }
 }
 
 // How reading ends where no rule is chosen.
@@ -72,7 +91,10 @@ fn ending_at(choice: Chosen, i: usize) -> Reached
     ensures { λ r. ⌜ r ≡ endingAt choice i ⌝ }
 {
     match choice {
-        Chosen::Rule(_) => Reached::Uncovered(i),
+        Chosen::Rule {
+            place: _,
+            fitting: _,
+        } => Reached::Uncovered(i),
         Chosen::Nothing => Reached::Uncovered(i),
         Chosen::Unusable => Reached::BadTables,
     }
@@ -86,10 +108,10 @@ pub fn read_letters(
     frame: &[u8],
     left: &[u16],
     right: &[u16],
-    places: &mut [u16],
+    parts: &mut [u32],
 ) -> Reached
-    requires { ⌜ (valid (now image) ≡ true) × (2 ≤ length (now frame)) × (length (now frame) ≤ frameSize) × Bounded (length (now sets)) «right_sets» (length (now frame) - 2) (now left) (now right) × (length (now frame) - 2 ≤ length (now places)) ⌝ }
-    ensures { λ r. ⌜ ReadBy (now (image .entry)) (choicesBy (now (image .entry)) (now (sets .entry)) «right_sets» (now (left .entry)) (now (right .entry)) (now (frame .entry))) (length (now (frame .entry)) - 2) (now (places .exit)) r ⌝ }
+    requires { ⌜ (valid (now image) ≡ true) × (2 ≤ length (now frame)) × (length (now frame) ≤ frameSize) × Bounded (length (now sets)) «right_sets» (length (now frame) - 2) (now left) (now right) × (length (now frame) - 2 ≤ length (now parts)) ⌝ }
+    ensures { λ r. ⌜ ReadBy (now (image .entry)) (choicesBy (now (image .entry)) (now (sets .entry)) «right_sets» (now (left .entry)) (now (right .entry)) (now (frame .entry))) (length (now (frame .entry)) - 2) (now (parts .exit)) r ⌝ }
 {
     let rules = image::rule_count(image);
     let end = frame.len() - 1;
@@ -99,10 +121,10 @@ pub fn read_letters(
         let s = tables::SET * numbers::wide16(left[i]);
         let t = right_sets + tables::SET * numbers::wide16(right[i]);
         let choice = choose(sets, s, t, image, rules, frame, i);
-        let Chosen::Rule(place) = choice else {
+        let Chosen::Rule { place, fitting } = choice else {
             return ending_at(choice, i);
         };
-        places[count] = place as u16;
+        parts[count] = reading::delivery::part_of(place, fitting);
         count += 1;
         i += reading::target_len_at(image, place);
     }
@@ -120,14 +142,14 @@ fn read_word(
     end: usize,
     left: &[u16],
     right: &[u16],
-    parts: &mut [u16],
+    parts: &mut [u32],
     count: usize,
 ) -> Reached
     requires { ⌜ (valid (now image) ≡ true) × (from < end) × (end + 1 ≤ length (now frame)) × (length (now frame) ≤ frameSize) × (part ≡ 0 → Bounded (length (now sets)) «right_sets» (length (between from (end + 1) (now frame)) - 2) (suffix from (now left)) (suffix from (now right))) × (length (now left) ≡ frameSize) × (length (now right) ≡ frameSize) × (length (now parts) ≡ frameSize) × (count ≤ from) ⌝ }
     ensures { λ r. ⌜ WordRead (now (image .entry)) (choicesBy (now (image .entry)) (now (sets .entry)) «right_sets» (suffix from (now (left .entry))) (suffix from (now (right .entry))) (between from (end + 1) (now (frame .entry)))) (length (between from (end + 1) (now (frame .entry))) - 2) count from part (now (parts .entry)) (now (parts .exit)) r ⌝ }
 {
     if part != 0 {
-        parts[count] = part;
+        parts[count] = part as u32;
         return Reached::Rules(count + 1);
     }
     let read = read_letters(
@@ -152,7 +174,7 @@ pub fn read_words(
     found: &[u16],
     left: &[u16],
     right: &[u16],
-    parts: &mut [u16],
+    parts: &mut [u32],
 ) -> Reached
     requires { ⌜ (valid (now image) ≡ true) × SoundName (now name) × (now frame ≡ frameOf (now name)) × (length (now found) ≡ frameSize) × (length (now left) ≡ frameSize) × (length (now right) ≡ frameSize) × Held (length (now sets)) «right_sets» (now name) (now found) (now left) (now right) × (length (now parts) ≡ frameSize) ⌝ }
     ensures sized { λ r. ⌜ length (now (parts .exit)) ≡ frameSize ⌝ }

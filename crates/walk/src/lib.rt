@@ -88,7 +88,7 @@ fn walk_frame<'a>(
     if !passes.usable {
         return at_once(Refusal::BadTables(0));
     }
-    let mut parts = [0u16; reading::MAX_FRAME];
+    let mut parts = [0u32; reading::MAX_FRAME];
     let reached = letters::read_words(
         sets,
         right_base(fit, left_states),
@@ -107,11 +107,13 @@ fn walk_frame<'a>(
         Speech::Spoken {
             phones: p,
             numbers: n,
+            contested: c,
         } => WalkAnswer {
             steps,
             speech: Speech::Spoken {
                 phones: p,
                 numbers: n,
+                contested: c,
             },
         },
         Speech::Refused(x) => WalkAnswer {

@@ -5,8 +5,8 @@ use Prim.Native.Nat.{_-_, _≤_}
 use native.Mathlib.Omega.{arith}
 use borrow.Author.Needs.{needs}
 use lib.Count.{trailing-le}
-use Rattle.tables.specs.Lowest.{lowestFrom, meetWord}
-use Rattle.tables.proofs.Sets.{from-found, from-next, from-end}
+use Rattle.tables.specs.SetWords.{lowestFrom, meetWord}
+use Rattle.tables.proofs.SetWords.{from-found, from-next, from-end}
 use Rattle.walk.specs.Letters.{foundOf}
 use Rattle.walk.proofs.letters.lowest_place.Statement.{statement}
 use Rattle.walk.proofs.letters.lowest_place.Tie as tie

@@ -20,13 +20,13 @@ use Rattle.walk.proofs.letters.read_letters.Statement.{statement}
 use Rattle.walk.proofs.letters.read_letters.Tie as tie
 
 abbrev Inv-loop : tie.InvT-loop
-Inv-loop sets right-sets image frame left right places₀ rules end count₀ i₀ places count i = Gone image sets right-sets left right frame places count i × (length places ≡ length places₀)
+Inv-loop sets right-sets image frame left right parts₀ rules end count₀ i₀ parts count i = Gone image sets right-sets left right frame parts count i × (length parts ≡ length parts₀)
 
 abbrev μ-loop : tie.MeasureT-loop
-μ-loop sets right-sets image frame left right places₀ rules end count₀ i₀ places count i = (length frame + 5) - i
+μ-loop sets right-sets image frame left right parts₀ rules end count₀ i₀ parts count i = (length frame + 5) - i
 
-not-rule : (x : Chosen) → ((tagOf the-type x ≡ 1) ⊎ (tagOf the-type x ≡ 2)) → (p : ℕ) → x ≡ Rule p → ⊥
-not-rule x k p e =
+not-rule : (x : Chosen) → ((tagOf the-type x ≡ 1) ⊎ (tagOf the-type x ≡ 2)) → (p n : ℕ) → x ≡ Rule p n → ⊥
+not-rule x k p n e =
     let z : tagOf the-type x ≡ 0 = ap (tagOf the-type) e in
     ⊎-elim (λ w. omega arith) (λ w. omega arith) k
 
@@ -39,7 +39,7 @@ sub-end c = omega arith
 loop-holds : tie.Need-loop-holds Inv-loop μ-loop
 loop-holds c =
     let a = c .before .before .before .before .before .before .before .args in
-    (begin (a .image .now) (a .sets .now) (a .right-sets) (a .left .now) (a .right .now) (a .frame .now) (c .before .before .before .before .before .before .before .pre .0) (a .places .now) (c .before .before .before .before .before .before .before .pre .4), refl)
+    (begin (a .image .now) (a .sets .now) (a .right-sets) (a .left .now) (a .right .now) (a .frame .now) (c .before .before .before .before .before .before .before .pre .0) (a .parts .now) (c .before .before .before .before .before .before .before .pre .4), refl)
 
 mul-wide16 : tie.Need-mul-wide16 Inv-loop μ-loop
 mul-wide16 c = omega arith
@@ -87,42 +87,44 @@ returns : tie.Need-returns Inv-loop μ-loop
 returns c =
     let a = c .before .before .before .before .before .before .before .before .before .before .before .before .before .before .before .before .args in
     let k = c .before .before .before .before .before .before .before .before .loop in
-    subst (λ (x : Reached). ReadBy (a .image .now) (choicesBy (a .image .now) (a .sets .now) (a .right-sets) (a .left .now) (a .right .now) (a .frame .now)) (length (a .frame .now) - 2) (k .places) x) (sym (c .ending-at .ensures))
-    (declines (a .image .now) (a .sets .now) (a .right-sets) (a .left .now) (a .right .now) (a .frame .now) (c .before .before .before .before .before .before .before .before .before .before .before .before .before .before .before .before .pre .0) (k .places) (k .count) (k .i) (k .inv .0) (omega arith)
+    subst (λ (x : Reached). ReadBy (a .image .now) (choicesBy (a .image .now) (a .sets .now) (a .right-sets) (a .left .now) (a .right .now) (a .frame .now)) (length (a .frame .now) - 2) (k .parts) x) (sym (c .ending-at .ensures))
+    (declines (a .image .now) (a .sets .now) (a .right-sets) (a .left .now) (a .right .now) (a .frame .now) (c .before .before .before .before .before .before .before .before .before .before .before .before .before .before .before .before .pre .0) (k .parts) (k .count) (k .i) (k .inv .0) (omega arith)
     (c .before .before .choose .result) (c .before .before .choose .ensures .is ∙ ap₂ (λ (x y : ℕ). choiceBy (a .image .now) (a .sets .now) (setSize * x) (a .right-sets + setSize * y) (a .frame .now) (k .i)) (c .before .before .before .before .before .wide16 .ensures .0) (c .before .before .before .wide162 .ensures .0))
     (not-rule (c .before .before .choose .result) (c .before .match .keys2)))
 
-cast-places : tie.Need-cast-places Inv-loop μ-loop
-cast-places c = omega (arith, c .before .before .before .choose .ensures .inside _ (c .before .choice .given .1), valid-count (c .before .before .before .before .before .before .before .before .before .before .before .before .before .before .before .before .before .args .image .now) (c .before .before .before .before .before .before .before .before .before .before .before .before .before .before .before .before .before .pre .0))
+part-of-requires : tie.Need-part-of-requires Inv-loop μ-loop
+part-of-requires c κs =
+    let h = c .before .before .before .choose .ensures .inside _ _ (c .before .choice .given .1) in
+    (omega (arith, h .0, valid-count (c .before .before .before .before .before .before .before .before .before .before .before .before .before .before .before .before .before .args .image .now) (c .before .before .before .before .before .before .before .before .before .before .before .before .before .before .before .before .before .pre .0)), omega (arith, h .1))
 
-mul-places : tie.Need-mul-places Inv-loop μ-loop
-mul-places c = omega (arith, c .before .before .before .before .before .before .before .before .before .loop .inv .0 .behind)
+mul-parts : tie.Need-mul-parts Inv-loop μ-loop
+mul-parts c = omega (arith, c .before .before .before .before .before .before .before .before .before .before .loop .inv .0 .behind)
 
-slice-write-places : tie.Need-slice-write-places Inv-loop μ-loop
-slice-write-places c = omega (arith, c .before .before .before .before .before .before .before .before .before .loop .inv .0 .behind, c .before .before .before .before .before .before .before .before .before .loop .inv .0 .room)
+slice-write-parts : tie.Need-slice-write-parts Inv-loop μ-loop
+slice-write-parts c = omega (arith, c .before .before .before .before .before .before .before .before .before .before .loop .inv .0 .behind, c .before .before .before .before .before .before .before .before .before .before .loop .inv .0 .room)
 
 add-count : tie.Need-add-count Inv-loop μ-loop
-add-count c = omega (arith, c .before .before .before .before .before .before .before .before .before .loop .inv .0 .behind)
+add-count c = omega (arith, c .before .before .before .before .before .before .before .before .before .before .loop .inv .0 .behind)
 
 target-len-at-requires : tie.Need-target-len-at-requires Inv-loop μ-loop
-target-len-at-requires c κs = (c .before .before .before .before .before .before .before .before .before .before .before .before .before .before .before .before .before .pre .0, c .before .before .before .choose .ensures .inside _ (c .before .choice .given .1))
+target-len-at-requires c κs = (c .before .before .before .before .before .before .before .before .before .before .before .before .before .before .before .before .before .before .pre .0, c .before .before .before .before .choose .ensures .inside _ _ (c .before .before .choice .given .1) .0)
 
 add-i : tie.Need-add-i Inv-loop μ-loop
 add-i c = omega (arith, c .target-len-at .ensures .1 .1)
 
 loop-less : tie.Need-loop-less Inv-loop μ-loop
-loop-less c = omega (arith, c .target-len-at .ensures .1 .0, c .before .before .before .before .before .before .before .before .before .before .loop .inv .0 .near)
+loop-less c = omega (arith, c .target-len-at .ensures .1 .0, c .before .before .before .before .before .before .before .before .before .before .before .loop .inv .0 .near)
 
 loop-again : tie.Need-loop-again Inv-loop μ-loop
 loop-again c =
-    let a = c .before .before .before .before .before .before .before .before .before .before .before .before .before .before .before .before .before .before .args in
-    let k = c .before .before .before .before .before .before .before .before .before .before .loop in
+    let a = c .before .before .before .before .before .before .before .before .before .before .before .before .before .before .before .before .before .before .before .args in
+    let k = c .before .before .before .before .before .before .before .before .before .before .before .loop in
     let t = c .target-len-at in (
-      next (a .image .now) (a .sets .now) (a .right-sets) (a .left .now) (a .right .now) (a .frame .now) (c .before .before .before .before .before .before .before .before .before .before .before .before .before .before .before .before .before .before .pre .0) (k .places) (k .count) (k .i) (k .inv .0) (omega arith)
-          (c .before .before .choice .given .0 .0)
-          (sym (c .before .before .before .before .choose .ensures .is ∙ ap₂ (λ (x y : ℕ). choiceBy (a .image .now) (a .sets .now) (setSize * x) (a .right-sets + setSize * y) (a .frame .now) (k .i)) (c .before .before .before .before .before .before .before .wide16 .ensures .0) (c .before .before .before .before .before .wide162 .ensures .0)) ∙ ap (choiceOf (a .image .now)) (c .before .before .choice .given .1))
-          (c .before .before .before .before .choose .ensures .inside _ (c .before .before .choice .given .1)) (t .result) (t .ensures .0) (t .ensures .1 .0) (t .ensures .1 .1),
-      length-set (k .places) (k .count) _ ∙ k .inv .1,
+      next (a .image .now) (a .sets .now) (a .right-sets) (a .left .now) (a .right .now) (a .frame .now) (c .before .before .before .before .before .before .before .before .before .before .before .before .before .before .before .before .before .before .before .pre .0) (k .parts) (k .count) (k .i) (k .inv .0) (omega arith)
+          _ _
+          (sym (c .before .before .before .before .before .choose .ensures .is ∙ ap₂ (λ (x y : ℕ). choiceBy (a .image .now) (a .sets .now) (setSize * x) (a .right-sets + setSize * y) (a .frame .now) (k .i)) (c .before .before .before .before .before .before .before .before .wide16 .ensures .0) (c .before .before .before .before .before .before .wide162 .ensures .0)) ∙ ap (choiceOf (a .image .now)) (c .before .before .before .choice .given .1))
+          (c .before .before .before .before .before .choose .ensures .inside _ _ (c .before .before .before .choice .given .1) .0) _ (c .before .part-of .ensures) (t .result) (t .ensures .0) (t .ensures .1 .0) (t .ensures .1 .1),
+      length-set (k .parts) (k .count) _ ∙ k .inv .1,
     )
 
 same-length-2 : tie.Need-same-length-2 Inv-loop μ-loop
@@ -132,7 +134,7 @@ returns-2 : tie.Need-returns-2 Inv-loop μ-loop
 returns-2 c =
     let a = c .before .before .before .before .before .before .before .before .before .args in
     let k = c .before .loop in
-    done (a .image .now) (a .sets .now) (a .right-sets) (a .left .now) (a .right .now) (a .frame .now) (c .before .before .before .before .before .before .before .before .before .pre .0) (k .places) (k .count) (k .i) (k .inv .0) (omega arith)
+    done (a .image .now) (a .sets .now) (a .right-sets) (a .left .now) (a .right .now) (a .frame .now) (c .before .before .before .before .before .before .before .before .before .pre .0) (k .parts) (k .count) (k .i) (k .inv .0) (omega arith)
 
 pub read-letters-spec : {M : Type 1} → statement M
 read-letters-spec =
@@ -157,9 +159,9 @@ read-letters-spec =
     ending-at-requires
     same-length
     returns
-    cast-places
-    mul-places
-    slice-write-places
+    part-of-requires
+    mul-parts
+    slice-write-parts
     add-count
     target-len-at-requires
     add-i

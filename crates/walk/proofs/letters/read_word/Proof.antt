@@ -18,8 +18,8 @@ mul-parts c = search needs
 slice-write-parts : tie.Need-slice-write-parts
 slice-write-parts c = search needs
 
-add-t14 : tie.Need-add-t14
-add-t14 c = search needs
+add-t15 : tie.Need-add-t15
+add-t15 c = search needs
 
 same-length : tie.Need-same-length
 same-length c = search needs
@@ -93,7 +93,7 @@ read-word-spec =
     (tie.spec
     mul-parts
     slice-write-parts
-    add-t14
+    add-t15
     same-length
     returns
     add-read-letters
