@@ -7,13 +7,13 @@ use Rattle.reading.specs.Reading.{plain}
 use Rattle.reading.specs.Words.{wordsIn}
 use Rattle.image.specs.Bits.{bit}
 use Rattle.tables.specs.Words.{pack, builtWords, builtSets}
-use Rattle.tables.specs.Walk.{lowest, places, walk, usable, stepsIn, walkWord, walkThrough}
+use Rattle.tables.specs.Walk.{lowest, howMany, places, walk, usable, stepsIn, walkWord, walkThrough}
 use Rattle.marked.specs.Marked.{answer, questions, answers, severalWords, severalAnswers}
 
 pub marked : map answer questions ≡ answers
-unfolding judgedName wordsIn plain bit pack builtWords builtSets lowest places walk usable stepsIn walkWord walkThrough
+unfolding judgedName wordsIn plain bit pack builtWords builtSets lowest howMany places walk usable stepsIn walkWord walkThrough
 marked = refl
 
 pub several : map answer severalWords ≡ severalAnswers
-unfolding judgedName wordsIn plain bit pack builtWords builtSets lowest places walk usable stepsIn walkWord walkThrough
+unfolding judgedName wordsIn plain bit pack builtWords builtSets lowest howMany places walk usable stepsIn walkWord walkThrough
 several = refl

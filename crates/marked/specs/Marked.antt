@@ -1,4 +1,5 @@
--- The six rules of document 01 and its marked examples M1 to M12, as one list of questions with one list of answers.
+-- The six rules of document 01 and its marked examples M1 to M12, as one list of questions with one list of answers; with how many letters of each
+-- name are contested (document 02, request 4).
 -- Letters: k is 0B, n 0E, e 05, a 01, b 02; 0 is the word boundary #.
 -- Assumes nothing.
 use Prim.Native.Nat.{ℕ, _+_, _*_}
@@ -7,7 +8,7 @@ use lib.ListN.{getD}
 use Rattle.rules.specs.Shape.{Entry}
 use Rattle.exceptions.specs.Judging.{noList}
 use Rattle.reading.specs.Fitting.{Str}
-use Rattle.reading.specs.Speech.{Outcome, speaks, declines, stepsOf, answered, judgedFor, phonesOf, numbersOf, plainWords}
+use Rattle.reading.specs.Speech.{Outcome, speaks, declines, stepsOf, answered, judgedFor, phonesOf, numbersOf, contestedOf, plainWords}
 use Rattle.tables.specs.States.{states}
 use Rattle.tables.specs.Tables.{rightPattern}
 use Rattle.tables.specs.Words.{setSize, rightSets, Compiled, compiledFrom, rightOf, builtWords, builtSets}
@@ -44,9 +45,9 @@ pub data Question : Type 0 where
   -- the first words of the right sets of some states
   firstWords : List ℕ → Question
 
--- phones and rule numbers, or a refusal's number and place
+-- phones, rule numbers and how many letters were contested, or a refusal's number and place
 pub data Result : Type 0 where
-  phones : Str → List ℕ → Result
+  phones : Str → List ℕ → ℕ → Result
   refused : ℕ → ℕ → Result
 
 pub data Answer : Type 0 where
@@ -56,7 +57,7 @@ pub data Answer : Type 0 where
   held : List ℕ → Answer
 
 abbrev resultOf : Outcome → Result
-resultOf (speaks xs steps) = phones (phonesOf xs) (numbersOf xs)
+resultOf (speaks xs steps) = phones (phonesOf xs) (numbersOf xs) (contestedOf xs)
 resultOf (declines n p steps) = refused n p
 
 abbrev byRules : Str → Outcome
@@ -96,15 +97,15 @@ both r n = said r r n
 
 abbrev pub answers : List Answer
 answers =
-    both (phones (0x6e ∷ 0x69 ∷ []) (1 ∷ 6 ∷ 4 ∷ [])) 10
-    ∷ both (phones (0x6b ∷ 0x69 ∷ 0x6e ∷ []) (2 ∷ 4 ∷ 6 ∷ [])) 10
-    ∷ both (phones (0x65 ∷ 0x6b ∷ []) (5 ∷ 2 ∷ 3 ∷ [])) 8
+    both (phones (0x6e ∷ 0x69 ∷ []) (1 ∷ 6 ∷ 4 ∷ []) 2) 10
+    ∷ both (phones (0x6b ∷ 0x69 ∷ 0x6e ∷ []) (2 ∷ 4 ∷ 6 ∷ []) 1) 10
+    ∷ both (phones (0x65 ∷ 0x6b ∷ []) (5 ∷ 2 ∷ 3 ∷ []) 1) 8
     ∷ both (refused 3 2) 8
-    ∷ both (phones [] []) 2
-    ∷ both (phones [] (3 ∷ [])) 4
-    ∷ both (phones (0x69 ∷ []) (4 ∷ 3 ∷ [])) 8
-    ∷ both (phones (0x6e ∷ []) (1 ∷ 6 ∷ [])) 6
-    ∷ both (phones (0x6b ∷ 0x6b ∷ 0x6e ∷ []) (2 ∷ 2 ∷ 6 ∷ [])) 8
+    ∷ both (phones [] [] 0) 2
+    ∷ both (phones [] (3 ∷ []) 1) 4
+    ∷ both (phones (0x69 ∷ []) (4 ∷ 3 ∷ []) 2) 8
+    ∷ both (phones (0x6e ∷ []) (1 ∷ 6 ∷ []) 1) 6
+    ∷ both (phones (0x6b ∷ 0x6b ∷ 0x6e ∷ []) (2 ∷ 2 ∷ 6 ∷ []) 0) 8
     ∷ counted 2 8 ([] ∷ (0x0e ∷ []) ∷ (0x0e ∷ 0x0b ∷ []) ∷ (0x0b ∷ []) ∷ (0 ∷ []) ∷ (0 ∷ 0x05 ∷ []) ∷ (0x05 ∷ []) ∷ (0x05 ∷ 0x05 ∷ []) ∷ [])
     ∷ state 7
     ∷ held (3 ∷ 20 ∷ 24 ∷ [])
@@ -123,8 +124,8 @@ severalWords =
 
 abbrev pub severalAnswers : List Answer
 severalAnswers =
-    both (phones (0x6b ∷ 0x6e ∷ 0x69 ∷ []) (2 ∷ 3 ∷ 1 ∷ 6 ∷ 4 ∷ [])) 16
-    ∷ both (phones (0x6b ∷ 0x6e ∷ []) (2 ∷ 6 ∷ [])) 10
+    both (phones (0x6b ∷ 0x6e ∷ 0x69 ∷ []) (2 ∷ 3 ∷ 1 ∷ 6 ∷ 4 ∷ []) 3) 16
+    ∷ both (phones (0x6b ∷ 0x6e ∷ []) (2 ∷ 6 ∷ []) 0) 10
     ∷ both (refused 3 4) 12
-    ∷ both (phones [] []) 4
+    ∷ both (phones [] [] 0) 4
     ∷ []

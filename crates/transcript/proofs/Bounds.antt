@@ -38,7 +38,7 @@ length-first (suc n) [] = omega arith
 length-first (suc n) (a ∷ l) = omega (arith, length-first n l)
 
 told-short : (t : Told) (steps : ℕ) (phones numbers : List ℕ) → ToldWithin t 256 64 → length (printed (toldBody t steps phones numbers)) ≤ longestLine
-told-short (spoken p n) steps phones numbers w =
+told-short (spoken p n c) steps phones numbers w =
     omega (arith, length-printed (spokenBody steps (take p phones) (take n numbers)), length-spoken steps (take p phones) (take n numbers), length-first p phones, length-first n numbers, w .0, w .1)
 told-short (refused k p) steps phones numbers w = omega (arith, length-printed (refusedBody k p))
 

@@ -21,6 +21,7 @@ use Rattle.reading.specs.Speech.{Outcome, speaks, declines, atOnce, judgedCall,
 use Rattle.reading.specs.declared.Speech.{Speech}
 use Rattle.reading.specs.declared.Speech.the-variants.{Spoken, Refused}
 use Rattle.reading.proofs.Call.{call-refused}
+use Rattle.reading.proofs.Written.{contested-most}
 use Rattle.tables.specs.Words.{compiledFrom}
 use Rattle.tables.specs.Walk.{Walked, walkedAs, walkThrough, walkFor, walkSaid}
 use Rattle.transcript.specs.Answers.{spokenBody, refusedBody, printed, refusalLine, toldBody, walkedLine}
@@ -31,7 +32,7 @@ pub delivered-within : (o : Outcome) (phones numbers : List ℕ) → ToldWithin 
 delivered-within (declines n p steps) phones numbers = tt
 delivered-within (speaks xs steps) phones numbers =
     byBool (leb (length (phonesOf xs)) (length phones))
-    (λ e. rw e (byBool (leb (length (numbersOf xs)) (length numbers)) (λ f. rw f (leb-true _ _ e, leb-true _ _ f)) (λ f. rw f tt)))
+    (λ e. rw e (byBool (leb (length (numbersOf xs)) (length numbers)) (λ f. rw f (leb-true _ _ e, leb-true _ _ f, contested-most xs)) (λ f. rw f tt)))
     (λ e. rw e tt)
 
 pub walk-within : (image : List ℕ) (l : Listing) (words sets letters phones numbers : List ℕ)
@@ -65,8 +66,8 @@ module _ (image words sets : List ℕ) where
 
 -- ---- an answer by cases
 
-module _ (s : Speech) (p n : ℕ) (e : s ≡ Spoken p n) where
-  pub spoken-within : (a b : ℕ) → ToldWithin (toldOf s) a b → (p ≤ a) × (n ≤ b)
+module _ (s : Speech) (p n c : ℕ) (e : s ≡ Spoken p n c) where
+  pub spoken-within : (a b : ℕ) → ToldWithin (toldOf s) a b → (p ≤ a) × (n ≤ b) × (c ≤ n)
   spoken-within a b h = subst (λ (t : Speech). ToldWithin (toldOf t) a b) e h
 
   pub spoken-told : (steps : ℕ) (phones numbers : List ℕ) → printed (spokenBody steps (take p phones) (take n numbers)) ≡ printed (toldBody (toldOf s) steps phones numbers)

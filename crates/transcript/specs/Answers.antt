@@ -37,9 +37,9 @@ printed body = lineOf (framed body)
 abbrev pub refusalLine : Refusal → List ℕ
 refusalLine x = printed (refusedBody (refusalNumber x) (refusalPlace x))
 
--- what is told, with the steps and the lent phones and numbers: of these as many as were given
+-- what is told, with the steps and the lent phones and numbers: of these as many as were given; the contested letters are not printed
 abbrev pub toldBody : Told → ℕ → List ℕ → List ℕ → List ℕ
-toldBody (spoken p n) steps phones numbers = spokenBody steps (take p phones) (take n numbers)
+toldBody (spoken p n c) steps phones numbers = spokenBody steps (take p phones) (take n numbers)
 toldBody (refused number place) steps phones numbers = refusedBody number place
 
 -- the line of a walk

@@ -56,7 +56,7 @@ cut (name letters) = name (take 65 letters)
 abbrev pub nameIn : ℕ → List ℕ → Asked
 nameIn end frame = cond (eqb end 0) unsound (name (take (end - 1) (drop 1 frame)))
 
--- as many phones and numbers as are told are there
+-- as many phones and numbers as are told are there, and no more letters were contested than rules applied
 abbrev pub ToldWithin : Told → ℕ → ℕ → Type 0
-ToldWithin (spoken p n) phones numbers = (p ≤ phones) × (n ≤ numbers)
+ToldWithin (spoken p n c) phones numbers = (p ≤ phones) × (n ≤ numbers) × (c ≤ n)
 ToldWithin (refused number place) phones numbers = Unit {0}

@@ -95,6 +95,7 @@ pub fn answer_line(answer: WalkAnswer, phones: &[u8], numbers: &[u16], out: &mut
         Speech::Spoken {
             phones: p,
             numbers: n,
+            contested: _,
         } => { spoken_line(answer.steps, &phones[..p], &numbers[..n], out) }
         Speech::Refused(x) => refusal_line(x, out),
     }

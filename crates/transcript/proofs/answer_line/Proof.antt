@@ -18,19 +18,19 @@ enum-known-speech c = search needs
 slice-aggregate-spoken-line : tie.Need-slice-aggregate-spoken-line
 slice-aggregate-spoken-line c =
     let a = c .before .before .before .before .before .before .before .args in
-    let w = spoken-within (a .answer .speech) _ _ (c .before .before .speech .given .1) _ _ (c .before .before .before .before .before .before .before .pre .1 .1 .1) in
+    let w = spoken-within (a .answer .speech) _ _ _ (c .before .before .speech .given .1) _ _ (c .before .before .before .before .before .before .before .pre .1 .1 .1) in
     sym (length-take-le (c .before .before .speech .given .0 .0) (a .phones .now) (w .0))
 
 slice-aggregate-spoken-line-2 : tie.Need-slice-aggregate-spoken-line-2
 slice-aggregate-spoken-line-2 c =
     let a = c .before .before .before .before .before .before .before .before .args in
-    let w = spoken-within (a .answer .speech) _ _ (c .before .before .before .speech .given .1) _ _ (c .before .before .before .before .before .before .before .before .pre .1 .1 .1) in
+    let w = spoken-within (a .answer .speech) _ _ _ (c .before .before .before .speech .given .1) _ _ (c .before .before .before .before .before .before .before .before .pre .1 .1 .1) in
     sym (length-take-le (c .before .before .before .speech .given .0 .1 .0) (a .numbers .now) (w .1))
 
 spoken-line-requires : tie.Need-spoken-line-requires
 spoken-line-requires c κs =
     let a = c .before .before .before .before .before .before .before .before .before .args in
-    let w = spoken-within (a .answer .speech) _ _ (c .before .before .before .before .speech .given .1) _ _ (c .before .before .before .before .before .before .before .before .before .pre .1 .1 .1) in
+    let w = spoken-within (a .answer .speech) _ _ _ (c .before .before .before .before .speech .given .1) _ _ (c .before .before .before .before .before .before .before .before .before .pre .1 .1 .1) in
     let h = c .before .before .before .before .before .before .before .before .before .pre in
     let lp = length-take-le (c .before .before .before .before .speech .given .0 .0) (a .phones .now) (w .0) in
     let ln = length-take-le (c .before .before .before .before .speech .given .0 .1 .0) (a .numbers .now) (w .1) in
@@ -48,7 +48,7 @@ same-length c = search needs
 returns : tie.Need-returns
 returns c =
     let a = c .before .before .before .before .before .before .before .before .before .before .before .before .args in
-    let e = spoken-told (a .answer .speech) _ _ (c .before .before .before .before .before .before .before .speech .given .1) (a .answer .steps) (a .phones .now) (a .numbers .now) in
+    let e = spoken-told (a .answer .speech) _ _ _ (c .before .before .before .before .before .before .before .speech .given .1) (a .answer .steps) (a .phones .now) (a .numbers .now) in
     let s = c .before .before .spoken-line in
     (s .ensures .0 ∙ ap length e, s .ensures .1 ∙ ap (λ (l : List ℕ). over l (a .out .now)) e)
 
