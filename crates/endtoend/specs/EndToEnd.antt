@@ -1,5 +1,6 @@
 -- Demand 3 of document 01, as one claim: a list of edits from the empty ruleset, the tables built after it in memory that held anything,
--- and a name of any number of words, read plainly and walked through those tables, with a lent exceptions list (document 02, requests 1 and 3).
+-- and a name of any number of words, read plainly and walked through those tables, with a lent exceptions list (document 02, requests 1, 3
+-- and 4).
 -- Assumes nothing.
 use Prim.Native.Nat.{ℕ, _+_, _*_, _≤_}
 use mathlib.Core.Path.{_≡_}
@@ -21,21 +22,21 @@ use Rattle.reading.specs.Speech.{Told, spoken, refused, saidOf, Unlisted, Liste
 use Rattle.tables.specs.Words.{wordsFor, setsFor, Built, built}
 use Rattle.tables.specs.Walk.{Walked, walkSaid}
 
--- what a call tells its caller: a refusal's number and place, or its phones and its rule numbers, in order
+-- what a call tells its caller: a refusal's number and place, or its phones and its rule numbers, in order, and how many letters were contested
 pub data Result : Type 0 where
-  phones : List ℕ → List ℕ → Result
+  phones : List ℕ → List ℕ → ℕ → Result
   refusal : ℕ → ℕ → Result
 
 abbrev pub resultAs : Told → List ℕ → List ℕ → Result
-resultAs (spoken p n) ps ns = phones (take p ps) (take n ns)
+resultAs (spoken p n c) ps ns = phones (take p ps) (take n ns) c
 resultAs (refused n p) ps ns = refusal n p
 
 abbrev pub result : Said → Result
 result s = resultAs (s .told) (s .phones) (s .numbers)
 
--- what is told of a name that the list gives the phones p: them and no number, or 4 where there is no room for them
+-- what is told of a name that the list gives the phones p: them, no number and no contested letter, or 4 where there is no room for them
 abbrev pub fromList : Str → ℕ → Result
-fromList p room = cond (leb (length p) room) (phones p []) (refusal 4 (length p))
+fromList p room = cond (leb (length p) room) (phones p [] 0) (refusal 4 (length p))
 
 -- all lent memory as it was, in the order of the function's parameters
 pub record Lent : Type 0 where
@@ -103,7 +104,7 @@ pub record Claim (m : Lent) (g : Given) : Type 0 where
   pub edits : FromEmpty (takenEdits m) (m .image) (m .answers) (m .places) (g .replay)
   -- the tables were built
   pub tables : g .build .reply ≡ accepted
-  -- walk and plain reading are alike, of listed names and all others, and where the lent list is none
+  -- walk and plain reading are alike in phones, rule numbers and contested letters, of listed names and all others, and where the lent list is none
   pub alike : result (g .walk .said) ≡ result (g .plain)
   -- the steps counted for a name that is not on the list are 2 |w| + 2 for each of its words that is not
   pub steps : SoundName (m .name) → Unlisted (listingOf (m .list)) (m .name) → g .walk .steps ≡ stepsFor (unlistedWords m)
