@@ -7,24 +7,30 @@ ghost use mathlib.Core.Path.{_≡_};
 ghost use mathlib.Core.Bool.{true};
 ghost use Rattle.image.specs.Image.{valid};
 
-// What came of a name: SPOKEN with so many phones and rules, or a refusal's number with its place.
+// What came of a name: SPOKEN with so many phones, rules and contested letters, or a refusal's number with its place.
 pub struct Came {
     pub code: u8,
     pub place: usize,
     pub phones: usize,
     pub rules: usize,
+    pub contested: usize,
 }
 
 const SPOKEN: u8 = 255;
 
 fn came_of(speech: Speech) -> Came {
     match speech {
-        Speech::Spoken { phones, numbers } => {
+        Speech::Spoken {
+            phones,
+            numbers,
+            contested,
+        } => {
             Came {
                 code: SPOKEN,
                 place: 0,
                 phones,
                 rules: numbers,
+                contested,
             }
         }
         Speech::Refused(x) => {
@@ -33,6 +39,7 @@ fn came_of(speech: Speech) -> Came {
                 place: rules::refusal_place(x),
                 phones: 0,
                 rules: 0,
+                contested: 0,
             }
         }
     }
@@ -103,7 +110,11 @@ fn same_numbers(a: &[u16], b: &[u16]) -> bool {
 }
 
 fn same_came(a: Came, b: Came) -> bool {
-    a.code == b.code && a.place == b.place && a.phones == b.phones && a.rules == b.rules
+    a.code == b.code
+        && a.place == b.place
+        && a.phones == b.phones
+        && a.rules == b.rules
+        && a.contested == b.contested
 }
 
 // What came of a walk, and whether the plain reading gives the same.
