@@ -45,7 +45,8 @@ def spoken(check, what, rs, letters):
         return ref.Spoken(b"", ())
     alone = [ref.plain_reading(rs, word.letters, 256, 64) for word in ref.words_of(letters)]
     check.equal(what + ", word by word", said, ref.Spoken(b"".join(word.phones for word in alone),
-                                                          sum((word.numbers for word in alone), ())))
+                                                          sum((word.numbers for word in alone), ()),
+                                                          sum(word.contested for word in alone)))
     return said
 
 
@@ -56,7 +57,7 @@ def check_names(check, example_name, alphabet):
     for letter in sorted(set(alphabet.letters.values())):
         spoken(check, f"{example_name}: letter {letter:02X} alone", rs, bytes([letter]))
     words, sets = ref.build(rs, ref.SAY_WORDS, ref.SAY_SETS)
-    applied = set()
+    applied, reached, contested = set(), 0, 0
     for line in example_text(example_name + ".names").splitlines():
         name, _, rest = line.partition(";")
         name = name.strip()
@@ -67,8 +68,11 @@ def check_names(check, example_name, alphabet):
         check.equal(name + ", walk", ref.walk(rs, words, sets, letters, 256, 64), (said, 2 * len(letters) + 2))
         check.equal(name, "".join(alphabet.phones[p] for p in said.phones), rest.split(";")[0].strip())
         applied.update(said.numbers)
+        reached += len(said.numbers)
+        contested += said.contested
     states = words[0] + words[1]
-    print(f"{example_name}: {len(rs.rules)} rules, {states} states, {len(words)} words, {len(applied)} rules applied by the names")
+    print(f"{example_name}: {len(rs.rules)} rules, {states} states, {len(words)} words, {len(applied)} rules applied by the names, "
+          f"{contested} of {reached} reached letters contested")
     return rs
 
 

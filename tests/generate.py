@@ -14,6 +14,7 @@ import os
 import random
 import sys
 
+import contested
 import lists
 import reference as ref
 from reference import EMPTY, Numbered, Refusal, Rule, Ruleset, four, frame_line, two
@@ -287,7 +288,7 @@ class Source:
         kind = self.upto(5)
         if kind == 0:
             return self.resummed(line)
-        if kind < 3:
+        if kind < 4:
             count = self.pick([max(0, count - 1), count + 1, 512, 513, 514, 0xFFFF])
         else:
             last = self.pick([0, max(0, last - 1), max(0, count - 1), 0xFFFF])
@@ -386,9 +387,10 @@ class Source:
         held, alphabet = ref.Monitor(rules_hex), self.alphabet()
         lines, answers = [], []
         # Most sessions start with something to speak by.
-        bodies = [b"\x13", b"\x15" + b"\xFF" * 8] if self.chance(0.6) else []
+        bodies = [b"\x13", lists.BUILDING] if self.chance(0.6) else []
         for _ in range(self.upto(length)):
-            line = frame_line(bodies.pop(0) if bodies else self.command(held, alphabet))
+            bodies = bodies or self.commands(held, alphabet)
+            line = frame_line(bodies.pop(0))
             if self.chance(0.04):
                 line = self.line_damage(line)
             elif self.chance(0.005):
@@ -420,6 +422,15 @@ class Source:
             return False
         finally:
             held.count, held.last, held.slots = before
+
+    def commands(self, held, alphabet):
+        """One command, or several that belong together: a name and the count of its contested letters."""
+        if self.chance(0.04):
+            bodies = contested.sharing(self, held, self.name(held.ruleset()))
+            if bodies:
+                return bodies
+        body = self.command(held, alphabet)
+        return [body, lists.ASKING] if body[0] in (0x16, 0x17) and self.chance(0.6) else [body]
 
     def command(self, held, alphabet):
         rs = held.ruleset()
@@ -455,7 +466,7 @@ class Source:
             return self.show_body(words, sets)
         if kind < 0.94:
             return self.force_body(held)
-        return b"\x1F" if kind < 0.96 else self.pick([b"\x13", b"\x1C", b"\x1D"])
+        return b"\x1F" if kind < 0.96 else self.pick([b"\x13", b"\x1C", b"\x1D", lists.ASKING, lists.ASKING + b"\0"])
 
     def edit_body(self, edit):
         kind, *fields = edit
@@ -541,9 +552,13 @@ def long_lines():
     return None, lines, ref.monitor(None, b"".join(lines))
 
 
-def fixed_lists(bodies):
+def conversation(bodies, rules_hex=None):
     lines = [frame_line(body) for body in bodies()]
-    return None, lines, ref.monitor(None, b"".join(lines))
+    return rules_hex, lines, ref.monitor(rules_hex, b"".join(lines))
+
+
+def conversations(fixed):
+    return {name: lambda bodies=bodies: conversation(bodies) for name, bodies in fixed.items()}
 
 
 def short_names():
@@ -552,8 +567,10 @@ def short_names():
     return ref.SIX_FILE, lines, ref.say(ref.SIX_FILE, b"".join(lines))
 
 
-FIXED = {"say": {"short names": short_names}, "monitor": {"long lines": long_lines},
-         "lists": {name: lambda bodies=bodies: fixed_lists(bodies) for name, bodies in lists.FIXED.items()}}
+FIXED = {"say": {"short names": short_names},
+         "monitor": {"long lines": long_lines, **conversations(contested.FIXED),
+                     "many rules": lambda: conversation(contested.many_rules, contested.many_rules_file())},
+         "lists": conversations(lists.FIXED)}
 
 
 def runs(kind, count, seed):

@@ -20,6 +20,9 @@ def adding(rule, place=0):
     return b"\x10" + two(place) + bytes(map(len, rule)) + b"".join(rule)
 
 
+BUILDING = b"\x15" + four(ALL) * 2
+
+
 def listing(name, phones):
     return b"\x20" + bytes([len(name)]) + name + phones
 
@@ -45,6 +48,9 @@ def lending(units=ALL):
 
 def storing(index, value):
     return b"\x26" + four(index) + four(value)
+
+
+ASKING = b"\x27"        # for the count of contested letters
 
 
 def walking(name, phones=256, tables=ALL):
@@ -222,7 +228,7 @@ def session(source):
     # In one of three conversations no rule covers the first letter. The last is silent at a word's end and another phone at its start.
     rules = [ref.Rule(target=bytes([letter]), phones=bytes([0x40 + letter])) for letter in alphabet[source.pick([0, 0, 1]):]]
     rules += [ref.Rule(b"\0", alphabet[-1:], b"", b"\x80"), ref.Rule(b"", alphabet[-1:], b"\0")]
-    bodies = [adding(rule) for rule in rules] + [b"\x15" + four(ALL) * 2]
+    bodies = [adding(rule) for rule in rules] + [BUILDING]
     kind = source.random.random()
     start = many_names(source) if kind < 0.1 else many_states(source) if kind < 0.3 else []
     bodies += [listing(*entry) for entry in start]
@@ -240,6 +246,7 @@ def session(source):
         at = source.random.random()
         if at < 0.06:
             send(speech(source, held, alphabet))
+            send(ASKING)
         elif at < 0.10:
             send(look(source, held))
         elif kind < 0.1 or kind >= 0.3:
@@ -252,6 +259,7 @@ def session(source):
         send(body)
     for name in itertools.islice(held_phones(held), 8):
         send(plainly(name))
+    send(ASKING)
     return lines, answers
 
 
@@ -278,21 +286,21 @@ def every_order(names):
 
 def orders():
     names = [b"\x40" * 65, b"\1" * 65, b"\1\x40\0", b"", KNEE, SPACE, KNEE + SPACE, SPACE * 64]
-    return SIX + every_order(names) + [b"\x15" + four(ALL) * 2] + every_order(names)
+    return SIX + every_order(names) + [BUILDING] + every_order(names)
 
 
-def short_names():
+def short_names(longest=4):
     """Every name of up to four of k, n, e, a and the space bar."""
-    return [bytes(name) for length in range(5) for name in itertools.product(b"\x0B\x0E\5\1" + SPACE, repeat=length)]
+    return [bytes(name) for length in range(longest + 1) for name in itertools.product(b"\x0B\x0E\5\1" + SPACE, repeat=length)]
 
 
 def words():
     """Short names by a list of words and of names with spaces: with tables, without, and with room for few phones. Then names of
     listed words alone about the 256 phones that are lent, up to the most that a name can give."""
     entries = [b"\x0B", b"\x0B\x0E", b"\5", b"\5" + SPACE + b"\x0E", b"\5" + SPACE + b"\5", SPACE + b"\x0B", SPACE * 2, b"\1" + SPACE]
-    bodies = SIX + [b"\x15" + four(ALL) * 2] + [listing(name, b"\x61\x62\x63"[:1 + k % 3]) for k, name in enumerate(entries)]
+    bodies = SIX + [BUILDING] + [listing(name, b"\x61\x62\x63"[:1 + k % 3]) for k, name in enumerate(entries)]
     for k, name in enumerate(short_names()):
-        bodies += [walking(name, (256, 2)[k % 2]), plainly(name, (2, 256)[k % 2]), without_tables(name)]
+        bodies += [walking(name, (256, 2)[k % 2]), plainly(name, (2, 256)[k % 2]), ASKING, without_tables(name), ASKING]
     bodies += [reading_out(), *showing_all(60), EMPTYING, listing(b"\1", b"\xFF" * 64)]
     for count in (4, 5, 32):
         name = SPACE.join([b"\1"] * count)

@@ -73,6 +73,7 @@ class Refusal(NamedTuple):
 class Spoken(NamedTuple):
     phones: bytes
     numbers: tuple
+    contested: int = 0      # reached letters with more than one rule; what is said from the list has none
 
 
 EMPTY = Ruleset()
@@ -314,7 +315,7 @@ def speak_words(name, listed, phone_room, number_room, speak_word):
 
     `speak_word` gives Spoken, or the position in its word that no rule fits.
     """
-    phones, numbers = b"", ()
+    phones, numbers, contested = b"", (), 0
     for word in words_of(name):
         if word.letters in listed.phones:
             phones += listed.phones[word.letters]
@@ -324,7 +325,8 @@ def speak_words(name, listed, phone_room, number_room, speak_word):
             return Refusal(3, word.before + said)
         phones += said.phones
         numbers += said.numbers
-    return room_refusal(phones, numbers, phone_room, number_room) or Spoken(phones, numbers)
+        contested += said.contested
+    return room_refusal(phones, numbers, phone_room, number_room) or Spoken(phones, numbers, contested)
 
 
 def plain_reading(rs, name, phone_room, number_room, listed=NO_EXCEPTIONS):
@@ -336,18 +338,19 @@ def plain_reading(rs, name, phone_room, number_room, listed=NO_EXCEPTIONS):
 
 
 def plain_word(rs, word):
+    """All rules are tried at each reached letter: the first that fits is applied, and how many fit is counted."""
     framed, n, i = word.framed, len(word.letters), 1
-    phones, numbers = b"", []
+    phones, numbers, contested = b"", [], 0
     while i <= n:
-        for number, rule in rs.rules:
-            if fits(rule, framed, i):
-                phones += rule.phones
-                numbers.append(number)
-                i += len(rule.target)
-                break
-        else:
+        fitting = [numbered for numbered in rs.rules if fits(numbered.rule, framed, i)]
+        if not fitting:
             return i
-    return Spoken(phones, tuple(numbers))
+        number, rule = fitting[0]
+        contested += len(fitting) > 1
+        phones += rule.phones
+        numbers.append(number)
+        i += len(rule.target)
+    return Spoken(phones, tuple(numbers), contested)
 
 
 # The ledger ----------------------------------------------------------------
@@ -680,28 +683,26 @@ def both_passes(words, sets, word):
 def walk_word(rs, words, sets, word, passes):
     left_after, right_after, _ = passes
     lefts, n, i = words[0], len(word.letters), 1
-    phones, numbers = b"", []
+    phones, numbers, contested = b"", [], 0
     while i <= n:
-        place = chosen(sets, 8 * left_after[i - 1], 8 * (lefts + right_after[i]))
-        if place is None:
+        places = shared_places(sets, 8 * left_after[i - 1], 8 * (lefts + right_after[i]))
+        if not places:
             return i
+        place = places[0]
         if place >= len(rs.rules) or not fits(rs.rules[place].rule, word.framed, i):
             raise Unusable
         number, rule = rs.rules[place]
+        contested += len(places) > 1
         phones += rule.phones
         numbers.append(number)
         i += len(rule.target)
-    return Spoken(phones, tuple(numbers))
+    return Spoken(phones, tuple(numbers), contested)
 
 
-def chosen(sets, left, right):
-    """The lowest place that both sets hold."""
-    for j in range(8):
-        both = sets[left + j] & sets[right + j]
-        for k in range(64):
-            if both >> k & 1:
-                return 64 * j + k
-    return None
+def shared_places(sets, left, right):
+    """The places that both sets hold, lowest first: all of them, past the list and of rules that do not fit too."""
+    both = [sets[left + j] & sets[right + j] for j in range(8)]
+    return [64 * j + k for j in range(8) for k in range(64) if both[j] >> k & 1]
 
 
 # The programs --------------------------------------------------------------------
@@ -776,6 +777,7 @@ class Monitor:
         self.sets = array("Q", [2**64 - 1]) * MONITOR_SETS
         self.phones = bytearray(b"\xEE" * SAY_PHONES)
         self.numbers = [0xEEEE] * SAY_NUMBERS
+        self.contested = 0              # of the last name spoken
         self.listed = Exceptions()      # None: what was stored is no list
         self.units = LIST_UNITS         # of the list's memory, lent from now on
         self.told = bytearray(b"\xEE" * LONGEST_READ_OUT)
@@ -876,6 +878,7 @@ class Monitor:
     def spoken(self, answer, steps):
         self.phones[:len(answer.phones)] = answer.phones
         self.numbers[:len(answer.numbers)] = answer.numbers
+        self.contested = answer.contested
         return spoken_line(answer, steps)
 
     def store_word(self, index, value):
@@ -956,6 +959,9 @@ class Monitor:
         self.listed = UNKNOWN
         return frame_line(b"\x06")
 
+    def show_contested(self):
+        return frame_line(b"\x0A" + bytes([self.contested]))
+
     # First byte: the call and the sizes of its fixed fields.
     COMMANDS = {
         0x10: (add, 2, 1, 1, 1, 1), 0x11: (drop, 2), 0x12: (move, 2, 2), 0x13: (read,),
@@ -964,7 +970,7 @@ class Monitor:
         0x1B: (show_sets, 4, 1), 0x1C: (show_phones,), 0x1D: (show_numbers,),
         0x1E: (force, 2, 2, 2, 2), 0x1F: (clear,), 0x20: (list_name, 1), 0x21: (unlist_name,),
         0x22: (read_out, 4), 0x23: (show_read_out, 4, 1), 0x24: (clear_list,), 0x25: (lend_units, 4),
-        0x26: (store_unit, 4, 4),
+        0x26: (store_unit, 4, 4), 0x27: (show_contested,),
     }
 
 
@@ -1105,12 +1111,13 @@ def check_reading(check, six):
         uncounted = isinstance(wanted, Refusal) and wanted.number in (0, 1, 2, 16)
         check.equal(what + ", steps", steps, 0 if uncounted else 2 * len(name) + 2)
 
-    for marked, name, phones, numbers in [
-            ("M1", "knee", "6E69", (1, 6, 4)), ("M2", "keen", "6B696E", (2, 4, 6)),
-            ("M3", "eke", "656B", (5, 2, 3)), ("M5", "", "", ()), ("M6", "e", "", (3,)),
-            ("M7", "eee", "69", (4, 3)), ("M8", "kn", "6E", (1, 6)),
-            ("M9", "kkn", "6B6B6E", (2, 2, 6))]:
-        both(marked, letters(name), Spoken(bytes.fromhex(phones), numbers))
+    # Contested are k before n after #, by rules 1 and 2, ee by 4 and 5, and the last e by 3 and 5.
+    for marked, name, phones, numbers, contested in [
+            ("M1", "knee", "6E69", (1, 6, 4), 2), ("M2", "keen", "6B696E", (2, 4, 6), 1),
+            ("M3", "eke", "656B", (5, 2, 3), 1), ("M5", "", "", (), 0), ("M6", "e", "", (3,), 1),
+            ("M7", "eee", "69", (4, 3), 2), ("M8", "kn", "6E", (1, 6), 1),
+            ("M9", "kkn", "6B6B6E", (2, 2, 6), 0)]:
+        both(marked, letters(name), Spoken(bytes.fromhex(phones), numbers, contested))
     both("M4", letters("nab"), Refusal(3, 2))
     both("1: 05 40", b"\x05\x40", Refusal(1, 1))
     both("2: 65 times 05", b"\x05" * 65, Refusal(2, 0))
@@ -1153,28 +1160,28 @@ def check_words(check, six):
 
     for name, parts in [(b"", 1), (b"\x3F", 2), (b"\x3F\x3F", 3), (b"\x3F" * 64, 65), (knee, 1), (b"\x3F" + knee, 2), (knee + b"\x3F", 2)]:
         check.equal(f"words of {name.hex()}", len(words_of(name)), parts)
-    for text, phones, numbers in [
-            ("eke knee", "656B6E69", (5, 2, 3, 1, 6, 4)),       # a silent e before the space, a silent k after it
-            ("e e", "", (3, 3)), ("ee ee", "6969", (4, 4)), ("e kn", "6E", (3, 1, 6)), ("ke n", "6B6E", (2, 3, 6)),
-            ("", "", ()), (" ", "", ()), ("  ", "", ()), (" knee", "6E69", (1, 6, 4)), ("knee ", "6E69", (1, 6, 4)),
-            ("n  n", "6E6E", (6, 6)), (" " * 64, "", ())]:
-        both(f"'{text}'", letters(text), Spoken(bytes.fromhex(phones), numbers), 2 * len(text) + 2)
+    for text, phones, numbers, contested in [
+            ("eke knee", "656B6E69", (5, 2, 3, 1, 6, 4), 3),    # a silent e before the space, a silent k after it
+            ("e e", "", (3, 3), 2), ("ee ee", "6969", (4, 4), 2), ("e kn", "6E", (3, 1, 6), 2), ("ke n", "6B6E", (2, 3, 6), 1),
+            ("", "", (), 0), (" ", "", (), 0), ("  ", "", (), 0), (" knee", "6E69", (1, 6, 4), 2), ("knee ", "6E69", (1, 6, 4), 2),
+            ("n  n", "6E6E", (6, 6), 0), (" " * 64, "", (), 0)]:
+        both(f"'{text}'", letters(text), Spoken(bytes.fromhex(phones), numbers, contested), 2 * len(text) + 2)
     for text, place in [("knee nab", 7), ("nab nab", 2), (" a", 2), ("  nab ", 4), ("n a a", 3)]:
         both(f"3 in '{text}'", letters(text), Refusal(3, place), 2 * len(text) + 2)
     both("4 for the whole name", letters("knee knee"), Refusal(4, 4), 20, (3, 64))
     both("5 for the whole name", letters("knee knee"), Refusal(5, 6), 20, (4, 5))
     both("4 before 5", letters("knee knee"), Refusal(4, 4), 20, (3, 5))
-    both("room for all", letters("knee knee"), Spoken(b"\x6E\x69" * 2, (1, 6, 4) * 2), 20, (4, 6))
+    both("room for all", letters("knee knee"), Spoken(b"\x6E\x69" * 2, (1, 6, 4) * 2, 4), 20, (4, 6))
     both("3 before 4", letters("knee a"), Refusal(3, 6), 14, (0, 0))
     both("2", b"\x3F" * 65, Refusal(2, 0), 0)
     both("1", b"\x3F\x40", Refusal(1, 1), 0)
 
     for text, wanted, steps, room in [
-            ("eke knee eke", Spoken(b"\x65\x6B\1\2\x65\x6B", (5, 2, 3, 5, 2, 3)), 16, 6),
+            ("eke knee eke", Spoken(b"\x65\x6B\1\2\x65\x6B", (5, 2, 3, 5, 2, 3), 2), 16, 6),
             ("knee knee", Spoken(b"\1\2\1\2", ()), 0, 4), ("knee knee", Refusal(4, 4), 0, 3),
             ("eke nab", Spoken(b"\3", ()), 0, 1), ("eke nab", Refusal(4, 1), 0, 0),      # the whole name before its words
             ("knee eke nab", Refusal(3, 11), 16, 9), ("e ", Spoken(b"\4", ()), 0, 9),     # no part of several words is tried
-            ("e  ", Spoken(b"", (3,)), 8, 9), (" knee", Spoken(b"\1\2", ()), 2, 9), ("ab knee", Spoken(b"\5\1\2", ()), 0, 9),
+            ("e  ", Spoken(b"", (3,), 1), 8, 9), (" knee", Spoken(b"\1\2", ()), 2, 9), ("ab knee", Spoken(b"\5\1\2", ()), 0, 9),
             ("nab ab", Refusal(3, 2), 8, 9), ("ab nab", Refusal(3, 5), 8, 9), ("knee n", Refusal(4, 3), 4, 2)]:
         both(f"'{text}' with a list", letters(text), wanted, steps, (room, 64), listed)
     both("5 of unlisted words", letters("knee eke"), Refusal(5, 3), 8, (9, 2), listed)
@@ -1188,6 +1195,42 @@ def check_words(check, six):
     both("16 of a later word's pass before 3", nab + letters(" z"), Refusal(16, 0), 0, tables=(late, sets))
     both("3 where no pass does that", nab + letters(" nz"), Refusal(3, 2), 14, tables=(late, sets))
     both("a listed word makes no pass", letters("ab knee"), Spoken(b"\5\1\2", ()), 0, (9, 9), listed, cut)
+
+
+def check_contested(check, six):
+    """In the walk a letter is contested by the places that its two sets share, whatever the tables are."""
+    words, sets = build(six, 642, 80)
+    inside, after_start = 0, 8          # where the left sets begin: after a letter, after #
+    n, nk = 8 * (2 + 1), 8 * (2 + 2)    # and two right ones, by their strings (M10)
+
+    def counted(what, name, changes, wanted):
+        """`changes` are (the word at which a set begins, a place): that place comes into the set, or leaves it."""
+        altered = sets[:]
+        for start, place in changes:
+            altered[start + place // 64] ^= 1 << place % 64
+        answer, _ = walk(six, words, altered, letters(name), 256, 64)
+        check.equal("contested: " + what, answer.contested if isinstance(answer, Spoken) else answer, wanted)
+
+    counted("by one rule", "n", [], 0)
+    for place in (6, 63, 64, 200, 511):
+        counted(f"place {place}, past the list", "n", [(after_start, place), (n, place)], 1)
+        counted(f"place {place} on one side", "n", [(n, place)], 0)
+    counted("a lower place is chosen, and does not fit", "n", [(n, 4)], Refusal(16, 0))
+    counted("a place alone, past the list", "n", [(n, 5), (after_start, 6), (n, 6)], Refusal(16, 0))
+    counted("no place", "n", [(n, 5)], Refusal(3, 1))
+    counted("three places are one letter", "kn", [(nk, 2)], 1)
+    counted("without rule 2's place", "kn", [(nk, 1)], 0)
+    counted("without rule 1's place", "kn", [(nk, 0)], 0)
+    counted("a place whose rule does not fit", "kkn", [(nk, 5)], 1)
+    counted("rule 1 chosen inside a word", "kkn", [(inside, 0), (nk, 5)], Refusal(16, 0))
+
+    alike = Ruleset(tuple(Numbered(k + 1, SIX_RULES[1]) for k in range(MAX_RULES)), MAX_RULES)
+    far = tuple(Numbered(k + 1, SIX_RULES[1] if k in (60, 500) else SIX_RULES[5]) for k in range(MAX_RULES))
+    for what, rs, name, contested in [("512 rules at every letter", alike, "k" * 64, 64), ("512 rules at one", alike, "k", 1),
+                                      ("rules far apart", Ruleset(far, MAX_RULES), "kk", 2)]:
+        said = plain_reading(rs, letters(name), 256, 64)
+        check.equal("contested: " + what, said.contested, contested)
+        check.equal("contested: " + what + ", walk", walk(rs, *build(rs, MONITOR_WORDS, MONITOR_SETS), letters(name), 256, 64)[0], said)
 
 
 def check_list(check, six):
@@ -1268,7 +1311,7 @@ def check_list(check, six):
     for what, rs, lent, name, room, wanted in [
             ("a listed name", six, listed, knee, 2, Spoken(said, ())),
             ("4", six, listed, knee, 1, Refusal(4, 2)),
-            ("another name", six, listed, knee[:2], 2, Spoken(b"\x6E", (1, 6))),
+            ("another name", six, listed, knee[:2], 2, Spoken(b"\x6E", (1, 6), 1)),
             ("no letters", six, listed, b"", 0, Spoken(b"", ())),
             ("0 before 17", Ruleset((Numbered(7, SIX_RULES[0]),), 6), None, knee, 2, Refusal(0, 0)),
             ("17 before 2", six, None, b"\1" * 65, 2, Refusal(17, 0)),
@@ -1324,19 +1367,28 @@ def check_programs(check, six):
 
     held = Monitor(SIX_FILE)
     for what, body, wanted in [
+            ("none contested yet", "27", "0A00"),
             ("plain, empty ruleset", "1701000040050505", "050300000001"),
             ("walk, unbuilt", "16000802820001001001000040", "08000010" + "00000000"),
+            ("none spoken yet", "27", "0A00"),
             ("read", "13", "060006"),
             ("build", "15000002820000004F", "050C" + "00000050"),
             ("build", "150000028200000050", "0600020008"),
             ("walk", "160000028200000050010000400B0E0505", "04000A00026E6903000100060004"),
+            ("contested in knee", "27", "0A02"),
             ("walk, phones short", "160000028200000050000100400B0E0505", "08000A04" + "00000002"),
+            ("the count after a refusal", "27", "0A02"),
+            ("a field too many", "2700", "050D00000000"),
+            ("plain", "170100004005", "040000000001" + "0003"),
+            ("contested in e", "27", "0A01"),
             ("show words", "1A0000000002", "0A00020008"),
             ("show past", "1A0000028201", "0AFFFF"),
             ("outside", "1A0008028201", "050D00000000"),
             ("force", "1E0000000700060006", "06"),
             ("refused by 0", "110001", "050000000000"),
+            ("plain, refused by 0", "170100004005", "050000000000"),
             ("clear", "1F", "06"),
+            ("the count after them", "27", "0A01"),
             ("drop", "110001", "050800000000"),
             ("add", "100000000100010B6B", "060001"),
             ("add, long left", "100000070100010101010101010B6B01", "050600000000"),
@@ -1361,7 +1413,9 @@ def check_programs(check, six):
             ("show its last", "230001FBCF01", "0AEE"),
             ("outside", "230001FBD001", "050D00000000"),
             ("none outside", "230001FBD000", "0A"),
+            ("the count after the list's changes", "27", "0A01"),
             ("walk a listed name", "16FFFFFFFFFFFFFFFF010000400B05", "04000000026263" + "00"),
+            ("a listed name has none contested", "27", "0A00"),
             ("walk it, phones short", "16FFFFFFFFFFFFFFFF000100400B05", "080000" + "04" + "00000002"),
             ("read it", "17010000400B05", "04000000026263" + "00"),
             ("read it, phones short", "17000100400B05", "050400000002"),
@@ -1397,6 +1451,7 @@ def self_test():
     check_file(check, six)
     check_reading(check, six)
     check_words(check, six)
+    check_contested(check, six)
     check_list(check, six)
     check_tables(check)
     check_programs(check, six)
