@@ -1,6 +1,6 @@
 /*
  * A small host: it reads a rule file, adds a rule, writes the file back, builds the tables, lists exceptions and
- * speaks names, of one word or several, one at a time and many at once. Built and run by host/build, or by hand:
+ * speaks names, of one word or several, one at a time and many at once, with their contested letters. Built and run by host/build, or by hand:
  *
  *     rt staticlib host
  *     gcc -O2 -Wall -Ihost host/example.c target/staticlib/libhost.a -o target/example
@@ -60,7 +60,7 @@ static int letters(const char *typed, uint8_t name[LONGEST], size_t *length)
     return 1;
 }
 
-static void print(const char *typed, size_t code, size_t given, size_t applied, const uint8_t *phones,
+static void print(const char *typed, size_t code, size_t given, size_t applied, size_t contested, const uint8_t *phones,
                   const uint16_t *numbers)
 {
     if (!PIRROZKETA_OK(code)) {
@@ -73,7 +73,7 @@ static void print(const char *typed, size_t code, size_t given, size_t applied, 
     printf(", %zu rules", applied);
     for (size_t i = 0; i < applied; i++)
         printf(" %u", (unsigned)numbers[i]);
-    printf("\n");
+    printf(", %zu contested\n", contested);
 }
 
 static void read_rules(const char *path)
@@ -166,19 +166,21 @@ static void speak_one(const char *typed)
 {
     uint8_t name[LONGEST], phones[PIRROZKETA_PHONES], read_phones[PIRROZKETA_PHONES];
     uint16_t numbers[PIRROZKETA_NUMBERS], read_numbers[PIRROZKETA_NUMBERS];
-    size_t length, given, applied, steps, read_given, read_applied;
+    size_t length, given, applied, steps, contested, read_given, read_applied, read_contested;
     uint8_t code, read_code;
     if (!letters(typed, name, &length))
         return;
     code = pirrozketa_speak(image, sizeof image, list, PIRROZKETA_LIST, words, PIRROZKETA_WORDS, sets, PIRROZKETA_SETS, name,
-                            length, phones, PIRROZKETA_PHONES, numbers, PIRROZKETA_NUMBERS, &given, &applied, &steps);
+                            length, phones, PIRROZKETA_PHONES, numbers, PIRROZKETA_NUMBERS, &given, &applied, &steps,
+                            &contested);
     read_code = pirrozketa_read_name(image, sizeof image, list, PIRROZKETA_LIST, name, length, read_phones,
-                                     PIRROZKETA_PHONES, read_numbers, PIRROZKETA_NUMBERS, &read_given, &read_applied);
-    if (read_code != code || read_given != given || read_applied != applied
+                                     PIRROZKETA_PHONES, read_numbers, PIRROZKETA_NUMBERS, &read_given, &read_applied,
+                                     &read_contested);
+    if (read_code != code || read_given != given || read_applied != applied || read_contested != contested
         || (PIRROZKETA_OK(code) && (memcmp(phones, read_phones, given)
                                     || memcmp(numbers, read_numbers, applied * sizeof *numbers))))
         stop("the tables are not those of the rules");
-    print(typed, code, given, applied, phones, numbers);
+    print(typed, code, given, applied, contested, phones, numbers);
 }
 
 /* Speaks the names of a lot in one call, prints each answer under its own name, and empties the lot. */
@@ -196,7 +198,7 @@ static void speak_lot(struct lot *lot)
         stop("speak many: names are left without a reply");
     for (size_t k = 0; k < count; k++) {
         const size_t *reply = replies + PIRROZKETA_REPLY * k;
-        print(lot->typed[k], reply[0], reply[1], reply[2], phones + phone, numbers + number);
+        print(lot->typed[k], reply[0], reply[1], reply[2], reply[4], phones + phone, numbers + number);
         if (PIRROZKETA_OK(reply[0])) {
             phone += reply[1];
             number += reply[2];

@@ -27,6 +27,14 @@
  * are not looked at. A listed name may have spaces. A host without exceptions lends an empty list. A change of the
  * list needs no build.
  *
+ * CONTESTED. At each letter that reading reaches, the first rule that fits is applied. Where more than one fits, the
+ * letter is contested. The calls that speak a name count its contested letters, for those who write rules: above 0, the
+ * name leans on the order of the rules, and a rule that is moved may change its sound; at 0, the same rules in any order
+ * give the same phones. What is said from the list reaches no letter and counts none. pirrozketa_read_name counts the
+ * rules that fit. pirrozketa_speak and pirrozketa_speak_many count by the tables: a letter is contested where the sets of
+ * its two states share more than one place. With the tables of the ruleset as it is, that is where more than one rule
+ * fits; with others it need not be, since every shared place counts, of a rule that does not fit and past the rules too.
+ *
  * MEMORY. Whatever the lent memory holds, every call ends and stays inside it: memory that is no ruleset is
  * refusal 0, and memory that is no list is 17; tables that lead to a state or rule that is none, or to a rule that does not fit, are refusal
  * 16. The host sees to this:
@@ -34,7 +42,7 @@
  *     where the length is 0: to lend nothing, lend any array of the type with length 0.
  *   - A slice that a call writes (not const) overlaps no other slice of the call. Slices that it only reads
  *     (const) may overlap each other.
- *   - A pointer to a number that a call gives (place, bytes, given, applied, steps, count) is NOT NULL, and
+ *   - A pointer to a number that a call gives (place, bytes, given, applied, steps, contested, count) is NOT NULL, and
  *     points into no slice of the call and to no other number that it gives.
  *
  * THREADS. No call allocates, keeps a pointer or has any state of its own, so calls may run at the same
@@ -49,13 +57,14 @@
 
 /*
  * The version of this interface. MAJOR rises where a host has to change: a call is withdrawn or means
- * something else. MINOR rises where something is added. 4.0 takes 63 for the space between the words of a name: rules
- * and rule files with it are refused, and a name can give more phones, since each of its words may be listed. 3.0 lends
- * the exceptions list to pirrozketa_read_name, pirrozketa_speak and pirrozketa_speak_many, after the ruleset. 2.0
- * withdrew pirrozketa_load of 1.0, which could refuse after it had replaced the ruleset: call pirrozketa_read_file, look
- * at its code, then pirrozketa_build.
+ * something else. MINOR rises where something is added. 5.0 counts contested letters: pirrozketa_read_name and
+ * pirrozketa_speak have a parameter more, the last, and a reply of pirrozketa_speak_many has a fifth number. 4.0 takes 63
+ * for the space between the words of a name: rules and rule files with it are refused, and a name can give more phones,
+ * since each of its words may be listed. 3.0 lends the exceptions list to pirrozketa_read_name, pirrozketa_speak and
+ * pirrozketa_speak_many, after the ruleset. 2.0 withdrew pirrozketa_load of 1.0, which could refuse after it had replaced
+ * the ruleset: call pirrozketa_read_file, look at its code, then pirrozketa_build.
  */
-#define PIRROZKETA_VERSION_MAJOR 4
+#define PIRROZKETA_VERSION_MAJOR 5
 #define PIRROZKETA_VERSION_MINOR 0
 
 /* The library is compiled for x86-64, and its lengths are numbers of 8 bytes. */
@@ -119,7 +128,7 @@ enum {
 /* Exact sizes. */
 enum {
     PIRROZKETA_RULE = 24,           /* bytes of a rule to add */
-    PIRROZKETA_REPLY = 4            /* numbers of a reply in pirrozketa_speak_many */
+    PIRROZKETA_REPLY = 5            /* numbers of a reply in pirrozketa_speak_many */
 };
 
 /* The most that is ever needed. Less may be lent: a call for which it is too little says what it needs. */
@@ -239,28 +248,31 @@ uint8_t pirrozketa_build(const uint8_t *image, size_t image_len, uint16_t *words
 /* ---- names: letters from 1, a, to 62, and 63, the space; phones from 1 to 255 */
 
 /* Reads a name from the list, or else its words in turn, from the list or by trying the rules in order, without tables.
-   *given: the phones given, or the refusal's place; *applied: the rule numbers given, 0 with a refusal and where all is
-   listed. Refusals 0, 17, 2, 1; for a listed name 4 alone; else 3, 4, 5. */
+   *given: the phones given, or the refusal's place; *applied: the rule numbers given; *contested: how many of the letters
+   reached had more than one rule that fits; these two are 0 with a refusal and where all is listed. Refusals 0, 17, 2, 1;
+   for a listed name 4 alone; else 3, 4, 5. */
 PIRROZKETA_MUST_CHECK
 uint8_t pirrozketa_read_name(const uint8_t *image, size_t image_len, const uint32_t *list, size_t list_len,
                              const uint8_t *name, size_t name_len, uint8_t *phones, size_t phones_len,
-                             uint16_t *numbers, size_t numbers_len, size_t *given, size_t *applied);
+                             uint16_t *numbers, size_t numbers_len, size_t *given, size_t *applied,
+                             size_t *contested);
 
 /* Speaks a name from the list, or else its words, from the list or by the tables. *given and *applied as above; *steps:
    the table entries looked up, of a word that is not listed two for each letter and two more: 2 n + 2 for a name of n
-   bytes without a listed word, 0 where all is listed and with the refusals 0, 17, 1, 2 and 16. Refusals 0, 17, 2, 1; for
-   a listed name 4 alone; else, where a word is not listed, 16 for tables too short and for the passes of all such words,
-   then 3 or 16 at each letter that is reached; 4, 5. */
+   bytes without a listed word, 0 where all is listed and with the refusals 0, 17, 1, 2 and 16; *contested: at how many of
+   the letters reached the sets of the two states share more than one place (CONTESTED above), 0 with a refusal and where
+   all is listed. Refusals 0, 17, 2, 1; for a listed name 4 alone; else, where a word is not listed, 16 for tables too
+   short and for the passes of all such words, then 3 or 16 at each letter that is reached; 4, 5. */
 PIRROZKETA_MUST_CHECK
 uint8_t pirrozketa_speak(const uint8_t *image, size_t image_len, const uint32_t *list, size_t list_len,
                          const uint16_t *words, size_t words_len, const uint64_t *sets, size_t sets_len,
                          const uint8_t *name, size_t name_len, uint8_t *phones, size_t phones_len, uint16_t *numbers,
-                         size_t numbers_len, size_t *given, size_t *applied, size_t *steps);
+                         size_t numbers_len, size_t *given, size_t *applied, size_t *steps, size_t *contested);
 
 /* Speaks many names, with the ruleset and the list checked once. `names` has each name after a byte that says its
-   length, so of 255 bytes at most. The reply to the k-th name stands at replies[4 k]: its code, the phones
-   given or the place, the numbers given, the steps, as pirrozketa_speak gives them with the room that the
-   names before it left. Its phones and numbers follow those of the names before it; a refused name takes
+   length, so of 255 bytes at most. The reply to the k-th name stands at replies[5 k]: its code, the phones
+   given or the place, the numbers given, the steps, the contested letters, as pirrozketa_speak gives them with
+   the room that the names before it left. Its phones and numbers follow those of the names before it; a refused name takes
    none. A reply does not say whose it is: keep the k-th name beside it. *count: how many names were
    answered, which ends at a name that is cut off or has no room for its reply. Refusal 0 or 17 once for all,
    with *count 0 and nothing written. */

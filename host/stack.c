@@ -19,7 +19,7 @@ static uint8_t out[PIRROZKETA_READ_OUT];
 static uint16_t words[PIRROZKETA_WORDS], numbers[PIRROZKETA_NUMBERS];
 static uint64_t sets[PIRROZKETA_SETS];
 static uint8_t names[1 + PIRROZKETA_NAME], *name = names + 1, phones[PIRROZKETA_PHONES];
-static size_t place, given, applied, steps, count, bytes, states, replies[PIRROZKETA_REPLY];
+static size_t place, given, applied, steps, contested, count, bytes, states, replies[PIRROZKETA_REPLY];
 
 /* Of one letter, a, and the phones given: the last of the 512 rules, and the one that is added. */
 static const uint8_t rule[PIRROZKETA_RULE] = { 0, 1, 0, 4, 0, 0, 0, 0, 0, 0, 1, 0, 0, 0, 0, 0, 0, 0, 0, 0, 9, 9, 9, 9 };
@@ -65,12 +65,13 @@ static uint8_t list_read_out(void) { return pirrozketa_list_read_out(list, PIRRO
 static uint8_t read_name(void)
 {
     return pirrozketa_read_name(image, sizeof image, list, PIRROZKETA_LIST, name, PIRROZKETA_NAME, phones, sizeof phones, numbers,
-                                PIRROZKETA_NUMBERS, &given, &applied);
+                                PIRROZKETA_NUMBERS, &given, &applied, &contested);
 }
 static uint8_t speak(void)
 {
     return pirrozketa_speak(image, sizeof image, list, PIRROZKETA_LIST, words, PIRROZKETA_WORDS, sets, PIRROZKETA_SETS, name,
-                            PIRROZKETA_NAME, phones, sizeof phones, numbers, PIRROZKETA_NUMBERS, &given, &applied, &steps);
+                            PIRROZKETA_NAME, phones, sizeof phones, numbers, PIRROZKETA_NUMBERS, &given, &applied, &steps,
+                            &contested);
 }
 static uint8_t speak_many(void)
 {
