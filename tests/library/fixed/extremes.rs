@@ -76,9 +76,9 @@ fn every_place(tally: &mut Tally, random: &mut Random) {
     let loaded = Loaded::new(tally, &file::write(&set), words, sets, random);
     for (row, named) in targets.chunks(32).enumerate() {
         let said = loaded.speak(tally, &named.concat(), 32, 32, random);
-        let phones = (0x1F..0x3F).collect();
-        let numbers = (1..=32).map(|k| 32 * row as u16 + k).collect();
-        tally.equal("every place", said, Spoken::Said { phones, numbers, steps: 130 });
+        let phones: Vec<u8> = (0x1F..0x3F).collect();
+        let numbers: Vec<u16> = (1..=32).map(|k| 32 * row as u16 + k).collect();
+        tally.equal("every place", said, Spoken::said(&phones, &numbers, 130, 0));
     }
 }
 
@@ -108,9 +108,8 @@ fn longest_name(tally: &mut Tally, random: &mut Random) {
         [file::line(&[1, 1, 0, 1, 0xFF, 0xFF]), file::line(&[2, 0xFF, 0xFF, 0, 1, 0, 4, 0x3E, 1, 2, 3, 255])];
     let loaded = Loaded::new(tally, &text.concat(), 200, 30, random);
     let said = loaded.speak(tally, &[0x3E; 64], 256, 64, random);
-    let (phones, numbers) = ([1, 2, 3, 255].repeat(64), vec![65_535; 64]);
-    tally.equal("the longest name", said, Spoken::Said { phones, numbers, steps: 130 });
-    let refused = |number, place| Spoken::Refused { number, place, steps: 130 };
+    tally.equal("the longest name", said, Spoken::said(&[1, 2, 3, 255].repeat(64), &[65_535; 64], 130, 0));
+    let refused = |number, place| Spoken::refused(number, place, 130);
     let said = loaded.speak(tally, &[0x3E; 64], 255, 0, random);
     tally.equal("255 phones lent", said, refused(4, 256));
     let said = loaded.speak(tally, &[0x3E; 64], 256, 63, random);

@@ -138,7 +138,7 @@ fn no_list(tally: &mut Tally, random: &mut Random) {
             &six.compiled,
             &names,
             &mut room,
-            &mut Lent::any(8, random),
+            &mut Lent::any(10, random),
         );
     }
 }
@@ -151,14 +151,14 @@ fn spoken(tally: &mut Tally, random: &mut Random) {
     }
     let (said, refused) = (Spoken::said, Spoken::refused);
     let cases: [(&str, usize, usize, Spoken); 9] = [
-        ("knee", 3, 0, said(&[1, 2, 3], &[], 0)),
+        ("knee", 3, 0, said(&[1, 2, 3], &[], 0, 0)),
         ("knee", 2, 9, refused(4, 3, 0)),
         ("knee", 0, 0, refused(4, 3, 0)),
-        ("nab", 9, 9, said(&[1, 2, 3], &[], 0)),
-        ("e", 9, 9, said(&[1, 2, 3], &[], 0)),
-        ("kne", 9, 9, said(&[0x6E], &[1, 6, 3], 8)),
-        ("kneek", 9, 9, said(&[0x6E, 0x69, 0x6B], &[1, 6, 4, 2], 12)),
-        ("", 0, 0, said(&[], &[], 2)),
+        ("nab", 9, 9, said(&[1, 2, 3], &[], 0, 0)),
+        ("e", 9, 9, said(&[1, 2, 3], &[], 0, 0)),
+        ("kne", 9, 9, said(&[0x6E], &[1, 6, 3], 8, 2)),
+        ("kneek", 9, 9, said(&[0x6E, 0x69, 0x6B], &[1, 6, 4, 2], 12, 2)),
+        ("", 0, 0, said(&[], &[], 2, 0)),
         ("na", 0, 0, refused(3, 2, 6)),
     ];
     for (name, phones, numbers, wanted) in cases {
@@ -170,7 +170,7 @@ fn spoken(tally: &mut Tally, random: &mut Random) {
     let mut room = Room::any(3, 0, random);
     let none = Compiled::any(0, 0, random);
     let (heard, steps) = lent::speak(tally, &six.image, &six.list, &none, &name, &mut room);
-    tally.equal("no tables", Spoken::new(heard, steps, &room), said(&[1, 2, 3], &[], 0));
+    tally.equal("no tables", Spoken::new(heard, steps, &room), said(&[1, 2, 3], &[], 0, 0));
     let no_rules = Lent::new(&[], random);
     let heard = lent::read_name(tally, &no_rules, &six.list, &name, &mut room);
     tally.equal("no ruleset", heard.code, 0);
@@ -185,11 +185,12 @@ fn many(tally: &mut Tally, random: &mut Random) {
         names.push(name.len() as u8);
         names.extend(letters(name));
     }
-    let (mut room, mut replies) = (Room::any(7, 9, random), Lent::any(20, random));
+    let (mut room, mut replies) = (Room::any(7, 9, random), Lent::any(25, random));
     let names = Lent::new(&names, random);
     lent::speak_many(tally, &six.image, &six.list, &six.compiled, &names, &mut room, &mut replies);
-    let wanted = [255, 2, 3, 10, 255, 3, 0, 0, 255, 0, 1, 4, 4, 3, 0, 0, 255, 1, 1, 4];
-    tally.equal("replies", replies.contents(), &wanted);
+    let wanted =
+        [[255, 2, 3, 10, 2], [255, 3, 0, 0, 0], [255, 0, 1, 4, 1], [4, 3, 0, 0, 0], [255, 1, 1, 4, 0]];
+    tally.equal("replies", replies.contents(), wanted.as_flattened());
     tally.equal("their phones", &room.contents().0[..6], &[0x6E, 0x69, 7, 8, 9, 0x6B]);
     tally.equal("their numbers", &room.contents().1[..5], &[1, 6, 4, 3, 2]);
 }

@@ -1,5 +1,6 @@
 //! Cases that stand in documents 01 and 02 or at the bounds they name.
 
+mod contested;
 mod extremes;
 mod lists;
 mod paper;
@@ -19,13 +20,14 @@ type Case = fn(&mut Tally, &mut Random);
 
 pub fn fixed(tally: &mut Tally) {
     let random = &mut Random::new(1);
-    let cases: [(&str, Case); 7] = [
+    let cases: [(&str, Case); 8] = [
         ("the paper's marks", paper::paper),
         ("the paper's refusals", refusals::refusals),
         ("the paper's ways to be wrong", wrong::wrong),
         ("extremes", extremes::extremes),
         ("exceptions lists", lists::lists),
         ("names of several words", words::words),
+        ("contested letters", contested::contested),
         ("threads", threads::threads),
     ];
     for (subject, case) in cases {
@@ -44,7 +46,7 @@ struct Loaded {
 /// What the library says of one name.
 #[derive(PartialEq, Debug)]
 enum Spoken {
-    Said { phones: Vec<u8>, numbers: Vec<u16>, steps: usize },
+    Said { phones: Vec<u8>, numbers: Vec<u16>, steps: usize, contested: usize },
     Refused { number: u8, place: usize, steps: usize },
 }
 
@@ -83,8 +85,8 @@ impl Loaded {
 }
 
 impl Spoken {
-    fn said(phones: &[u8], numbers: &[u16], steps: usize) -> Spoken {
-        Spoken::Said { phones: phones.to_vec(), numbers: numbers.to_vec(), steps }
+    fn said(phones: &[u8], numbers: &[u16], steps: usize, contested: usize) -> Spoken {
+        Spoken::Said { phones: phones.to_vec(), numbers: numbers.to_vec(), steps, contested }
     }
 
     fn refused(number: u8, place: usize, steps: usize) -> Spoken {
@@ -98,7 +100,7 @@ impl Spoken {
         let (phones, numbers) = room.contents();
         let phones = phones.iter().copied().take(heard.given).collect();
         let numbers = numbers.iter().copied().take(heard.applied).collect();
-        Spoken::Said { phones, numbers, steps }
+        Spoken::Said { phones, numbers, steps, contested: heard.contested }
     }
 }
 

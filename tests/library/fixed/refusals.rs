@@ -39,7 +39,7 @@ fn short(tally: &mut Tally, random: &mut Random) {
         lent::build(tally, &image, &mut Compiled::any(0, 0, random));
         lent::read_name(tally, &image, list, &name, &mut room);
         lent::speak(tally, &image, list, &six.compiled, &name, &mut room);
-        lent::speak_many(tally, &image, list, &six.compiled, &names, &mut room, &mut Lent::any(8, random));
+        lent::speak_many(tally, &image, list, &six.compiled, &names, &mut room, &mut Lent::any(10, random));
     }
 }
 

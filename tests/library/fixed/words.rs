@@ -25,26 +25,26 @@ pub fn words(tally: &mut Tally, random: &mut Random) {
 /// take two steps each.
 fn boundaries(tally: &mut Tally, random: &mut Random) {
     let six = Loaded::new(tally, SIX_RULES, SIX_WORDS, SIX_SETS, random);
-    let cases: [(&str, &[u8], &[u16]); 12] = [
-        ("eke knee", &[0x65, 0x6B, 0x6E, 0x69], &[5, 2, 3, 1, 6, 4]),
-        ("e e", &[], &[3, 3]),
-        ("ee ee", &[0x69, 0x69], &[4, 4]),
-        ("e kn", &[0x6E], &[3, 1, 6]),
-        ("ke n", &[0x6B, 0x6E], &[2, 3, 6]),
-        ("", &[], &[]),
-        (" ", &[], &[]),
-        ("  ", &[], &[]),
-        (" knee", &[0x6E, 0x69], &[1, 6, 4]),
-        ("knee ", &[0x6E, 0x69], &[1, 6, 4]),
-        ("n  kn", &[0x6E, 0x6E], &[6, 1, 6]),
-        ("e e e e e e e e e e e e e e e e e e e e e e e e e e e e e e e e", &[], &[3; 32]),
+    let cases: [(&str, &[u8], &[u16], usize); 12] = [
+        ("eke knee", &[0x65, 0x6B, 0x6E, 0x69], &[5, 2, 3, 1, 6, 4], 3),
+        ("e e", &[], &[3, 3], 2),
+        ("ee ee", &[0x69, 0x69], &[4, 4], 2),
+        ("e kn", &[0x6E], &[3, 1, 6], 2),
+        ("ke n", &[0x6B, 0x6E], &[2, 3, 6], 1),
+        ("", &[], &[], 0),
+        (" ", &[], &[], 0),
+        ("  ", &[], &[], 0),
+        (" knee", &[0x6E, 0x69], &[1, 6, 4], 2),
+        ("knee ", &[0x6E, 0x69], &[1, 6, 4], 2),
+        ("n  kn", &[0x6E, 0x6E], &[6, 1, 6], 1),
+        ("e e e e e e e e e e e e e e e e e e e e e e e e e e e e e e e e", &[], &[3; 32], 32),
     ];
-    for (name, phones, numbers) in cases {
+    for (name, phones, numbers, contested) in cases {
         let said = six.speak(tally, &letters(name), 256, 64, random);
-        tally.equal(name, said, Spoken::said(phones, numbers, 2 * name.len() + 2));
+        tally.equal(name, said, Spoken::said(phones, numbers, 2 * name.len() + 2, contested));
     }
     let said = six.speak(tally, &[SPACE; 64], 0, 0, random);
-    tally.equal("64 spaces", said, Spoken::said(&[], &[], 130));
+    tally.equal("64 spaces", said, Spoken::said(&[], &[], 130, 0));
 }
 
 /// The place of 3 is a position of the whole name; 4 and 5 are for the whole name, after all its letters.
@@ -82,25 +82,25 @@ fn listed(tally: &mut Tally, random: &mut Random) {
     }
     let (said, refused) = (Spoken::said, Spoken::refused);
     let cases: [(&str, usize, usize, Spoken); 19] = [
-        ("eke knee eke", 6, 6, said(&[0x65, 0x6B, 1, 2, 0x65, 0x6B], &[5, 2, 3, 5, 2, 3], 16)),
-        ("knee knee", 4, 0, said(&[1, 2, 1, 2], &[], 0)),
+        ("eke knee eke", 6, 6, said(&[0x65, 0x6B, 1, 2, 0x65, 0x6B], &[5, 2, 3, 5, 2, 3], 16, 2)),
+        ("knee knee", 4, 0, said(&[1, 2, 1, 2], &[], 0, 0)),
         ("knee knee", 3, 0, refused(4, 4, 0)),
-        ("eke nab", 1, 0, said(&[3], &[], 0)),
+        ("eke nab", 1, 0, said(&[3], &[], 0, 0)),
         ("eke nab", 0, 9, refused(4, 1, 0)),
-        ("ab knee", 3, 0, said(&[5, 1, 2], &[], 0)),
-        ("ab knee ab", 1, 0, said(&[6], &[], 0)),
+        ("ab knee", 3, 0, said(&[5, 1, 2], &[], 0, 0)),
+        ("ab knee ab", 1, 0, said(&[6], &[], 0, 0)),
         ("knee eke nab", 9, 9, refused(3, 11, 16)),
         ("eke nab knee", 9, 9, refused(3, 6, 16)),
-        ("e ", 1, 0, said(&[4], &[], 0)),
-        ("e  ", 0, 1, said(&[], &[3], 8)),
-        (" ", 1, 0, said(&[7], &[], 0)),
-        ("  ", 0, 0, said(&[], &[], 6)),
-        (" knee", 2, 0, said(&[1, 2], &[], 2)),
-        ("knee ", 2, 0, said(&[1, 2], &[], 2)),
+        ("e ", 1, 0, said(&[4], &[], 0, 0)),
+        ("e  ", 0, 1, said(&[], &[3], 8, 1)),
+        (" ", 1, 0, said(&[7], &[], 0, 0)),
+        ("  ", 0, 0, said(&[], &[], 6, 0)),
+        (" knee", 2, 0, said(&[1, 2], &[], 2, 0)),
+        ("knee ", 2, 0, said(&[1, 2], &[], 2, 0)),
         ("knee n", 2, 1, refused(4, 3, 4)),
         ("knee n", 3, 0, refused(5, 1, 4)),
         ("ab nab", 0, 0, refused(3, 5, 8)),
-        ("knee  knee", 4, 0, said(&[1, 2, 1, 2], &[], 2)),
+        ("knee  knee", 4, 0, said(&[1, 2, 1, 2], &[], 2, 0)),
     ];
     for (name, phones, numbers, wanted) in cases {
         let heard = six.speak(tally, &letters(name), phones, numbers, random);
@@ -121,13 +121,13 @@ fn unusable_tables(tally: &mut Tally, random: &mut Random) {
     let leaves = Compiled::new(&after_start, sets, random);
     let (said, refused) = (Spoken::said, Spoken::refused);
     let cases: [(&Compiled, &str, usize, Spoken); 10] = [
-        (&none, "knee z", 3, said(&[1, 2, 3], &[], 0)),
+        (&none, "knee z", 3, said(&[1, 2, 3], &[], 0, 0)),
         (&none, "knee z", 2, refused(4, 3, 0)),
         (&none, "knee ", 2, refused(16, 0, 0)),
         (&none, "knee e", 2, refused(16, 0, 0)),
         (&none, " ", 2, refused(16, 0, 0)),
-        (&leaves, "z knee", 3, said(&[3, 1, 2], &[], 0)),
-        (&leaves, "z e z", 2, said(&[3, 3], &[3], 4)),
+        (&leaves, "z knee", 3, said(&[3, 1, 2], &[], 0, 0)),
+        (&leaves, "z e z", 2, said(&[3, 3], &[3], 4, 1)),
         (&leaves, "nab zz", 9, refused(16, 0, 0)),
         (&leaves, "nab nz", 9, refused(3, 2, 14)),
         (&leaves, "e zz", 0, refused(16, 0, 0)),
@@ -145,7 +145,7 @@ fn most_phones(tally: &mut Tally, random: &mut Random) {
     six.list(tally, "a", &[0xFF; 64], random);
     let name = letters(&["a"; 32].join(" "));
     let said = six.speak(tally, &name, 2_048, 0, random);
-    tally.equal("32 listed words", said, Spoken::said(&[0xFF; 2_048], &[], 0));
+    tally.equal("32 listed words", said, Spoken::said(&[0xFF; 2_048], &[], 0, 0));
     let said = six.speak(tally, &name, 2_047, 0, random);
     tally.equal("a phone too few", said, Spoken::refused(4, 2_048, 0));
 }
@@ -159,11 +159,17 @@ fn many(tally: &mut Tally, random: &mut Random) {
         names.push(name.len() as u8);
         names.extend(letters(name));
     }
-    let (mut room, mut replies) = (Room::any(13, 2, random), Lent::any(24, random));
+    let (mut room, mut replies) = (Room::any(13, 2, random), Lent::any(30, random));
     let names = Lent::new(&names, random);
     lent::speak_many(tally, &six.image, &six.list, &six.compiled, &names, &mut room, &mut replies);
-    let wanted =
-        [[255, 3, 1, 4], [255, 6, 0, 0], [3, 3, 0, 8], [255, 0, 0, 4], [4, 5, 0, 10], [255, 4, 1, 4]];
+    let wanted = [
+        [255, 3, 1, 4, 1],
+        [255, 6, 0, 0, 0],
+        [3, 3, 0, 8, 0],
+        [255, 0, 0, 4, 0],
+        [4, 5, 0, 10, 0],
+        [255, 4, 1, 4, 0],
+    ];
     tally.equal("replies", replies.contents(), wanted.as_flattened());
     tally.equal("phones", room.contents().0, &[7, 8, 9, 7, 8, 9, 7, 8, 9, 7, 8, 9, 0x6B]);
     tally.equal("numbers", room.contents().1, &[3, 2]);
@@ -198,5 +204,5 @@ fn rules(tally: &mut Tally, random: &mut Random) {
     let text = [line(&[1, 1, 0, 1, 0, 1]), line(&[2, 0, 1, 0, 1, 0, 1, 0x3E, SPACE])];
     let loaded = Loaded::new(tally, &text.concat(), 200, 30, random);
     let said = loaded.speak(tally, &[0x3E, SPACE, 0x3E], 2, 2, random);
-    tally.equal("the last letter", said, Spoken::said(&[SPACE; 2], &[1, 1], 8));
+    tally.equal("the last letter", said, Spoken::said(&[SPACE; 2], &[1, 1], 8, 0));
 }

@@ -28,16 +28,15 @@ fn first_not_longest(tally: &mut Tally, random: &mut Random) {
     ];
     let loaded = Loaded::new(tally, &text.concat(), 2 + 64 * 5, 8 * 5, random);
     let said = loaded.speak(tally, &letters("eeee"), 4, 4, random);
-    let (phones, numbers) = (vec![0x61, 0x61, 0x62, 0x62], vec![1, 1, 2, 2]);
-    tally.equal("the first rule, by its target", said, Spoken::Said { phones, numbers, steps: 10 });
+    let wanted = Spoken::said(&[0x61, 0x61, 0x62, 0x62], &[1, 1, 2, 2], 10, 3);
+    tally.equal("the first rule, by its target", said, wanted);
 }
 
 /// "State nk also holds rule 2": in nkn the first k is not after #, so rule 2 speaks it.
 fn ends_inside(tally: &mut Tally, random: &mut Random) {
     let six = Loaded::new(tally, SIX_RULES, SIX_WORDS, SIX_SETS, random);
     let said = six.speak(tally, &letters("nkn"), 3, 3, random);
-    let (phones, numbers) = (vec![0x6E, 0x6B, 0x6E], vec![6, 2, 6]);
-    tally.equal("a pattern inside another", said, Spoken::Said { phones, numbers, steps: 8 });
+    tally.equal("a pattern inside another", said, Spoken::said(&[0x6E, 0x6B, 0x6E], &[6, 2, 6], 8, 0));
 }
 
 fn last_after_drop(tally: &mut Tally, random: &mut Random) {
@@ -58,10 +57,8 @@ fn last_after_drop(tally: &mut Tally, random: &mut Random) {
 fn words_decide(tally: &mut Tally, random: &mut Random) {
     let six = Loaded::new(tally, SIX_RULES, SIX_WORDS, SIX_SETS, random);
     let words = six.compiled.words.contents();
-    let cases: [(u64, Spoken); 2] = [
-        (!8, Spoken::Said { phones: vec![0x6E, 0x65], numbers: vec![1, 6, 5, 3], steps: 10 }),
-        (0, Spoken::Refused { number: 3, place: 1, steps: 10 }),
-    ];
+    let cases: [(u64, Spoken); 2] =
+        [(!8, Spoken::said(&[0x6E, 0x65], &[1, 6, 5, 3], 10, 2)), (0, Spoken::refused(3, 1, 10))];
     for (mask, wanted) in cases {
         let sets: Vec<u64> = six.compiled.sets.contents().iter().map(|word| word & mask).collect();
         let compiled = Compiled::new(words, &sets, random);
@@ -89,13 +86,12 @@ fn old_tables(tally: &mut Tally, random: &mut Random) {
     let name = Lent::new(&letters("ax"), random);
     let mut room = Room::any(2, 2, random);
     let (heard, steps) = lent::speak(tally, &loaded.image, &loaded.list, &loaded.compiled, &name, &mut room);
-    let (phones, numbers) = (vec![0x61, 0x58], vec![2, 3]);
-    tally.equal("old tables", Spoken::new(heard, steps, &room), Spoken::Said { phones, numbers, steps: 6 });
+    let wanted = Spoken::said(&[0x61, 0x58], &[2, 3], 6, 0);
+    tally.equal("old tables", Spoken::new(heard, steps, &room), wanted);
 
     lent::build(tally, &loaded.image, &mut loaded.compiled);
     let said = loaded.speak(tally, &letters("ax"), 2, 2, random);
-    let (phones, numbers) = (vec![0x62, 0x58], vec![4, 3]);
-    tally.equal("tables built again", said, Spoken::Said { phones, numbers, steps: 6 });
+    tally.equal("tables built again", said, Spoken::said(&[0x62, 0x58], &[4, 3], 6, 1));
 }
 
 /// Slices that are only read may be the same memory: names that are bytes of the ruleset, its head and the

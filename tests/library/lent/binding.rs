@@ -78,6 +78,7 @@ extern "C" {
         numbers_len: usize,
         given: *mut usize,
         applied: *mut usize,
+        contested: *mut usize,
     ) -> u8;
     pub fn pirrozketa_speak(
         image: *const u8,
@@ -97,6 +98,7 @@ extern "C" {
         given: *mut usize,
         applied: *mut usize,
         steps: *mut usize,
+        contested: *mut usize,
     ) -> u8;
     pub fn pirrozketa_speak_many(
         image: *const u8,

@@ -49,9 +49,10 @@ impl Room {
         match answer {
             Ok(said) => {
                 self.want(&said.phones, &said.numbers);
-                Heard { code: ACCEPTED, given: said.phones.len(), applied: said.numbers.len() }
+                let (given, applied) = (said.phones.len(), said.numbers.len());
+                Heard { code: ACCEPTED, given, applied, contested: said.contested }
             }
-            Err(refused) => Heard { code: refused.number, given: refused.place, applied: 0 },
+            Err(refused) => Heard { code: refused.number, given: refused.place, applied: 0, contested: 0 },
         }
     }
 }
@@ -62,6 +63,7 @@ pub struct Heard {
     pub code: u8,
     pub given: usize,
     pub applied: usize,
+    pub contested: usize,
 }
 
 /// The ruleset and the list that are lent; 0 comes before 17, and both before all else.
@@ -110,7 +112,7 @@ fn read(
     let answer =
         judged(image, list).and_then(|(set, listed)| plain(&set, listed, name, phones_lent, numbers_lent));
     let wanted = room.taken(&answer);
-    let (mut given, mut applied) = (UNWRITTEN, UNWRITTEN);
+    let (mut given, mut applied, mut contested) = (UNWRITTEN, UNWRITTEN, UNWRITTEN);
     let code = unsafe {
         pirrozketa_read_name(
             image.pointer(),
@@ -125,9 +127,10 @@ fn read(
             numbers_lent,
             &mut given,
             &mut applied,
+            &mut contested,
         )
     };
-    let heard = Heard { code, given, applied };
+    let heard = Heard { code, given, applied, contested };
     tally.answer("read_name", code, heard, wanted);
     image.check(tally, "read_name's image");
     list.check(tally, "read_name's list");
@@ -154,7 +157,8 @@ pub fn speak(
         Err(refused) => (Err(refused), 0),
     };
     let wanted = room.taken(&answer);
-    let (mut given, mut applied, mut steps) = (UNWRITTEN, UNWRITTEN, UNWRITTEN);
+    let (mut given, mut applied) = (UNWRITTEN, UNWRITTEN);
+    let (mut steps, mut contested) = (UNWRITTEN, UNWRITTEN);
     let code = unsafe {
         pirrozketa_speak(
             image.pointer(),
@@ -174,9 +178,10 @@ pub fn speak(
             &mut given,
             &mut applied,
             &mut steps,
+            &mut contested,
         )
     };
-    let heard = Heard { code, given, applied };
+    let heard = Heard { code, given, applied, contested };
     tally.answer("speak", code, heard, wanted);
     tally.equal("speak's steps", steps, wanted_steps);
     image.check(tally, "speak's image");

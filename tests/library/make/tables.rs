@@ -14,12 +14,19 @@ pub fn built(set: &Ruleset) -> Words {
 /// Built tables, altered in one way. What lies past the needed words may be anything.
 pub fn damaged((mut words, mut sets): Words, random: &mut Random) -> Words {
     let states = [words[0] as usize, words[1] as usize];
-    match random.below(10) {
+    match random.below(12) {
         // Without some of their bits the sets choose later rules that fit as well, or none.
         0 | 1 => sets.iter_mut().for_each(|word| *word &= random.next() | random.next()),
         // Bits more choose rules that do not fit, and places past the list.
         2 => scatter(&mut sets, random, |word, random| *word |= 1 << random.below(64)),
         3 => scatter(&mut sets, random, |word, random| *word ^= 1 << random.below(64)),
+        // Places more in every set, past the list too, are shared at every letter.
+        10 | 11 => {
+            let (place, share) = (random.below(512), random.pick(&[1, 1, 2]));
+            for word in sets.iter_mut().skip(place / 64).step_by(8) {
+                *word |= (random.one_in(share) as u64) << (place % 64);
+            }
+        }
         // Other entries, most of them of states there are.
         4 => scatter(&mut words[2..], random, |entry, random| {
             *entry = random.below(states[0].max(states[1]) + 1) as u16;

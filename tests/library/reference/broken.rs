@@ -1,6 +1,6 @@
 //! Ways to make the reference wrong on purpose, to see that the trials notice: the paper's "Ways to be
-//! wrong that pass a short trial", two more, and ways to mistake the exceptions list and names of several
-//! words.
+//! wrong that pass a short trial", two more, and ways to mistake the exceptions list, names of several words
+//! and contested letters.
 
 use std::sync::OnceLock;
 
@@ -54,9 +54,21 @@ pub enum Break {
     EmptyFree,
     /// A word is read before the passes of the next.
     LatePasses,
+    /// Letters with exactly one rule count as contested.
+    ExactlyOne,
+    /// The walk counts the places in the word of the chosen one.
+    OneWord,
+    /// The walk counts the rules that fit, not the places that the sets share.
+    FittingShared,
+    /// The walk counts no places past the list.
+    WithinList,
+    /// The letters of what is listed count as contested.
+    ListedContested,
+    /// The contested letters of the last word alone are counted.
+    LastWord,
 }
 
-pub const BREAKS: [(&str, Break); 24] = [
+pub const BREAKS: [(&str, Break); 30] = [
     ("early", Break::Early),
     ("longest", Break::Longest),
     ("inside", Break::Inside),
@@ -81,6 +93,12 @@ pub const BREAKS: [(&str, Break); 24] = [
     ("tables-always", Break::TablesAlways),
     ("empty-free", Break::EmptyFree),
     ("late-passes", Break::LatePasses),
+    ("exactly-one", Break::ExactlyOne),
+    ("one-word", Break::OneWord),
+    ("fitting-shared", Break::FittingShared),
+    ("within-list", Break::WithinList),
+    ("listed-contested", Break::ListedContested),
+    ("last-word", Break::LastWord),
 ];
 
 static CHOSEN: OnceLock<Break> = OnceLock::new();

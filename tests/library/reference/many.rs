@@ -12,7 +12,8 @@ pub struct Many {
     pub replies: Vec<usize>,
 }
 
-pub const REPLY: usize = 4;
+/// Code, phones given or place, numbers given, steps, contested letters.
+pub const REPLY: usize = 5;
 
 /// Each name is lent what the names before it left of the phones and numbers.
 pub fn speak_many(
@@ -38,13 +39,13 @@ pub fn speak_many(
             (phones_lent - many.phones.len(), numbers_lent - many.numbers.len());
         match walk(set, list, words, sets, name, phones_left, numbers_left) {
             (Ok(said), steps) => {
-                let reply = [ACCEPTED as usize, said.phones.len(), said.numbers.len(), steps];
-                many.replies.extend(reply);
+                let (phones, numbers) = (said.phones.len(), said.numbers.len());
+                many.replies.extend([ACCEPTED as usize, phones, numbers, steps, said.contested]);
                 many.phones.extend(said.phones);
                 many.numbers.extend(said.numbers);
             }
             (Err(refused), steps) => {
-                many.replies.extend([refused.number as usize, refused.place, 0, steps]);
+                many.replies.extend([refused.number as usize, refused.place, 0, steps, 0]);
             }
         }
     }

@@ -11,13 +11,17 @@ use super::{refuse, Answer};
 pub struct Said {
     pub phones: Vec<u8>,
     pub numbers: Vec<u16>,
+    /// "The number of reached letters with more than one" rule that fits.
+    pub contested: usize,
 }
 
 impl Said {
-    /// Applies a rule, and gives how far reading moves on.
-    pub fn apply(&mut self, number: u16, rule: &Rule) -> usize {
+    /// Applies a rule at a letter at which so many contend, and gives how far reading moves on.
+    pub fn apply(&mut self, number: u16, rule: &Rule, contenders: usize) -> usize {
         self.phones.extend(rule.phones());
         self.numbers.push(number);
+        let counts = if broken(Break::ExactlyOne) { contenders == 1 } else { contenders > 1 };
+        self.contested += counts as usize;
         let onward = if broken(Break::Onward) { rule.right().len() } else { 0 };
         rule.target().len() + onward
     }
@@ -25,6 +29,10 @@ impl Said {
     fn join(&mut self, word: Said) {
         self.phones.extend(word.phones);
         self.numbers.extend(word.numbers);
+        if broken(Break::LastWord) {
+            self.contested = 0;
+        }
+        self.contested += word.contested;
     }
 
     /// Refusals 4 and 5, which come when all is read: their places are the full needs.
@@ -91,7 +99,9 @@ fn listed(list: &Exceptions, letters: &[u8]) -> Option<Said> {
         return None;
     }
     let phones = list.phones.get(letters)?.clone();
-    Some(Said { phones, numbers: Vec::new() })
+    // Its letters are not reached.
+    let contested = if broken(Break::ListedContested) { letters.len() } else { 0 };
+    Some(Said { phones, numbers: Vec::new(), contested })
 }
 
 /// The words in turn, from the list or else as `speak` says them, joined; then 4 and 5 for the whole name.
@@ -155,13 +165,13 @@ fn plain_word(set: &Ruleset, word: &Word) -> Answer<Said> {
         let Some((number, rule)) = first_fitting(set, &word.frame, i) else {
             return no_fit(word, i);
         };
-        i += said.apply(*number, rule);
+        i += said.apply(*number, rule, fitting(set, &word.frame, i).count());
     }
     Ok(said)
 }
 
-fn first_fitting<'a>(set: &'a Ruleset, frame: &[u8], i: usize) -> Option<&'a (u16, Rule)> {
-    let mut fitting = set.rules.iter().filter(|(_, rule)| rule.fits(frame, i));
+fn first_fitting<'a>(set: &'a Ruleset, frame: &'a [u8], i: usize) -> Option<&'a (u16, Rule)> {
+    let mut fitting = fitting(set, frame, i);
     if broken(Break::Later) {
         return fitting.next_back();
     }
@@ -169,4 +179,13 @@ fn first_fitting<'a>(set: &'a Ruleset, frame: &[u8], i: usize) -> Option<&'a (u1
         return fitting.max_by_key(|(_, rule)| rule.left().len() + rule.right_pattern().len());
     }
     fitting.next()
+}
+
+/// The rules that fit at position i, in order.
+pub fn fitting<'a>(
+    set: &'a Ruleset,
+    frame: &'a [u8],
+    i: usize,
+) -> impl DoubleEndedIterator<Item = &'a (u16, Rule)> {
+    set.rules.iter().filter(move |(_, rule)| rule.fits(frame, i))
 }

@@ -3,11 +3,14 @@
 
 use super::broken::{broken, Break};
 use super::exceptions::Exceptions;
-use super::reading::{self, joined, listed_name, listed_word, no_fit, reached, sound_name, Said, Word};
+use super::reading::{
+    self, fitting, joined, listed_name, listed_word, no_fit, reached, sound_name, Said, Word,
+};
 use super::ruleset::Ruleset;
 use super::tables::{sets_needed, words_needed};
 use super::{refuse, Answer};
 use std::collections::HashMap;
+use std::ops::Range;
 
 /// One pass over one table: its rows, and how many states it may step to.
 struct Pass<'a> {
@@ -128,8 +131,19 @@ impl Passed {
             let Some(place) = chosen(left_set, right_set) else {
                 return no_fit(word, i);
             };
+            let contenders = match () {
+                _ if broken(Break::FittingShared) => fitting(set, &word.frame, i).count(),
+                _ if broken(Break::WithinList) => shared_among(0..set.rules.len(), left_set, right_set),
+                _ if broken(Break::OneWord) => {
+                    let start = place / 64 * 64;
+                    shared_among(start..start + 64, left_set, right_set)
+                }
+                _ => shared(left_set, right_set),
+            };
             match set.rules.get(place) {
-                Some((number, rule)) if rule.fits(&word.frame, i) => i += said.apply(*number, rule),
+                Some((number, rule)) if rule.fits(&word.frame, i) => {
+                    i += said.apply(*number, rule, contenders)
+                }
                 _ => return refuse(16, 0),
             }
         }
@@ -139,9 +153,22 @@ impl Passed {
 
 /// "The rule of lowest place is the lowest set bit of the eight words."
 fn chosen(left: &[u64], right: &[u64]) -> Option<usize> {
-    let shared = |place: &usize| (left[place / 64] & right[place / 64]) >> (place % 64) & 1 == 1;
     if broken(Break::Later) {
-        return (0..512).rev().find(shared);
+        return (0..512).rev().find(|place| both_hold(left, right, *place));
     }
-    (0..512).find(shared)
+    (0..512).find(|place| both_hold(left, right, *place))
+}
+
+fn both_hold(left: &[u64], right: &[u64], place: usize) -> bool {
+    (left[place / 64] & right[place / 64]) >> (place % 64) & 1 == 1
+}
+
+/// "The places its two sets share", whatever the tables are: the bits of the eight intersected words.
+fn shared(left: &[u64], right: &[u64]) -> usize {
+    left.iter().zip(right).map(|(left, right)| (left & right).count_ones() as usize).sum()
+}
+
+/// Only some of them, for a reference that is wrong on purpose.
+fn shared_among(places: Range<usize>, left: &[u64], right: &[u64]) -> usize {
+    places.filter(|place| both_hold(left, right, *place)).count()
 }

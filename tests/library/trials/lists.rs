@@ -6,6 +6,7 @@ use crate::make::{lists as make, rules};
 use crate::random::Random;
 use crate::reference::exceptions::Exceptions;
 use crate::reference::image::{put, IMAGE};
+use crate::reference::many::REPLY;
 use crate::reference::reading::plain;
 use crate::reference::rule::Rule;
 use crate::reference::ruleset::Ruleset;
@@ -101,7 +102,7 @@ impl Speakers {
         lent::speak(tally, &self.image, list, &self.compiled, &name, &mut room(random));
         // Without tables, a listed name and one of listed words are spoken all the same.
         lent::speak(tally, &self.image, list, &Compiled::any(0, 0, random), &name, &mut room(random));
-        let (mut room, mut replies) = (Room::any(2 * needed, 64, random), Lent::any(12, random));
+        let (mut room, mut replies) = (Room::any(2 * needed, 64, random), Lent::any(3 * REPLY, random));
         let many = Lent::new(&many, random);
         lent::speak_many(tally, &self.image, list, &self.compiled, &many, &mut room, &mut replies);
     }
