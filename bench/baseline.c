@@ -102,11 +102,18 @@ void base_build(const struct base_ruleset *rs, uint16_t *words, uint64_t *sets)
 
 /* ---- Reading a name ---- */
 
-static void apply(const struct base_rule *r, struct base_spoken *out)
+static void begin_name(struct base_spoken *out)
+{
+    out->phone_count = out->rule_count = out->steps = out->position = out->contested = 0;
+}
+
+/* Applies the first of so many rules that fit. */
+static void apply(const struct base_rule *r, size_t fitting, struct base_spoken *out)
 {
     for (size_t k = 0; k < r->phone_len; k++)
         out->phones[out->phone_count++] = r->phones[k];
     out->numbers[out->rule_count++] = r->number;
+    out->contested += fitting > 1;
 }
 
 /* A space is the boundary of the words on both its sides: # stands only first in a left context and last in a right
@@ -116,15 +123,34 @@ static uint8_t symbol(uint8_t byte)
     return byte == BASE_SPACE ? 0 : byte;
 }
 
-/* The lowest place that both sets hold, or BASE_RULES. */
-static size_t lowest_common(const uint64_t *a, const uint64_t *b)
+/* The set bits of a word, summed in pairs, fours and bytes: plain x86-64 has no instruction for it. */
+static size_t ones(uint64_t word)
 {
+    word -= word >> 1 & 0x5555555555555555;
+    word = (word & 0x3333333333333333) + (word >> 2 & 0x3333333333333333);
+    word = (word + (word >> 4)) & 0x0F0F0F0F0F0F0F0F;
+    return word * 0x0101010101010101 >> 56;
+}
+
+/* The lowest place that both sets hold, and how many they hold both. */
+struct choice {
+    size_t place, shared;
+};
+
+/* Most words share none. Of ways that clear bit after bit, that sum all eight words or that call the compiler's own count,
+   none was faster than this. */
+static struct choice choose(const uint64_t *a, const uint64_t *b)
+{
+    struct choice choice = { BASE_RULES, 0 };
     for (size_t j = 0; j < BASE_SET_WORDS; j++) {
         uint64_t both = a[j] & b[j];
-        if (both != 0)
-            return 64 * j + (size_t)__builtin_ctzll(both);
+        if (both == 0)
+            continue;
+        if (choice.shared == 0)
+            choice.place = 64 * j + (size_t)__builtin_ctzll(both);
+        choice.shared += ones(both);
     }
-    return BASE_RULES;
+    return choice;
 }
 
 int base_walk(const struct base_ruleset *rs, const uint16_t *words, const uint64_t *sets,
@@ -135,7 +161,7 @@ int base_walk(const struct base_ruleset *rs, const uint16_t *words, const uint64
     uint16_t after_left[BASE_NAME + 2], after_right[BASE_NAME + 2];
     size_t q;
 
-    out->phone_count = out->rule_count = out->steps = out->position = 0;
+    begin_name(out);
     after_left[0] = (uint16_t)(q = left[0]);            /* the boundary, from state 0 */
     for (size_t i = 1; i <= n; i++)
         after_left[i] = (uint16_t)(q = left[BASE_SYMBOLS * q + symbol(name[i - 1])]);
@@ -149,14 +175,14 @@ int base_walk(const struct base_ruleset *rs, const uint16_t *words, const uint64
             i++;
             continue;
         }
-        size_t place = lowest_common(sets + BASE_SET_WORDS * (size_t)after_left[i - 1],
-                                     right_sets + BASE_SET_WORDS * (size_t)after_right[i]);
-        if (place == BASE_RULES) {
+        struct choice choice = choose(sets + BASE_SET_WORDS * (size_t)after_left[i - 1],
+                                      right_sets + BASE_SET_WORDS * (size_t)after_right[i]);
+        if (choice.shared == 0) {
             out->position = (uint32_t)i;
             return -1;
         }
-        apply(&rs->rules[place], out);
-        i += rs->rules[place].target_len;
+        apply(&rs->rules[choice.place], choice.shared, out);
+        i += rs->rules[choice.place].target_len;
     }
     return 0;
 }
@@ -186,21 +212,23 @@ int base_plain(const struct base_ruleset *rs, const uint8_t *name, size_t n, str
     framed[0] = framed[n + 1] = 0;
     for (size_t i = 1; i <= n; i++)
         framed[i] = symbol(name[i - 1]);
-    out->phone_count = out->rule_count = out->steps = out->position = 0;
+    begin_name(out);
     for (size_t i = 1; i <= n;) {
         if (framed[i] == 0) {
             i++;
             continue;
         }
-        size_t p = 0;
-        while (p < rs->count && !fits(&rs->rules[p], framed, n + 2, i))
-            p++;
-        if (p == rs->count) {
+        const struct base_rule *first = NULL;
+        size_t fitting = 0;
+        for (size_t p = 0; p < rs->count; p++)
+            if (fits(&rs->rules[p], framed, n + 2, i) && fitting++ == 0)
+                first = &rs->rules[p];
+        if (first == NULL) {
             out->position = (uint32_t)i;
             return -1;
         }
-        apply(&rs->rules[p], out);
-        i += rs->rules[p].target_len;
+        apply(first, fitting, out);
+        i += first->target_len;
     }
     return 0;
 }

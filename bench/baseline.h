@@ -1,6 +1,7 @@
 /*
  * The yardstick of the benchmark: the same tables, walk, plain reading and rule file as document 01,
- * written by hand in plain C, with document 02's names of several words but without its exceptions list.
+ * written by hand in plain C, with document 02's names of several words and contested letters but without
+ * its exceptions list.
  * It trusts its caller: rulesets are valid, names are 1 to 63 in at most 64 bytes, memory is long enough
  * and tables are built. Only base_read judges what it is given, since a file comes from outside.
  */
@@ -36,9 +37,10 @@ struct base_ruleset {
     struct base_rule rules[BASE_RULES];
 };
 
-/* Phones and rule numbers of a name; position is 0, or that of the letter that no rule fits, in the whole name. */
+/* Phones and rule numbers of a name, and its contested letters; position is 0, or that of the letter that no rule fits, in
+   the whole name. */
 struct base_spoken {
-    uint32_t phone_count, rule_count, steps, position;
+    uint32_t phone_count, rule_count, steps, position, contested;
     uint8_t phones[BASE_PHONES];
     uint16_t numbers[BASE_NAME];
 };
@@ -50,7 +52,7 @@ void base_build(const struct base_ruleset *rs, uint16_t *words, uint64_t *sets);
 int base_walk(const struct base_ruleset *rs, const uint16_t *words, const uint64_t *sets,
               const uint8_t *name, size_t n, struct base_spoken *out);
 
-/* The plain reading: tries the rules in order. Returns as base_walk. */
+/* The plain reading: tries all rules in order, since those that fit are counted. Returns as base_walk. */
 int base_plain(const struct base_ruleset *rs, const uint8_t *name, size_t n, struct base_spoken *out);
 
 /* Reads a rule file. Returns 0, or -1 for one that is none; rs is then undefined. */

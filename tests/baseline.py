@@ -28,7 +28,7 @@ class Ruleset(c.Structure):
 
 class Spoken(c.Structure):
     _fields_ = [("phone_count", c.c_uint32), ("rule_count", c.c_uint32), ("steps", c.c_uint32),
-                ("position", c.c_uint32), ("phones", c.c_uint8 * 256), ("numbers", c.c_uint16 * 64)]
+                ("position", c.c_uint32), ("contested", c.c_uint32), ("phones", c.c_uint8 * 256), ("numbers", c.c_uint16 * 64)]
 
 
 def given_to_c(rs):
@@ -54,7 +54,7 @@ def got_from_c(held):
 def answer(code, out):
     if code:
         return ref.Refusal(3, out.position)
-    return ref.Spoken(bytes(out.phones[:out.phone_count]), tuple(out.numbers[:out.rule_count]))
+    return ref.Spoken(bytes(out.phones[:out.phone_count]), tuple(out.numbers[:out.rule_count]), out.contested)
 
 
 def compare(base, source, check, words, sets):
