@@ -21,8 +21,10 @@ sys.path.insert(0, os.path.join(ROOT, "tools"))
 import frames
 import ruletext
 
-SAY = os.path.join(ROOT, "target", "bin", "say")
+SAY, MONITOR = (os.path.join(ROOT, "target", "bin", name) for name in ("say", "monitor"))
 KNEE, NAB = "knee -> 6E 69 by rules 1 6 4, 10 steps\n", "nab -> refused 3 at 2: no rule fits the letter at that position\n"
+KNEE_CONTESTED = (KNEE.replace("steps", "steps, 2 contested") + "  * 1 k   applied 1: # [k] n = | over 2: [k] = 6B\n"
+                  "    2 n   applied 6: [n] = 6E\n  * 3 ee  applied 4: [ee] = 69 | over 5: [e] = 65\n")
 UNSOUND = "a line is missing, not ended, or not sound"
 SPACE_IN_RULE = "the space bar, 3F, separates words and stands in no rule; # is a word's boundary"
 PROVING = "Proving and building `say` from its sources. This is done once and takes some minutes.\n"
@@ -31,6 +33,13 @@ PROVING = "Proving and building `say` from its sources. This is done once and ta
 def example(name):
     with open(os.path.join(ROOT, "examples", name), "rb") as file:
         return file.read()
+
+
+def fake_monitor(other, count):
+    """Takes the six rules and speaks knee as `monitor` does; what it answers to another name and to 27 is given."""
+    answers = {"13": "060006", "15": "0600020008", "16*0B0E05": "04000A00026E6903000100060004", "16": other, "27": count}
+    cases = "".join(f"{start}*) echo {frames.frame(bytes.fromhex(body)).decode().strip()};; " for start, body in answers.items())
+    return f"while read line; do case $line in {cases}esac; done\n".encode()
 
 
 SIX = example("six.hex")
@@ -48,11 +57,16 @@ FILES = {       # in the folder that the tools are called in
     "sum.hex": SIX.replace(b"F2", b"F3"),
     "large.rules": "".join(f"[{a}{b}] = 61\n" for a in "abcdefghijklmnopqrs" for b in "abcdefghijklmnopqrstuvwxyz").encode(),
     "source.rules": b"[k] = 6B\n[e] = \xE7",
+    "three.rules": "letter 1B ç\n# [çk] # = 61\n[ç] k = 62 63\n[ç] =\n[k] = 64\n".encode(),
     "beside.hex": SIX,
     "beside.rules": b"letter 1B \xE7\n",
     "latin.names": b"knee\r\nna\xE7\r\n",
     "some.names": "\ufeffknee  ; a joint\r\n\r\n; nothing\r\nnab\r\n".encode(),
     "none.names": b"; none\n",
+    "counts.sh": fake_monitor("0800080300000002", "0A01"),
+    "places.sh": fake_monitor("0800080300000003", "0A02"),
+    "speaks.sh": fake_monitor("0400080000010006", "0A00"),
+    "answers.sh": fake_monitor("0800080300000002", "06"),
 }
 
 
@@ -156,6 +170,51 @@ def rule_files(tools):
         os.chmod(os.path.join(tools.folder, "six.hex"), 0o600)
 
 
+def contested(tools):
+    """The rules that fit at each letter, and how many letters have more than one."""
+    nab = NAB + "    1 n  applied 6: [n] = 6E\n    2 a  no rule fits\n"
+    tools.expect(["speak.py", "--contested", "knee", "nab"], 0, KNEE_CONTESTED + nab)
+    tools.expect(["speak.py", "--contested"], 0, nab + KNEE_CONTESTED, given=b"nab\nknee\n")
+    tools.expect(["speak.py", "--contested", "--names", "none.names"], 0)
+    tools.expect(["speak.py", "--contested", "eke kn", "_", "\\40", "7"], 2,
+                 "eke kn -> 65 6B 6E by rules 5 2 3 1 6, 14 steps, 2 contested\n"
+                 "    1 e  applied 5: [e] = 65\n    2 k  applied 2: [k] = 6B\n  * 3 e  applied 3: [e] # = | over 5: [e] = 65\n"
+                 "  * 5 k  applied 1: # [k] n = | over 2: [k] = 6B\n    6 n  applied 6: [n] = 6E\n"
+                 "_ -> nothing by no rules, 4 steps, 0 contested\n"
+                 "\\40 -> refused 1 at 0: a byte of the name is no letter and no space\n7 -> not sent: no letter for '7'\n")
+    tools.expect(["speak.py", "--contested", "--rules", os.path.join(ROOT, "examples", "silent_e.hex"), "old pine"], 0,
+                 "old pine -> 4F 6C 64 70 49 6E [əʊldpaɪn] by rules 50 62 54 66 13 64 28, 18 steps, 3 contested\n"
+                 "  * 1 o  applied 50: [o] ld = 4F | over 65: [o] = 6F\n    2 l  applied 62: [l] = 6C\n    3 d  applied 54: [d] = 64\n"
+                 "    5 p  applied 66: [p] = 70\n  * 6 i  applied 13: [i] ne# = 49 | over 59: [i] = 69\n    7 n  applied 64: [n] = 6E\n"
+                 "  * 8 e  applied 28: [e] # = | over 55: [e] = 65\n")
+    tools.expect(["speak.py", "--contested", "--rules", "three.rules", "çk"], 0,
+                 "çk -> 61 by rule 1, 6 steps, 1 contested\n"
+                 "  * 1 çk  applied 1: # [çk] # = 61 | over 2: [ç] k = 62 63 | 3: [ç] =\n")
+    for name, fault in [
+            ("crlf.hex", f"refused 13 at 0: {UNSOUND} (line 1, column 15: byte 0D, but a line ends in 0A alone)"),
+            ("long.hex", f"refused 13 at 32768: {UNSOUND} (the file has 32,769 bytes, `say` takes 32,768)"),
+            ("large.rules", "refused 11 at 33410: too few words for the tables (they need 33,410, `say` has 32,768)")]:
+        tools.expect(["speak.py", "--contested", "--rules", name, "knee"], 2, err=f"speak: {name}: {fault}\n")
+    # 13 bytes before the name and its sum make 4,096 digits of 2,034 letters.
+    long = "k" * 2035
+    tools.expect(["speak.py", "--contested", long], 2, f"{long} -> not sent: its line has 4,098 digits, `monitor` takes 4,096\n")
+    tools.expect(["speak.py", "--contested", long[1:]], 0, f"{long[1:]} -> refused 2 at 0: the name has more than 64 letters and spaces\n")
+    for program, name, told, found in [("counts.sh", "knee", ([1, 6, 4], 1), ([1, 6, 4], 2)), ("places.sh", "nab", (3, 3), (3, 2)),
+                                       ("speaks.sh", "nab", ([6], 0), (3, 2)), ("speaks.sh", "ke", ([6], 0), ([2, 3], 1))]:
+        tools.expect(["speak.py", "--contested", "--program", f"sh {program}", name], 1,
+                     err=f"speak: {name}: `monitor` says {told}, by the rule file it is {found}\n")
+    tools.expect(["speak.py", "--contested", "--program", "sh answers.sh", "knee"], 1, err="speak: unknown answer: 06FA\n")
+    tools.expect(["speak.py", "--contested", "--program", f"sh -c \"head -n 3 | '{MONITOR}'\"", "knee"], 1,
+                 err="speak: 1 answers to 1 names and their counts\n")
+
+
+def rule_texts(tools):
+    """Every rule of the examples, printed and typed again, is the same rule."""
+    for name in ("six", "basque", "silent_e"):
+        alphabet, rules = ruletext.read_rules(example(name + ".rules").decode(), name)
+        tools.compare(name, [ruletext.rule_of(ruletext.rule_text(rule, alphabet), alphabet) for rule in rules], rules)
+
+
 def readable_rules(tools):
     tools.expect(["rules2hex.py", "six.rules"], 0, SIX.decode())
     tools.expect(["rules2hex.py", "-"], 0, SIX.decode(), given=FILES["six.rules"].replace(b"\n", b"\r\n"))
@@ -203,7 +262,7 @@ def monitor(tools):
             ("exception knee = 6E 69", "20040B0E05056E69E2"), ("exception k e=61", "20030B3F05612D"), ("exception =", "2000E0"),
             ("remove knee", "210B0E0505BC"), ("remove", "21DF"), ("exceptions", "22FFFFFFFFE2"), ("readout bytes=11", "220000000BD3"),
             ("show readout 2 255", "2300000002FFDC"), ("clear list", "24DC"), ("lend 35885", "2500008C2D22"), ("lend all", "25FFFFFFFFDF"),
-            ("store unit 1 0xFF", "2600000001000000FFDA"), ("repeat 2 remove @", "210101DD\n210102DC"),
+            ("store unit 1 0xFF", "2600000001000000FFDA"), ("contested", "27D9"), ("repeat 2 remove @", "210101DD\n210102DC"),
             ("repeat 1 exception @@ = @61", "20040101010101016175")]:
         tools.expect(["monitor.py", "--frames"], 0, frames + "\n", given=text.encode())
     tools.expect(["monitor.py"], 0, "> exception k n = 61\ndone, names 1, states 4\n> exception \\1D = 6263\ndone, names 2, states 5\n"
@@ -220,6 +279,10 @@ def monitor(tools):
                  "> plain eke  nab\nrefused 3 at 6: no rule fits the letter at that position\n> exception nab = 61\ndone, names 1, states 4\n"
                  "> plain eke nab\n65 6B 61 by rules 5 2 3, 0 steps\n> plain eke_nab phones=2\nrefused 4 at 3: more phones than the lent bytes hold\n",
                  given=b"read\nadd 0 [_] = 20\nplain eke  nab\nexception nab = 61\nplain eke nab\nplain eke_nab phones=2\n")
+    tools.expect(["monitor.py", "--rules", "six.hex"], 0,
+                 "> contested\n0 contested\n> read\ndone, last 6\n> plain eke knee\n65 6B 6E 69 by rules 5 2 3 1 6 4, 0 steps\n"
+                 "> contested\n3 contested\n> plain nab\nrefused 3 at 2: no rule fits the letter at that position\n"
+                 "> contested\n3 contested\n", given=b"contested\nread\nplain eke knee\ncontested\nplain nab\ncontested\n")
     tools.expect(["monitor.py", "--rules", os.path.join(tools.root, "examples", "basque.hex")], 0,
                  "> exception ñ = 61\ndone, names 1, states 2\n> exceptions\nñ = 61 [a]\n", given="exception ñ = 61\nexceptions\n".encode())
     names = "".join(f"{letter}{letter}{letter} = 61 62 63\n" for letter in "abcdefghijklmnopqrstuvwxyz")
@@ -231,6 +294,7 @@ def monitor(tools):
                         (f"exception {'k' * 256} = 61", "a length has one byte"), ("clear all", "clear or clear list"),
                         ("lend some", "'some' is no number"), ("lend 4294967296", "4294967296 does not fit into 4 bytes"),
                         ("store list 0 0", "store word, store set or store unit"), ("exceptions now", "exceptions has other fields: see help"),
+                        ("contested knee", "contested has other fields: see help"),
                         ("show readout", "show words, sets or readout INDEX COUNT, show phones or show numbers")]:
         tools.expect(["monitor.py"], 2, f"> {text}\nmonitor: {fault}\n", given=text.encode() + b"\n")
 
@@ -250,6 +314,8 @@ def terminal(tools):
         0, f"Names, one a line; Ctrl-D ends.\n> {KNEE}> > standard input: line 3, column 2: byte E7 is not UTF-8\n"
            f"> 7 -> not sent: no letter for '7'\n> {NAB}> \n"))
     tools.compare("no prompt", tools.at_terminal(words + ["knee"], b""), (0, KNEE))
+    tools.compare("contested at the prompt", tools.at_terminal(["try", "--contested", "--program", MONITOR], b"knee\n7\n\x04"), (
+        0, f"Names, one a line; Ctrl-D ends.\n> {KNEE_CONTESTED}> 7 -> not sent: no letter for '7'\n> \n"))
     tools.compare("rules before prompt", tools.at_terminal(words + ["--rules", "empty.hex"], b"\x04"), (
         2, f"try: empty.hex: refused 13 at 0: {UNSOUND} (line 1, missing)\n"))
     tools.compare("monitor's prompt", tools.at_terminal(["monitor.py"], b"clear\nfly\n\x04"), (
@@ -280,6 +346,9 @@ def proving(folder):
     tools.environment["PATH"] += os.pathsep + os.environ["PATH"]
     tools.expect(["try", "knee"], 0, KNEE, PROVING + "rt: say proved\n")
     tools.expect(["try", "knee"], 0, KNEE)
+    write_rt(bin_folder, f"test \"$*\" = 'check monitor' && cp '{MONITOR}' target/bin/monitor && echo 'rt: monitor proved'")
+    tools.expect(["try", "--contested", "knee"], 0, KNEE_CONTESTED, PROVING.replace("say", "monitor") + "rt: monitor proved\n")
+    tools.expect(["try", "--contested", "knee"], 0, KNEE_CONTESTED)
     return tools.passed
 
 
@@ -296,7 +365,7 @@ def main():
             with open(os.path.join(folder, name), "wb") as file:
                 file.write(data)
         tools = Tools(ROOT, folder)
-        for part in (names, rule_files, readable_rules, monitor, typed_names, terminal):
+        for part in (names, rule_files, contested, rule_texts, readable_rules, monitor, typed_names, terminal):
             part(tools)
         print(f"tools: {tools.passed + proving(other)} passed")
 

@@ -125,6 +125,9 @@ class Commands:
     def lend(self, units):
         return b"\x25" + four(ALL if units == "all" else number(units, 32))
 
+    def contested(self):
+        return b"\x27"
+
     def frame(self, *words):
         return ruletext.hex_bytes(" ".join(words))
 

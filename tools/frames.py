@@ -84,11 +84,20 @@ def line_text(line):
 # Answers -----------------------------------------------------------------------
 
 def refusal_of(line):
-    """(number, place) of an 05 frame."""
+    """(number, place) of an 05 frame, or of an 08 frame, which has the steps (2) before them."""
     body = body_of(line)
-    if body[0] != 0x05 or len(body) != 6:
+    fields = body[3:] if body[0] == 0x08 else body[1:]
+    if body[0] not in (0x05, 0x08) or len(fields) != 5:
         raise Failure(f"unknown answer: {line_text(line)}")
-    return body[1], number_of(body[2:])
+    return fields[0], number_of(fields[1:])
+
+
+def contested_of(line):
+    """The count in an 0A frame that answers 27."""
+    body = body_of(line)
+    if body[0] != 0x0A or len(body) != 2:
+        raise Failure(f"unknown answer: {line_text(line)}")
+    return body[1]
 
 
 def refusal_text(number, place):
@@ -103,11 +112,15 @@ def phones_text(phones, alphabet):
     return said
 
 
-def spoken_text(body, alphabet):
-    """An 04 frame: steps (2), phone count (2), phones, rule count (1), numbers (2 each)."""
-    steps, count = number_of(body[1:3]), number_of(body[3:5])
+def spoken_of(body):
+    """(steps, phones, numbers) of an 04 frame: steps (2), phone count (2), phones, rule count (1), numbers (2 each)."""
+    count = number_of(body[3:5])
     phones, rest = body[5:5 + count], body[5 + count:]
-    numbers = [number_of(rest[k:k + 2]) for k in range(1, len(rest), 2)]
+    return number_of(body[1:3]), phones, [number_of(rest[k:k + 2]) for k in range(1, len(rest), 2)]
+
+
+def spoken_text(body, alphabet):
+    steps, phones, numbers = spoken_of(body)
     said = phones_text(phones, alphabet) or "nothing"
     by = {0: "no rules", 1: "rule "}.get(len(numbers), "rules ") + " ".join(map(str, numbers))
     return f"{said} by {by}, {steps} steps"
@@ -118,6 +131,5 @@ def answer_text(line, alphabet):
     body = body_of(line)
     if body[0] == 0x04:
         return spoken_text(body, alphabet)
-    if body[0] == 0x08 and len(body) == 8:
-        return refusal_text(body[3], number_of(body[4:])) + f" ({number_of(body[1:3])} steps)"
-    return refusal_text(*refusal_of(line))
+    steps = f" ({number_of(body[1:3])} steps)" if body[0] == 0x08 else ""
+    return refusal_text(*refusal_of(line)) + steps

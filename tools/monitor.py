@@ -7,6 +7,7 @@
     write [bytes=N]               build [words=N] [sets=N]
     say NAME [words=N] [sets=N] [phones=N] [numbers=N]      the walk through the tables
     plain NAME [phones=N] [numbers=N]                       the plain reading
+    contested                     how many letters of the last name spoken had more than one rule that fits
     store word INDEX VALUE        store set INDEX VALUE
     show words INDEX COUNT        show sets INDEX COUNT
     show phones                   show numbers
@@ -55,6 +56,8 @@ GREETING = "help lists the commands; Ctrl-D ends."
 def shown_text(command, data):
     """An 0A frame: what the command asked for, and from which index."""
     kind = command[0]
+    if kind == 0x27:
+        return f"{number_of(data)} contested"
     width = {0x1A: 2, 0x1B: 8, 0x1C: 1, 0x1D: 2}.get(kind, 1)
     each = {1: 16, 2: 16, 8: 4}[width]
     start = number_of(command[1:5]) if kind in (0x1A, 0x1B, 0x23) else 0

@@ -14,6 +14,7 @@ name and stands in no rule; where a space alone would be lost, in a name, _ is t
 import os
 import re
 import unicodedata
+from typing import NamedTuple
 
 import inputs
 from frames import frame, two
@@ -39,13 +40,19 @@ class Alphabet:
 
     def text(self, name):
         """A name as it can be typed. Spaces at an end or in a row are _: where words are typed they would be lost."""
-        typed = {SPACE: " ", **{code: letter for letter, code in self.letters.items()}}
-        text = "".join(typed.get(code, f"\\{code:02X}") for code in name)
-        return re.sub(r"^ +| {2,}| +$", lambda spaces: "_" * len(spaces[0]), text)
+        return re.sub(r"^ +| {2,}| +$", lambda spaces: "_" * len(spaces[0]), self.typed(name, {SPACE: " "}))
 
     def symbols(self, text, at=0):
         """A context or target: letters and #, spaces between them free; _ and \\3F are for the shape to refuse."""
         return codes(text, r"\S", {**self.letters, "_": SPACE, "#": BOUNDARY}, at)
+
+    def symbols_text(self, symbols):
+        """A context or target as it can be typed."""
+        return self.typed(symbols, {BOUNDARY: "#"})
+
+    def typed(self, symbols, others):
+        texts = {**others, **{code: letter for letter, code in self.letters.items()}}
+        return "".join(texts.get(code, f"\\{code:02X}") for code in symbols)
 
 
 def codes(text, character, letters, at=0):
@@ -77,6 +84,13 @@ def shown(character):
 
 # Rules ---------------------------------------------------------------------------
 # Every part of a rule is read together with its place in the source, so that a mistake is told with line and column.
+
+class Rule(NamedTuple):
+    left: bytes
+    target: bytes
+    right: bytes
+    phones: bytes
+
 
 def words_in(text, at=0):
     """(place, word) of each word."""
@@ -117,9 +131,15 @@ def parts_of(text, at=0):
 
 
 def rule_of(text, alphabet, at=0):
-    """The rule that a text says, of a rule's shape or not: the bytes of its four parts."""
+    """The rule that a text says, of a rule's shape or not."""
     *symbols, (place, phones) = parts_of(text, at)
-    return tuple(alphabet.symbols(part, start) for start, part in symbols) + (hex_bytes(phones, place),)
+    return Rule(*(alphabet.symbols(part, start) for start, part in symbols), hex_bytes(phones, place))
+
+
+def rule_text(rule, alphabet):
+    """A rule as it can be typed: left [target] right = phones."""
+    left, target, right = map(alphabet.symbols_text, rule[:3])
+    return " ".join(filter(None, (left, f"[{target}]", right, "=", rule.phones.hex(" ").upper())))
 
 
 def shape_fault(rule):

@@ -7,7 +7,18 @@
 
     tools/try --rules examples/basque.hex --names examples/basque.names
 
-tools/try proves and builds `say` first, if that was not done; tools/speak.py takes it as it was built.
+    tools/try --contested knee
+    knee -> 6E 69 by rules 1 6 4, 10 steps, 2 contested
+      * 1 k   applied 1: # [k] n = | over 2: [k] = 6B
+        2 n   applied 6: [n] = 6E
+      * 3 ee  applied 4: [ee] = 69 | over 5: [e] = 65
+
+--contested is for those who write rules: each letter that reading reaches, with the rules that fit there in
+their order. The first is applied; * marks the letters with more than one, where the name leans on that order.
+They are found in the rule file here, and held against what the program `monitor` says of the name.
+
+tools/try proves and builds `say` first, if that was not done (`monitor` with --contested); tools/speak.py
+takes it as it was built.
 Names come from the command line or a file or, where none are given, from standard input: one a line,
 ; starts a comment. At a terminal they are asked for; Ctrl-D ends. A refused name is an answered one.
 A space separates the words of a name; _ is one too, at an end. \\40 in a name stands for the byte 40.
@@ -16,14 +27,19 @@ A space separates the words of a name; _ is one too, at an end. \\40 in a name s
 import argparse
 import subprocess
 
+import fitting
 import frames
 import inputs
 import programs
 import ruletext
+from frames import four, two
 from inputs import Failure, Mistake
 
 LONGEST_INPUT = 32_768      # bytes that `say` takes, of rules.hex and of standard input alike
 TABLE_WORDS = 32_768        # words that `say` has for its tables
+TABLE_SETS = 4_096          # and set words
+PHONES, NUMBERS = 256, 64   # that `say` has for a name
+LONGEST_LINE = 4_096        # digits of a line that `monitor` takes
 
 
 def arguments():
@@ -34,7 +50,10 @@ def arguments():
     parser.add_argument("--rules", metavar="FILE", default=programs.example("six.hex"),
                         help="a rule file, NAME.hex (NAME.rules beside it tells letters and sounds), "
                              "or readable rules (tools/rules2hex.py --help); default: examples/six.hex")
-    parser.add_argument("--program", metavar="PATH", help="what to run, unproved; default: target/bin/say")
+    parser.add_argument("--contested", action="store_true",
+                        help="show the rules that fit at each letter, and how many letters have more than one")
+    parser.add_argument("--program", metavar="PATH",
+                        help="what to run, unproved; default: target/bin/say, with --contested target/bin/monitor")
     return parser.parse_args()
 
 
@@ -49,13 +68,6 @@ def names_given(given):
     if given.name:
         return given.name
     return None if inputs.at_terminal() else names_in(inputs.read_input())
-
-
-def name_line(name, alphabet):
-    line = frames.frame(b"\x03" + alphabet.name(name))
-    if len(line) > LONGEST_INPUT:
-        raise Mistake(f"its line has {len(line):,} bytes, `say` takes {LONGEST_INPUT:,}")
-    return line
 
 
 def batches(lines):
@@ -84,8 +96,16 @@ def about_rule_file(rule_file, number, place):
 class Speaker:
     """`say` with its rules."""
 
+    program = "say"
+
     def __init__(self, command, folder, alphabet):
         self.command, self.folder, self.alphabet = command, folder, alphabet
+
+    def line(self, name):
+        line = frames.frame(b"\x03" + self.alphabet.name(name))
+        if len(line) > LONGEST_INPUT:
+            raise Mistake(f"its line has {len(line):,} bytes, `say` takes {LONGEST_INPUT:,}")
+        return line
 
     def run(self, lines):
         done = subprocess.run(self.command, cwd=self.folder, input=b"".join(lines), stdout=subprocess.PIPE)
@@ -106,17 +126,20 @@ class Speaker:
                 raise Failure(f"{len(answers)} answers to {len(batch)} names")
             yield from answers
 
+    def text(self, name, answer):
+        return frames.answer_text(answer, self.alphabet)
+
     def speak(self, names):
-        """Prints a line for each name. The exit status."""
+        """Prints what is answered to each name. The exit status."""
         lines, faults = {}, {}
         for name in names:
             try:
-                lines[name] = name_line(name, self.alphabet)
+                lines[name] = self.line(name)
             except Mistake as mistake:
                 faults[name] = mistake
-        answers = self.answers(lines[name] for name in names if name in lines)
+        answers = self.answers([lines[name] for name in names if name in lines])
         for name in names:
-            text = f"not sent: {faults[name]}" if name in faults else frames.answer_text(next(answers), self.alphabet)
+            text = f"not sent: {faults[name]}" if name in faults else self.text(name, next(answers))
             print(f"{name} -> {text}")
         return Mistake.status if faults else 0
 
@@ -132,14 +155,64 @@ class Speaker:
         return 0
 
 
+class ContestedSpeaker(Speaker):
+    """`monitor` in the place of `say`, lent what `say` has: it tells how many letters are contested too."""
+
+    program = "monitor"
+    preparing = [frames.frame(b"\x13"), frames.frame(b"\x15" + four(TABLE_WORDS) + four(TABLE_SETS))]
+    asking = frames.frame(b"\x27")
+
+    def line(self, name):
+        line = frames.frame(b"\x16" + four(TABLE_WORDS) + four(TABLE_SETS) + two(PHONES) + two(NUMBERS) + self.alphabet.name(name))
+        if len(line) > LONGEST_LINE + 1:
+            raise Mistake(f"its line has {len(line) - 1:,} digits, `monitor` takes {LONGEST_LINE:,}")
+        return line
+
+    def run(self, lines):
+        """The answers to the lines or, as of `say`, only the one that refuses the rules."""
+        answers = super().run(self.preparing + lines)
+        refused = [answer for answer in answers[:2] if not answer.startswith(b"06")]
+        return refused[:1] or answers[2:]
+
+    def judge(self, rule_file, path):
+        super().judge(rule_file, path)
+        self.rules = fitting.rules_in(rule_file)
+
+    def answers(self, lines):
+        """(the answer, the count's) to each name."""
+        answers = self.run([part for line in lines for part in (line, self.asking)])
+        if len(answers) != 2 * len(lines):
+            raise Failure(f"{len(answers)} answers to {len(lines)} names and their counts")
+        yield from zip(answers[::2], answers[1::2])
+
+    def text(self, name, answers):
+        answer, count = answers
+        body = frames.body_of(answer)
+        if body[0] == 0x04:
+            contested = frames.contested_of(count)
+            told = frames.spoken_of(body)[2], contested
+            text = frames.spoken_text(body, self.alphabet) + f", {contested} contested"
+        else:
+            told = frames.refusal_of(answer)
+            text = frames.refusal_text(*told)
+            if told[0] != 3:        # about no letter
+                return text
+        reached = fitting.reached_letters(self.rules, self.alphabet.name(name))
+        found = fitting.outcome(reached)
+        if told != found:
+            raise Failure(f"{name}: `monitor` says {told}, by the rule file it is {found}")
+        return "\n".join([text, *fitting.listing(reached, self.alphabet)])
+
+
 def main(prove=False):
     given = arguments()
     alphabet, rule_file = ruletext.load_rules(given.rules)
     names = names_given(given)
+    kind = ContestedSpeaker if given.contested else Speaker
     if prove and not given.program:
-        programs.prove("say")
+        programs.prove(kind.program)
     with programs.folder_with(rule_file) as folder:
-        speaker = Speaker(programs.command(given.program, "say"), folder, alphabet)
+        speaker = kind(programs.command(given.program, kind.program), folder, alphabet)
         speaker.judge(rule_file, given.rules)
         return speaker.converse() if names is None else speaker.speak(names)
 
