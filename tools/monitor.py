@@ -7,7 +7,7 @@
     write [bytes=N]               build [words=N] [sets=N]
     say NAME [words=N] [sets=N] [phones=N] [numbers=N]      the walk through the tables
     plain NAME [phones=N] [numbers=N]                       the plain reading
-    contested                     how many letters of the last name spoken had more than one rule that fits
+    contested                     how many letters of the last name spoken were contested: more than one rule fits there
     store word INDEX VALUE        store set INDEX VALUE
     show words INDEX COUNT        show sets INDEX COUNT
     show phones                   show numbers
