@@ -2,7 +2,7 @@
 -- Assumes nothing.
 use Prim.Native.Nat.{ℕ, _+_, _-_, _*_, _/_, _≤_}
 use mathlib.Core.Path.{_≡_, refl, sym, ap, ap₂, _∙_}
-use mathlib.Core.Bool.{Bool, true, false, cond}
+use mathlib.Core.Bool.{true, false}
 use mathlib.Core.List.{List, [], _∷_, _++_}
 use native.Mathlib.Omega.{arith}
 use lib.Dec.{leb}
@@ -21,7 +21,7 @@ use Rattle.tables.specs.Walk.{Walked, walkThrough, walkFor, walkSaid}
 use Rattle.walk.specs.Walked.{walkedOf}
 use Rattle.walk.specs.declared.WalkAnswer.{WalkAnswer}
 use Rattle.host.specs.Codes.{phonesGiven, numbersGiven}
-use Rattle.host.specs.Many.{namesIn, replied, Lot, then, each, spokenAll, Many, manyFrom, noneAnswered, manySaid, rest, whole, Within, hasNext, nextName, Next}
+use Rattle.host.specs.Many.{namesIn, replySize, replied, Lot, then, each, spokenAll, manyFrom, noneAnswered, manySaid, rest, whole, Within, hasNext, nextName, Next}
 use Rattle.host.specs.declared.many.Progress.{Progress}
 use Rattle.host.proofs.Runs.{part-take, part-drop, part-in, part-length, put-over, put-length}
 use Rattle.host.proofs.Names.{next-count, next-whole, names-next, names-end}
@@ -53,7 +53,7 @@ pub record Going (f : Str → List ℕ → List ℕ → Walked) (names : List �
   pub replies-long : length re ≡ length re₀
 
 module _ (f : Str → List ℕ → List ℕ → Walked) (names : List ℕ) (k : ℕ) where
-  pub begin : (ph nu re : List ℕ) → 4 * k ≤ length re → Going f names k ph nu re ph nu re start
+  pub begin : (ph nu re : List ℕ) → replySize * k ≤ length re → Going f names k ph nu re ph nu re start
   begin ph nu re h = record {
     same = refl;
     within = record { at-in = omega arith; phones-in = omega arith; numbers-in = omega arith; count-in = omega arith; replies-in = h };
@@ -67,16 +67,14 @@ module _ (f : Str → List ℕ → List ℕ → Walked) (names : List ℕ) (k : 
     abbrev w : Walked
     w = nextName f names ph nu re p
 
-    replies-room : 4 * p .count + 4 ≤ length re
+    replies-room : replySize * p .count + replySize ≤ length re
     replies-room = omega (arith, i .replies-in, next-count names (p .at) (p .count) k h)
 
-    reply-end : 4 * p′ .count ≡ 4 * p .count + length (replied w)
+    reply-end : replySize * p′ .count ≡ replySize * p .count + length (replied w)
     reply-end = omega (arith, x .count-next)
 
-    replies-put : re′ ≡ take (4 * p .count) re ++ (replied w ++ drop (4 * p′ .count) re)
-    replies-put =
-        let four : 4 * p .count + 4 ≡ 4 * p′ .count = omega (arith, x .count-next) in
-        x .replies-now ∙ ap (λ (m : ℕ). take (4 * p .count) re ++ (replied w ++ drop m re)) four
+    replies-put : re′ ≡ take (replySize * p .count) re ++ (replied w ++ drop (replySize * p′ .count) re)
+    replies-put = x .replies-now ∙ ap (λ (m : ℕ). take (replySize * p .count) re ++ (replied w ++ drop m re)) (sym reply-end)
 
     rest-is : rest f names k ph nu p ≡ then w (rest f names k ph′ nu′ p′)
     rest-is =
@@ -92,8 +90,8 @@ module _ (f : Str → List ℕ → List ℕ → Walked) (names : List ℕ) (k : 
         let l = rest f names k ph′ nu′ p′ in
         lot-is (whole f names k ph′ nu′ re′ p′) (whole f names k ph nu re p)
         (omega (arith, x .count-next, ap (λ (m : Lot). m .count) rest-is))
-        (put-over (4 * p .count) (4 * p′ .count) re (replied w) re′ (omega (arith, replies-room)) reply-end replies-put (l .replies)
-        ∙ ap (λ (m : Lot). take (4 * p .count) re ++ over (m .replies) (drop (4 * p .count) re)) (sym rest-is))
+        (put-over (replySize * p .count) (replySize * p′ .count) re (replied w) re′ (omega (arith, replies-room)) reply-end replies-put (l .replies)
+        ∙ ap (λ (m : Lot). take (replySize * p .count) re ++ over (m .replies) (drop (replySize * p .count) re)) (sym rest-is))
         (part-take (p .phones) (phonesGiven (w .said .told)) (p′ .phones) ph (w .said .phones) ph′ (i .phones-in) (x .phones-next) (x .phones-now) (l .phones)
         ∙ ap (λ (m : Lot). take (p .phones) ph ++ m .phones) (sym rest-is))
         (part-take (p .numbers) (numbersGiven (w .said .told)) (p′ .numbers) nu (w .said .numbers) nu′ (i .numbers-in) (x .numbers-next) (x .numbers-now) (l .numbers)
@@ -110,7 +108,7 @@ module _ (f : Str → List ℕ → List ℕ → Walked) (names : List ℕ) (k : 
         omega (arith, a .numbers-fit, a .numbers-keep)
 
     replies-keep : length re′ ≡ length re
-    replies-keep = put-length (4 * p .count) (4 * p′ .count) re (replied w) re′ (omega (arith, replies-room)) reply-end replies-put (omega (arith, replies-room, x .count-next))
+    replies-keep = put-length (replySize * p .count) (replySize * p′ .count) re (replied w) re′ (omega (arith, replies-room)) reply-end replies-put (omega (arith, replies-room, x .count-next))
 
     phones-keep : Fits f → length ph′ ≡ length ph
     phones-keep fits =
@@ -148,7 +146,7 @@ module _ (f : Str → List ℕ → List ℕ → Walked) (names : List ℕ) (k : 
       ap (λ (l : List Str). each f l (drop (p .phones) ph) (drop (p .numbers) nu)) (names-end names (p .at) (p .count) k h) in
       lot-is (whole f names k ph nu re p) (record { count = p .count; replies = re; phones = ph; numbers = nu })
       (omega (arith, ap (λ (m : Lot). m .count) r))
-      (ap (λ (m : Lot). take (4 * p .count) re ++ over (m .replies) (drop (4 * p .count) re)) r ∙ take-append-drop (4 * p .count) re)
+      (ap (λ (m : Lot). take (replySize * p .count) re ++ over (m .replies) (drop (replySize * p .count) re)) r ∙ take-append-drop (replySize * p .count) re)
       (ap (λ (m : Lot). take (p .phones) ph ++ m .phones) r ∙ take-append-drop (p .phones) ph)
       (ap (λ (m : Lot). take (p .numbers) nu ++ m .numbers) r ∙ take-append-drop (p .numbers) nu)
 
@@ -223,7 +221,7 @@ module _ (image : List ℕ) (l : Listing) (ws ss names ph nu re : List ℕ) (p :
       omega (arith, a, b, h, k, length-drop (p .numbers) nu)
 
   pub next-is : (g h : ℕ) → g ≡ phonesGiven (toldOf (r .speech)) → h ≡ numbersGiven (toldOf (r .speech)) → (re′ : List ℕ)
-      → re′ ≡ take (4 * p .count) re ++ (replied (walkedOf r zs ys) ++ drop (4 * p .count + 4) re)
+      → re′ ≡ take (replySize * p .count) re ++ (replied (walkedOf r zs ys) ++ drop (replySize * p .count + replySize) re)
       → Next (walkSaid image l ws ss) names ph nu re p (putMid (p .phones) (length ph - p .phones) ph zs) (putMid (p .numbers) (length nu - p .numbers) nu ys) re′
       (record { at = p .at + 1 + n; count = p .count + 1; phones = p .phones + g; numbers = p .numbers + h })
   next-is g h eg eh re′ er = record {
@@ -233,7 +231,7 @@ module _ (image : List ℕ) (l : Listing) (ws ss names ph nu re : List ℕ) (p :
     numbers-next = ap (λ (k : ℕ). p .numbers + k) (eh ∙ ap (λ (x : Walked). numbersGiven (x .said .told)) named);
     phones-now = put-tail (p .phones) ph zs ∙ ap (λ (x : Walked). take (p .phones) ph ++ x .said .phones) named;
     numbers-now = put-tail (p .numbers) nu ys ∙ ap (λ (x : Walked). take (p .numbers) nu ++ x .said .numbers) named;
-    replies-now = er ∙ ap (λ (x : Walked). take (4 * p .count) re ++ (replied x ++ drop (4 * p .count + 4) re)) named;
+    replies-now = er ∙ ap (λ (x : Walked). take (replySize * p .count) re ++ (replied x ++ drop (replySize * p .count + replySize) re)) named;
   }
 
 -- ---- the whole call
@@ -253,6 +251,6 @@ module _ (image list ws ss names ph nu re : List ℕ) where
   many-unlisted v i = rw (v, i)
 
 pub all-is : (image : List ℕ) (l : Listing) (ws ss names ph nu re : List ℕ)
-    → spokenAll image l ws ss names ph nu re ≡ each (walkSaid image l ws ss) (namesIn (length re / 4) names) ph nu
+    → spokenAll image l ws ss names ph nu re ≡ each (walkSaid image l ws ss) (namesIn (length re / replySize) names) ph nu
 unfolding spokenAll
 all-is image l ws ss names ph nu re = refl

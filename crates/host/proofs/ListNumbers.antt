@@ -1,13 +1,13 @@
 -- The numbers that a host gets of the exceptions list.
 -- Assumes nothing.
-use Prim.Native.Nat.{ℕ, _≤_, _<_, max}
-use mathlib.Core.Path.{_≡_, ap, sym, _∙_}
+use Prim.Native.Nat.{ℕ, _≤_, _<_}
+use mathlib.Core.Path.{_≡_, ap, _∙_}
 use mathlib.Core.Bool.{Bool, true, false, cond}
 use mathlib.Core.List.{List}
 use native.Mathlib.Omega.{arith}
 use Rattle.rules.specs.Refusals.{Reply, accepted, declined, replyCode, Report}
 use Rattle.rules.proofs.Cases.{byBool}
-use Rattle.exceptions.specs.Layout.{wordsOf, startOf, namesIn, statesIn}
+use Rattle.exceptions.specs.Layout.{wordsOf, startOf, statesIn}
 use Rattle.exceptions.specs.Judging.{isList, judgedList}
 use Rattle.exceptions.specs.Calls.{Emptied, emptying, nameCount, stateCount}
 use Rattle.exceptions.proofs.Decided.{list-facts}

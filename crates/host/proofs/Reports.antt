@@ -1,12 +1,10 @@
 -- What a call's report in numbers says, from the library's equation.
 -- Assumes nothing.
-use Prim.Native.Nat.{ℕ, _+_, _≤_, _<_}
+use Prim.Native.Nat.{ℕ, _≤_, _<_}
 use mathlib.Core.Path.{_≡_, sym, ap, _∙_}
 use mathlib.Core.Bool.{Bool, true, false, cond}
-use mathlib.Core.List.{List, [], _∷_}
-use native.Mathlib.Omega.{arith}
-use lib.ListN.{length, getD, take, drop, length-drop}
-use lib.Seq.{getD-drop}
+use mathlib.Core.List.{List}
+use lib.ListN.{length}
 use borrow.Author.Tests.{eq-eqb, ne-eqb, lt-leb, le-leb}
 use Rattle.rules.specs.Shape.{shape}
 use Rattle.rules.specs.declared.Rule.{Rule}
@@ -19,7 +17,7 @@ use Rattle.tables.specs.Words.{Built, building}
 use Rattle.file.specs.Loading.{Filed, filing}
 use Rattle.rules.specs.Refusals.{Report}
 use Rattle.host.specs.Files.{writtenCode, bytesOrPlace}
-use Rattle.host.specs.Codes.{checked, countIn, lastIn, spokenCode, phonesOrPlace, numbersGiven, blankRule, ruleGiven}
+use Rattle.host.specs.Codes.{checked, countIn, lastIn, spokenCode, phonesOrPlace, numbersGiven, contestedGiven, blankRule, ruleGiven}
 
 -- the numbers of an edit or a reading, and the memory after it
 module _ (a : Reply) (image : List ℕ) (e : Edited) (h : outcome a image ≡ e) where
@@ -75,6 +73,9 @@ module _ (t : Told) (phones numbers : List ℕ) (s : Said) (h : saying t phones 
 
   pub said-applied : (r : ℕ) → r ≡ numbersGiven t → r ≡ numbersGiven (s .told)
   said-applied r c = c ∙ ap (λ (x : Said). numbersGiven (x .told)) h
+
+  pub said-contested : (r : ℕ) → r ≡ contestedGiven t → r ≡ contestedGiven (s .told)
+  said-contested r c = c ∙ ap (λ (x : Said). contestedGiven (x .told)) h
 
   pub said-phones : phones ≡ s .phones
   said-phones = ap (λ (x : Said). x .phones) h

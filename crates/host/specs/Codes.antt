@@ -26,23 +26,28 @@ lastIn image = cond (leb imageSize (length image)) (lastOf image) 0
 -- ---- a call that speaks a name
 
 abbrev pub spokenCode : Told → ℕ
-spokenCode (spoken p n) = replyCode accepted
+spokenCode (spoken p n c) = replyCode accepted
 spokenCode (refused n p) = n
 
 -- how many phones were given, or the refusal's place
 abbrev pub phonesOrPlace : Told → ℕ
-phonesOrPlace (spoken p n) = p
+phonesOrPlace (spoken p n c) = p
 phonesOrPlace (refused n p) = p
 
 -- how many phones were given
 abbrev pub phonesGiven : Told → ℕ
-phonesGiven (spoken p n) = p
+phonesGiven (spoken p n c) = p
 phonesGiven (refused n p) = 0
 
 -- how many rule numbers were given
 abbrev pub numbersGiven : Told → ℕ
-numbersGiven (spoken p n) = n
+numbersGiven (spoken p n c) = n
 numbersGiven (refused n p) = 0
+
+-- how many letters were contested
+abbrev pub contestedGiven : Told → ℕ
+contestedGiven (spoken p n c) = c
+contestedGiven (refused n p) = 0
 
 -- ---- a rule from the host: a slot without its number
 

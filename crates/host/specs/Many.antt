@@ -3,7 +3,7 @@
 use Prim.Native.Nat.{ℕ, zero, suc, _+_, _-_, _*_, _/_, _≤_}
 use mathlib.Core.Path.{_≡_}
 use mathlib.Core.List.{List, [], _∷_, _++_}
-use mathlib.Core.Bool.{Bool, false, cond, _&&_}
+use mathlib.Core.Bool.{Bool, cond, _&&_}
 use lib.Dec.{leb, ltb}
 use lib.ListN.{length, getD, take, drop}
 use Rattle.rules.specs.Refusals.{accepted, replyCode}
@@ -13,7 +13,7 @@ use mathlib.Core.Option.{none, some}
 use Rattle.exceptions.specs.Judging.{Listing}
 use Rattle.reading.specs.Fitting.{Str}
 use Rattle.tables.specs.Walk.{Walked, walkSaid}
-use Rattle.host.specs.Codes.{spokenCode, phonesOrPlace, phonesGiven, numbersGiven}
+use Rattle.host.specs.Codes.{spokenCode, phonesOrPlace, phonesGiven, numbersGiven, contestedGiven}
 use Rattle.host.specs.declared.many.Progress.{Progress}
 
 -- the names in the bytes, each after a byte that says its length: at most k of them, and only whole ones
@@ -22,9 +22,13 @@ namesIn zero s = []
 namesIn (suc k) [] = []
 namesIn (suc k) (n ∷ s) = cond (leb n (length s)) (take n s ∷ namesIn k (drop n s)) []
 
--- the reply to a name: its code, the phones given or the place, the numbers given, the steps
+-- how many numbers a reply has
+abbrev pub replySize : ℕ
+replySize = 5
+
+-- the reply to a name: its code, the phones given or the place, the numbers given, the steps, the contested letters
 abbrev pub replied : Walked → List ℕ
-replied w = spokenCode (w .said .told) ∷ phonesOrPlace (w .said .told) ∷ numbersGiven (w .said .told) ∷ w .steps ∷ []
+replied w = spokenCode (w .said .told) ∷ phonesOrPlace (w .said .told) ∷ numbersGiven (w .said .told) ∷ w .steps ∷ contestedGiven (w .said .told) ∷ []
 
 -- how many names were answered, their replies, and the lent phones and numbers after them
 pub record Lot : Type 0 where
@@ -50,9 +54,9 @@ each f (n ∷ ns) phones numbers =
     (each f ns (drop (phonesGiven (f n phones numbers .said .told)) (f n phones numbers .said .phones))
     (drop (numbersGiven (f n phones numbers .said .told)) (f n phones numbers .said .numbers)))
 
--- every whole name that has room for its reply, four numbers, by the walk
+-- every whole name that has room for its reply, by the walk
 unfoldable pub spokenAll : List ℕ → Listing → List ℕ → List ℕ → List ℕ → List ℕ → List ℕ → List ℕ → Lot
-spokenAll image l ws ss names phones numbers replies = each (walkSaid image l ws ss) (namesIn (length replies / 4) names) phones numbers
+spokenAll image l ws ss names phones numbers replies = each (walkSaid image l ws ss) (namesIn (length replies / replySize) names) phones numbers
 
 -- all that the call gives
 pub record Many : Type 0 where
@@ -92,7 +96,7 @@ module _ (f : Str → List ℕ → List ℕ → Walked) (names : List ℕ) (k : 
   abbrev pub whole : List ℕ → List ℕ → List ℕ → Progress → Lot
   whole phones numbers replies p = record {
     count = p .count + rest phones numbers p .count;
-    replies = take (4 * p .count) replies ++ over (rest phones numbers p .replies) (drop (4 * p .count) replies);
+    replies = take (replySize * p .count) replies ++ over (rest phones numbers p .replies) (drop (replySize * p .count) replies);
     phones = take (p .phones) phones ++ rest phones numbers p .phones;
     numbers = take (p .numbers) numbers ++ rest phones numbers p .numbers;
   }
@@ -103,7 +107,7 @@ module _ (f : Str → List ℕ → List ℕ → Walked) (names : List ℕ) (k : 
     pub phones-in : p .phones ≤ length phones
     pub numbers-in : p .numbers ≤ length numbers
     pub count-in : p .count ≤ k
-    pub replies-in : 4 * k ≤ length replies
+    pub replies-in : replySize * k ≤ length replies
 
 -- fewer than k names are answered, and a whole one lies from `at` on
 abbrev pub hasNext : List ℕ → ℕ → ℕ → ℕ → Bool
@@ -121,4 +125,4 @@ module _ (f : Str → List ℕ → List ℕ → Walked) (names phones numbers re
     pub numbers-next : p′ .numbers ≡ p .numbers + numbersGiven (nextName .said .told)
     pub phones-now : phones′ ≡ take (p .phones) phones ++ nextName .said .phones
     pub numbers-now : numbers′ ≡ take (p .numbers) numbers ++ nextName .said .numbers
-    pub replies-now : replies′ ≡ take (4 * p .count) replies ++ (replied nextName ++ drop (4 * p .count + 4) replies)
+    pub replies-now : replies′ ≡ take (replySize * p .count) replies ++ (replied nextName ++ drop (replySize * p .count + replySize) replies)

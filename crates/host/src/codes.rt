@@ -3,7 +3,7 @@ use reading::Speech;
 use rules::Written;
 ghost use mathlib.Core.Path.{_≡_};
 ghost use Rattle.reading.specs.Speech.{toldOf};
-ghost use Rattle.host.specs.Codes.{spokenCode, phonesOrPlace, phonesGiven, numbersGiven};
+ghost use Rattle.host.specs.Codes.{spokenCode, phonesOrPlace, phonesGiven, numbersGiven, contestedGiven};
 ghost use Rattle.rules.specs.Refusals.{reportOf};
 ghost use Rattle.host.specs.Files.{writtenCode, bytesOrPlace};
 
@@ -14,6 +14,7 @@ pub fn spoken_code(speech: Speech) -> u8
         Speech::Spoken {
             phones: _,
             numbers: _,
+            contested: _,
         } => rules::ACCEPTED,
         Speech::Refused(x) => rules::refusal_number(x),
     }
@@ -23,7 +24,11 @@ pub fn phones_or_place(speech: Speech) -> usize
     ensures { λ r. ⌜ r ≡ phonesOrPlace (toldOf speech) ⌝ }
 {
     match speech {
-        Speech::Spoken { phones, numbers: _ } => phones,
+        Speech::Spoken {
+            phones,
+            numbers: _,
+            contested: _,
+        } => phones,
         Speech::Refused(x) => rules::refusal_place(x),
     }
 }
@@ -32,7 +37,11 @@ pub fn phones_given(speech: Speech) -> usize
     ensures { λ r. ⌜ r ≡ phonesGiven (toldOf speech) ⌝ }
 {
     match speech {
-        Speech::Spoken { phones, numbers: _ } => phones,
+        Speech::Spoken {
+            phones,
+            numbers: _,
+            contested: _,
+        } => phones,
         Speech::Refused(_) => 0,
     }
 }
@@ -41,7 +50,24 @@ pub fn numbers_given(speech: Speech) -> usize
     ensures { λ r. ⌜ r ≡ numbersGiven (toldOf speech) ⌝ }
 {
     match speech {
-        Speech::Spoken { phones: _, numbers } => numbers,
+        Speech::Spoken {
+            phones: _,
+            numbers,
+            contested: _,
+        } => numbers,
+        Speech::Refused(_) => 0,
+    }
+}
+
+pub fn contested_given(speech: Speech) -> usize
+    ensures { λ r. ⌜ r ≡ contestedGiven (toldOf speech) ⌝ }
+{
+    match speech {
+        Speech::Spoken {
+            phones: _,
+            numbers: _,
+            contested,
+        } => contested,
         Speech::Refused(_) => 0,
     }
 }

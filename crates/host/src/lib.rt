@@ -6,8 +6,6 @@ pub mod lists;
 mod many;
 
 ghost use mathlib.Core.Path.{_≡_};
-ghost use Prim.Native.Nat.{_<_};
-ghost use lib.ListN.{length};
 ghost use Rattle.rules.specs.Refusals.{replyCode, replyPlace};
 ghost use Rattle.image.specs.Image.{cleared};
 ghost use Rattle.edits.specs.Ledger.{Edit};
@@ -16,7 +14,7 @@ ghost use Rattle.exceptions.specs.Judging.{listingOf};
 ghost use Rattle.reading.specs.Speech.{plainSaid};
 ghost use Rattle.tables.specs.Words.{built};
 ghost use Rattle.tables.specs.Walk.{walkSaid};
-ghost use Rattle.host.specs.Codes.{checked, countIn, lastIn, spokenCode, phonesOrPlace, numbersGiven, ruleGiven};
+ghost use Rattle.host.specs.Codes.{checked, countIn, lastIn, spokenCode, phonesOrPlace, numbersGiven, contestedGiven, ruleGiven};
 ghost use Rattle.file.specs.Loading.{loaded, filed};
 ghost use Rattle.host.specs.Files.{writtenCode, bytesOrPlace};
 ghost use Rattle.host.specs.Many.{manySaid};
@@ -151,7 +149,8 @@ pub extern "C" fn pirrozketa_build(
 
 // ---- one name
 
-// The plain reading of a name, the list first. `given` is the phones given or the refusal's place, `applied` the numbers given.
+// The plain reading of a name, the list first. `given` is the phones given or the refusal's place, `applied` the numbers given,
+// `contested` the reached letters at which more than one rule fits.
 #[no_mangle]
 pub extern "C" fn pirrozketa_read_name(
     image: &[u8],
@@ -161,16 +160,19 @@ pub extern "C" fn pirrozketa_read_name(
     numbers: &mut [u16],
     given: &mut usize,
     applied: &mut usize,
+    contested: &mut usize,
 ) -> u8
     ensures code { λ r. ⌜ r ≡ spokenCode (plainSaid (now (image .entry)) (listingOf (now (list .entry))) (now (name .entry)) (now (phones .entry)) (now (numbers .entry)) .told) ⌝ }
     ensures given { λ _. ⌜ now (given .exit) ≡ phonesOrPlace (plainSaid (now (image .entry)) (listingOf (now (list .entry))) (now (name .entry)) (now (phones .entry)) (now (numbers .entry)) .told) ⌝ }
     ensures applied { λ _. ⌜ now (applied .exit) ≡ numbersGiven (plainSaid (now (image .entry)) (listingOf (now (list .entry))) (now (name .entry)) (now (phones .entry)) (now (numbers .entry)) .told) ⌝ }
+    ensures contested { λ _. ⌜ now (contested .exit) ≡ contestedGiven (plainSaid (now (image .entry)) (listingOf (now (list .entry))) (now (name .entry)) (now (phones .entry)) (now (numbers .entry)) .told) ⌝ }
     ensures phones { λ _. ⌜ now (phones .exit) ≡ plainSaid (now (image .entry)) (listingOf (now (list .entry))) (now (name .entry)) (now (phones .entry)) (now (numbers .entry)) .phones ⌝ }
     ensures numbers { λ _. ⌜ now (numbers .exit) ≡ plainSaid (now (image .entry)) (listingOf (now (list .entry))) (now (name .entry)) (now (phones .entry)) (now (numbers .entry)) .numbers ⌝ }
 {
     let speech = reading::read_name(image, list, name, phones, numbers);
     *given = codes::phones_or_place(speech);
     *applied = codes::numbers_given(speech);
+    *contested = codes::contested_given(speech);
     codes::spoken_code(speech)
 }
 
@@ -187,11 +189,13 @@ pub extern "C" fn pirrozketa_speak<'a>(
     given: &mut usize,
     applied: &mut usize,
     steps: &mut usize,
+    contested: &mut usize,
 ) -> u8
     ensures code { λ r. ⌜ r ≡ spokenCode (walkSaid (now (image .entry)) (listingOf (now (list .entry))) (now (words .entry)) (now (sets .entry)) (now (name .entry)) (now (phones .entry)) (now (numbers .entry)) .said .told) ⌝ }
     ensures given { λ _. ⌜ now (given .exit) ≡ phonesOrPlace (walkSaid (now (image .entry)) (listingOf (now (list .entry))) (now (words .entry)) (now (sets .entry)) (now (name .entry)) (now (phones .entry)) (now (numbers .entry)) .said .told) ⌝ }
     ensures applied { λ _. ⌜ now (applied .exit) ≡ numbersGiven (walkSaid (now (image .entry)) (listingOf (now (list .entry))) (now (words .entry)) (now (sets .entry)) (now (name .entry)) (now (phones .entry)) (now (numbers .entry)) .said .told) ⌝ }
     ensures steps { λ _. ⌜ now (steps .exit) ≡ walkSaid (now (image .entry)) (listingOf (now (list .entry))) (now (words .entry)) (now (sets .entry)) (now (name .entry)) (now (phones .entry)) (now (numbers .entry)) .steps ⌝ }
+    ensures contested { λ _. ⌜ now (contested .exit) ≡ contestedGiven (walkSaid (now (image .entry)) (listingOf (now (list .entry))) (now (words .entry)) (now (sets .entry)) (now (name .entry)) (now (phones .entry)) (now (numbers .entry)) .said .told) ⌝ }
     ensures phones { λ _. ⌜ now (phones .exit) ≡ walkSaid (now (image .entry)) (listingOf (now (list .entry))) (now (words .entry)) (now (sets .entry)) (now (name .entry)) (now (phones .entry)) (now (numbers .entry)) .said .phones ⌝ }
     ensures numbers { λ _. ⌜ now (numbers .exit) ≡ walkSaid (now (image .entry)) (listingOf (now (list .entry))) (now (words .entry)) (now (sets .entry)) (now (name .entry)) (now (phones .entry)) (now (numbers .entry)) .said .numbers ⌝ }
 {
@@ -200,13 +204,14 @@ pub extern "C" fn pirrozketa_speak<'a>(
     *given = codes::phones_or_place(speech);
     *applied = codes::numbers_given(speech);
     *steps = answer.steps;
+    *contested = codes::contested_given(speech);
     codes::spoken_code(speech)
 }
 
 // ---- many names
 
-// Many names, the ruleset and the list checked once. `names` has each name after a byte that says its length; the reply to each is four
-// numbers; `count` is how many names were answered.
+// Many names, the ruleset and the list checked once. `names` has each name after a byte that says its length; the reply to each is five
+// numbers: its code, the phones given or the place, the numbers given, the steps, the contested letters. `count` is how many were answered.
 #[no_mangle]
 pub extern "C" fn pirrozketa_speak_many<'a>(
     image: &[u8],

@@ -11,8 +11,11 @@ ghost use Rattle.image.specs.Image.{valid};
 ghost use Rattle.exceptions.specs.Judging.{isList, listingOf};
 ghost use Rattle.reading.specs.Speech.{toldOf};
 ghost use Rattle.tables.specs.Walk.{walkSaid};
-ghost use Rattle.host.specs.Codes.{spokenCode, phonesOrPlace, numbersGiven};
-ghost use Rattle.host.specs.Many.{spokenAll, hasNext, Next};
+ghost use Rattle.host.specs.Codes.{spokenCode, phonesOrPlace, numbersGiven, contestedGiven};
+ghost use Rattle.host.specs.Many.{replySize, spokenAll, hasNext, Next};
+
+// How many numbers a reply has.
+const REPLY: usize = 5;
 
 // How far the answering has come: the place in the names, the names answered, the phones and the numbers given.
 pub struct Progress {
@@ -42,14 +45,15 @@ fn has_next(names: &[u8], at: usize, count: usize, limit: usize) -> bool
 
 // A reply, from `at` on.
 fn put_reply(replies: &mut [usize], at: usize, answer: WalkAnswer)
-    requires { ⌜ at + 4 ≤ length (now replies) ⌝ }
-    ensures { λ _. ⌜ now (replies .exit) ≡ take at (now (replies .entry)) ++ (spokenCode (toldOf (answer .speech)) ∷ phonesOrPlace (toldOf (answer .speech)) ∷ numbersGiven (toldOf (answer .speech)) ∷ answer .steps ∷ drop (at + 4) (now (replies .entry))) ⌝ }
+    requires { ⌜ at + replySize ≤ length (now replies) ⌝ }
+    ensures { λ _. ⌜ now (replies .exit) ≡ take at (now (replies .entry)) ++ (spokenCode (toldOf (answer .speech)) ∷ phonesOrPlace (toldOf (answer .speech)) ∷ numbersGiven (toldOf (answer .speech)) ∷ answer .steps ∷ contestedGiven (toldOf (answer .speech)) ∷ drop (at + replySize) (now (replies .entry))) ⌝ }
 {
     let speech = answer.speech;
     replies[at] = numbers::wide(codes::spoken_code(speech));
     replies[at + 1] = codes::phones_or_place(speech);
     replies[at + 2] = codes::numbers_given(speech);
     replies[at + 3] = answer.steps;
+    replies[at + 4] = codes::contested_given(speech);
 }
 
 // The next name is answered, in the lent memory after the answers before it.
@@ -64,7 +68,7 @@ fn speak_next<'a>(
     replies: &mut [usize],
     p: Progress,
 ) -> Progress
-    requires { ⌜ (valid (now image) ≡ true) × (isList (now list) ≡ true) × (p .at + 1 + getD (now names) (p .at) 0 ≤ length (now names)) × (p .phones ≤ length (now phones)) × (p .numbers ≤ length (now numbers)) × (4 * p .count + 4 ≤ length (now replies)) ⌝ }
+    requires { ⌜ (valid (now image) ≡ true) × (isList (now list) ≡ true) × (p .at + 1 + getD (now names) (p .at) 0 ≤ length (now names)) × (p .phones ≤ length (now phones)) × (p .numbers ≤ length (now numbers)) × (replySize * p .count + replySize ≤ length (now replies)) ⌝ }
     ensures { λ r. ⌜ Next (walkSaid (now (image .entry)) (listingOf (now (list .entry))) (now (words .entry)) (now (sets .entry))) (now (names .entry)) (now (phones .entry)) (now (numbers .entry)) (now (replies .entry)) p (now (phones .exit)) (now (numbers .exit)) (now (replies .exit)) r ⌝ }
 {
     let at = p.at;
@@ -81,7 +85,7 @@ fn speak_next<'a>(
         &mut phones[from..],
         &mut numbers[to..],
     );
-    put_reply(replies, 4 * p.count, answer);
+    put_reply(replies, REPLY * p.count, answer);
     let speech = answer.speech;
     Progress {
         at: end,
@@ -108,7 +112,7 @@ pub fn speak_all<'a>(
     ensures phones { λ _. ⌜ now (phones .exit) ≡ spokenAll (now (image .entry)) (listingOf (now (list .entry))) (now (words .entry)) (now (sets .entry)) (now (names .entry)) (now (phones .entry)) (now (numbers .entry)) (now (replies .entry)) .phones ⌝ }
     ensures numbers { λ _. ⌜ now (numbers .exit) ≡ spokenAll (now (image .entry)) (listingOf (now (list .entry))) (now (words .entry)) (now (sets .entry)) (now (names .entry)) (now (phones .entry)) (now (numbers .entry)) (now (replies .entry)) .numbers ⌝ }
 {
-    let limit = replies.len() / 4;
+    let limit = replies.len() / REPLY;
     let mut p = Progress {
         at: 0,
         count: 0,

@@ -1,6 +1,6 @@
 -- `host::pirrozketa_read_name` meets its contract.
 -- Assumes nothing.
-use Rattle.host.proofs.Reports.{said-code, said-given, said-applied, said-phones, said-numbers}
+use Rattle.host.proofs.Reports.{said-code, said-given, said-applied, said-contested, said-phones, said-numbers}
 use borrow.Author.Needs.{needs}
 use Rattle.host.proofs.pirrozketa_read_name.Statement.{statement}
 use Rattle.host.proofs.pirrozketa_read_name.Tie as tie
@@ -14,6 +14,9 @@ phones-or-place-requires c κs = search needs
 numbers-given-requires : tie.Need-numbers-given-requires
 numbers-given-requires c κs = search needs
 
+contested-given-requires : tie.Need-contested-given-requires
+contested-given-requires c κs = search needs
+
 spoken-code-requires : tie.Need-spoken-code-requires
 spoken-code-requires c κs = search needs
 
@@ -25,11 +28,14 @@ same-length-2 c = search needs
 
 returns : tie.Need-returns
 returns c =
-    let h = c .before .before .before .before .before .before .before .read-name .ensures in (
+    let h = c .before .before .before .before .before .before .before .before .read-name .ensures in (
       said-code _ _ _ _ h _ (c .spoken-code .ensures),
       (
-        said-given _ _ _ _ h _ (c .before .before .phones-or-place .ensures),
-        (said-applied _ _ _ _ h _ (c .before .numbers-given .ensures), (said-phones _ _ _ _ h, said-numbers _ _ _ _ h)),
+        said-given _ _ _ _ h _ (c .before .before .before .phones-or-place .ensures),
+        (
+          said-applied _ _ _ _ h _ (c .before .before .numbers-given .ensures),
+          (said-contested _ _ _ _ h _ (c .before .contested-given .ensures), (said-phones _ _ _ _ h, said-numbers _ _ _ _ h)),
+        ),
       ),
     )
 
@@ -40,6 +46,7 @@ pirrozketa-read-name-spec =
     read-name-requires
     phones-or-place-requires
     numbers-given-requires
+    contested-given-requires
     spoken-code-requires
     same-length
     same-length-2

@@ -2,7 +2,7 @@
 -- Assumes nothing.
 use mathlib.Core.Path.{ap}
 use Rattle.tables.specs.Walk.{Walked}
-use Rattle.host.proofs.Reports.{said-code, said-given, said-applied, said-phones, said-numbers}
+use Rattle.host.proofs.Reports.{said-code, said-given, said-applied, said-contested, said-phones, said-numbers}
 use borrow.Author.Needs.{needs}
 use Rattle.host.proofs.pirrozketa_speak.Statement.{statement}
 use Rattle.host.proofs.pirrozketa_speak.Tie as tie
@@ -16,6 +16,9 @@ phones-or-place-requires c κs = search needs
 numbers-given-requires : tie.Need-numbers-given-requires
 numbers-given-requires c κs = search needs
 
+contested-given-requires : tie.Need-contested-given-requires
+contested-given-requires c κs = search needs
+
 spoken-code-requires : tie.Need-spoken-code-requires
 spoken-code-requires c κs = search needs
 
@@ -27,13 +30,13 @@ same-length-2 c = search needs
 
 returns : tie.Need-returns
 returns c =
-    let h = ap (λ (x : Walked). x .said) (c .before .before .before .before .before .before .before .speak-compiled .ensures) in (
+    let h = ap (λ (x : Walked). x .said) (c .before .before .before .before .before .before .before .before .speak-compiled .ensures) in (
       said-code _ _ _ _ h _ (c .spoken-code .ensures),
       (
-        said-given _ _ _ _ h _ (c .before .before .phones-or-place .ensures),
+        said-given _ _ _ _ h _ (c .before .before .before .phones-or-place .ensures),
         (
-          said-applied _ _ _ _ h _ (c .before .numbers-given .ensures),
-          (ap (λ (x : Walked). x .steps) (c .before .before .before .before .before .before .before .speak-compiled .ensures), (said-phones _ _ _ _ h, said-numbers _ _ _ _ h)),
+          said-applied _ _ _ _ h _ (c .before .before .numbers-given .ensures),
+          (ap (λ (x : Walked). x .steps) (c .before .before .before .before .before .before .before .before .speak-compiled .ensures), (said-contested _ _ _ _ h _ (c .before .contested-given .ensures), (said-phones _ _ _ _ h, said-numbers _ _ _ _ h))),
         ),
       ),
     )
@@ -45,6 +48,7 @@ pirrozketa-speak-spec =
     speak-compiled-requires
     phones-or-place-requires
     numbers-given-requires
+    contested-given-requires
     spoken-code-requires
     same-length
     same-length-2

@@ -1,9 +1,9 @@
--- `host::many::put_reply` meets its contract: four stores.
+-- `host::many::put_reply` meets its contract: five stores.
 -- Assumes nothing.
 use mathlib.Core.Path.{_∙_}
 use native.Mathlib.Omega.{arith}
 use lib.ListN.{length-set}
-use Rattle.host.proofs.Runs.{put-four}
+use Rattle.host.proofs.Runs.{put-five}
 use borrow.Author.Needs.{needs}
 use Rattle.host.proofs.many.put_reply.Statement.{statement}
 use Rattle.host.proofs.many.put_reply.Tie as tie
@@ -53,13 +53,25 @@ mul-replies-4 c = search needs
 slice-write-replies-4 : tie.Need-slice-write-replies-4
 slice-write-replies-4 c = simp length-set (omega (arith, c .before .before .before .before .before .pre))
 
+contested-given-requires : tie.Need-contested-given-requires
+contested-given-requires c κs = search needs
+
+add-replies-4 : tie.Need-add-replies-4
+add-replies-4 c = search needs
+
+mul-replies-5 : tie.Need-mul-replies-5
+mul-replies-5 c = search needs
+
+slice-write-replies-5 : tie.Need-slice-write-replies-5
+slice-write-replies-5 c = simp length-set (omega (arith, c .before .before .before .before .before .before .pre))
+
 same-length : tie.Need-same-length
 same-length c = search needs
 
 returns : tie.Need-returns
 returns c =
-    let st = c .before .before .before .before .before in
-    put-four (st .args .replies .now) (st .args .at) _ _ _ _ _ _ _ (st .pre) (c .before .before .wide .ensures .0 ∙ c .before .before .before .spoken-code .ensures) (c .before .phones-or-place .ensures) (c .numbers-given .ensures)
+    let st = c .before .before .before .before .before .before in
+    put-five (st .args .replies .now) (st .args .at) _ _ _ _ _ _ _ _ _ (st .pre) (c .before .before .before .wide .ensures .0 ∙ c .before .before .before .before .spoken-code .ensures) (c .before .before .phones-or-place .ensures) (c .before .numbers-given .ensures) (c .contested-given .ensures)
 
 pub put-reply-spec : {M : Type 1} → statement M
 put-reply-spec =
@@ -80,5 +92,9 @@ put-reply-spec =
     add-replies-3
     mul-replies-4
     slice-write-replies-4
+    contested-given-requires
+    add-replies-4
+    mul-replies-5
+    slice-write-replies-5
     same-length
     returns)

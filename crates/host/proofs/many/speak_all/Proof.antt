@@ -4,7 +4,7 @@ use Prim.Native.Nat.{_-_, _/_}
 use mathlib.Core.Path.{sym, ap, _∙_}
 use lib.ListN.{length}
 use Rattle.rules.specs.Memory.{over}
-use Rattle.host.specs.Many.{Lot}
+use Rattle.host.specs.Many.{replySize, Lot}
 use native.Mathlib.Omega.{arith}
 use Rattle.tables.specs.Walk.{walkSaid}
 use Rattle.exceptions.specs.Judging.{listingOf}
@@ -22,7 +22,7 @@ abbrev μ-loop : tie.MeasureT-loop
 loop-holds : tie.Need-loop-holds Inv-loop μ-loop
 loop-holds c =
     let a = c .before .before .before .before .before .before .before .before .args in
-    begin (walkSaid (a .image .now) (listingOf (a .list .now)) (a .words .now) (a .sets .now)) (a .names .now) (length (a .replies .now) / 4) (a .phones .now) (a .numbers .now) (a .replies .now) (omega arith)
+    begin (walkSaid (a .image .now) (listingOf (a .list .now)) (a .words .now) (a .sets .now)) (a .names .now) (length (a .replies .now) / replySize) (a .phones .now) (a .numbers .now) (a .replies .now) (omega arith)
 
 has-next-requires : tie.Need-has-next-requires Inv-loop μ-loop
 has-next-requires c κs = c .loop .inv .within .at-in
@@ -33,7 +33,7 @@ speak-next-requires c κs =
     let a = st .args in
     let l = c .before .before .before .before .before .loop in
     let h = sym (c .before .before .before .before .has-next .ensures) ∙ c .before .before .before .if1 .taken in
-    (st .pre .0, st .pre .1, next-whole (a .names .now) (l .p .at) (l .p .count) (length (a .replies .now) / 4) h, l .inv .within .phones-in, l .inv .within .numbers-in, omega (arith, next-count (a .names .now) (l .p .at) (l .p .count) (length (a .replies .now) / 4) h, l .inv .within .replies-in))
+    (st .pre .0, st .pre .1, next-whole (a .names .now) (l .p .at) (l .p .count) (length (a .replies .now) / replySize) h, l .inv .within .phones-in, l .inv .within .numbers-in, omega (arith, next-count (a .names .now) (l .p .at) (l .p .count) (length (a .replies .now) / replySize) h, l .inv .within .replies-in))
 
 loop-less : tie.Need-loop-less Inv-loop μ-loop
 loop-less c =
@@ -41,7 +41,7 @@ loop-less c =
     let a = st .args in
     let l = c .before .before .before .before .before .before .before .before .before .before .before .before .loop in
     let h = sym (c .before .before .before .before .before .before .before .before .before .before .before .has-next .ensures) ∙ c .before .before .before .before .before .before .before .before .before .before .if1 .taken in
-    omega (arith, c .before .before .before .before .before .before .speak-next .ensures .count-next, next-count (a .names .now) (l .p .at) (l .p .count) (length (a .replies .now) / 4) h)
+    omega (arith, c .before .before .before .before .before .before .speak-next .ensures .count-next, next-count (a .names .now) (l .p .at) (l .p .count) (length (a .replies .now) / replySize) h)
 
 loop-again : tie.Need-loop-again Inv-loop μ-loop
 loop-again c =
@@ -49,7 +49,7 @@ loop-again c =
     let a = st .args in
     let l = c .before .before .before .before .before .before .before .before .before .before .before .before .loop in
     let h = sym (c .before .before .before .before .before .before .before .before .before .before .before .has-next .ensures) ∙ c .before .before .before .before .before .before .before .before .before .before .if1 .taken in
-    next (walkSaid (a .image .now) (listingOf (a .list .now)) (a .words .now) (a .sets .now)) (a .names .now) (length (a .replies .now) / 4) (walk-fits (a .image .now) (listingOf (a .list .now)) (a .words .now) (a .sets .now)) (a .phones .now) (a .numbers .now) (a .replies .now) (l .phones) (l .numbers) (l .replies) (l .p) (l .inv) h _ _ _ _ (c .before .before .before .before .before .before .speak-next .ensures)
+    next (walkSaid (a .image .now) (listingOf (a .list .now)) (a .words .now) (a .sets .now)) (a .names .now) (length (a .replies .now) / replySize) (walk-fits (a .image .now) (listingOf (a .list .now)) (a .words .now) (a .sets .now)) (a .phones .now) (a .numbers .now) (a .replies .now) (l .phones) (l .numbers) (l .replies) (l .p) (l .inv) h _ _ _ _ (c .before .before .before .before .before .before .speak-next .ensures)
 
 same-length : tie.Need-same-length Inv-loop μ-loop
 same-length c = c .before .before .loop .inv .phones-long
@@ -67,10 +67,10 @@ returns c =
     let l = c .before .before .loop in
     let h = sym (c .before .has-next .ensures) ∙ c .if1 .left in
     let e = sym (all-is (a .image .now) (listingOf (a .list .now)) (a .words .now) (a .sets .now) (a .names .now) (a .phones .now) (a .numbers .now) (a .replies .now)) in (
-      end-count (walkSaid (a .image .now) (listingOf (a .list .now)) (a .words .now) (a .sets .now)) (a .names .now) (length (a .replies .now) / 4) (a .phones .now) (a .numbers .now) (a .replies .now) (l .phones) (l .numbers) (l .replies) (l .p) (l .inv) h ∙ ap (λ (m : Lot). m .count) e,
+      end-count (walkSaid (a .image .now) (listingOf (a .list .now)) (a .words .now) (a .sets .now)) (a .names .now) (length (a .replies .now) / replySize) (a .phones .now) (a .numbers .now) (a .replies .now) (l .phones) (l .numbers) (l .replies) (l .p) (l .inv) h ∙ ap (λ (m : Lot). m .count) e,
       (
-        end-replies (walkSaid (a .image .now) (listingOf (a .list .now)) (a .words .now) (a .sets .now)) (a .names .now) (length (a .replies .now) / 4) (a .phones .now) (a .numbers .now) (a .replies .now) (l .phones) (l .numbers) (l .replies) (l .p) (l .inv) h ∙ ap (λ (m : Lot). over (m .replies) (a .replies .now)) e,
-        (end-phones (walkSaid (a .image .now) (listingOf (a .list .now)) (a .words .now) (a .sets .now)) (a .names .now) (length (a .replies .now) / 4) (a .phones .now) (a .numbers .now) (a .replies .now) (l .phones) (l .numbers) (l .replies) (l .p) (l .inv) h ∙ ap (λ (m : Lot). m .phones) e, end-numbers (walkSaid (a .image .now) (listingOf (a .list .now)) (a .words .now) (a .sets .now)) (a .names .now) (length (a .replies .now) / 4) (a .phones .now) (a .numbers .now) (a .replies .now) (l .phones) (l .numbers) (l .replies) (l .p) (l .inv) h ∙ ap (λ (m : Lot). m .numbers) e),
+        end-replies (walkSaid (a .image .now) (listingOf (a .list .now)) (a .words .now) (a .sets .now)) (a .names .now) (length (a .replies .now) / replySize) (a .phones .now) (a .numbers .now) (a .replies .now) (l .phones) (l .numbers) (l .replies) (l .p) (l .inv) h ∙ ap (λ (m : Lot). over (m .replies) (a .replies .now)) e,
+        (end-phones (walkSaid (a .image .now) (listingOf (a .list .now)) (a .words .now) (a .sets .now)) (a .names .now) (length (a .replies .now) / replySize) (a .phones .now) (a .numbers .now) (a .replies .now) (l .phones) (l .numbers) (l .replies) (l .p) (l .inv) h ∙ ap (λ (m : Lot). m .phones) e, end-numbers (walkSaid (a .image .now) (listingOf (a .list .now)) (a .words .now) (a .sets .now)) (a .names .now) (length (a .replies .now) / replySize) (a .phones .now) (a .numbers .now) (a .replies .now) (l .phones) (l .numbers) (l .replies) (l .p) (l .inv) h ∙ ap (λ (m : Lot). m .numbers) e),
       ),
     )
 
