@@ -40,7 +40,7 @@ pub enum Speech {
 
 // A rule that fits, by its place, and how many rules fit there.
 pub enum Fit {
-    Rule { place: usize, fitting: usize },
+    Rule(usize, usize),
     Nothing,
 }
 
@@ -138,10 +138,7 @@ fn first_fit(image: &[u8], count: usize, frame: &[u8], i: usize) -> Fit
     let mut p = 0;
     while p < count {
         if fits_at(image, p, frame, i) {
-            return Fit::Rule {
-                place: p,
-                fitting: count_fits(image, count, frame, i, p),
-            };
+            return Fit::Rule(p, count_fits(image, count, frame, i, p));
         }
         p += 1;
     }
@@ -159,7 +156,7 @@ fn read_letters(image: &[u8], frame: &[u8], parts: &mut [u32]) -> Reached
     let mut i = 1;
     while i <= n {
         let fit = first_fit(image, count, frame, i);
-        let Fit::Rule { place, fitting } = fit else {
+        let Fit::Rule(place, fitting) = fit else {
             return Reached::Uncovered(i);
         };
         parts[k] = delivery::part_of(place, fitting);

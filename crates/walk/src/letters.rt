@@ -52,7 +52,7 @@ fn count_shared(sets: &[u64], s: usize, t: usize) -> usize
 
 // What is found at a reached letter: the place of the rule to apply and how many places there are, no place, or tables that are unusable.
 pub enum Chosen {
-    Rule { place: usize, fitting: usize },
+    Rule(usize, usize),
     Nothing,
     Unusable,
 }
@@ -80,10 +80,7 @@ fn choose(
     if !reading::fits_at(image, place, frame, i) {
         return Chosen::Unusable;
     }
-    Chosen::Rule {
-        place,
-        fitting: count_shared(sets, s, t),
-    }
+    Chosen::Rule(place, count_shared(sets, s, t))
 }
 
 // How reading ends where no rule is chosen.
@@ -91,10 +88,7 @@ fn ending_at(choice: Chosen, i: usize) -> Reached
     ensures { λ r. ⌜ r ≡ endingAt choice i ⌝ }
 {
     match choice {
-        Chosen::Rule {
-            place: _,
-            fitting: _,
-        } => Reached::Uncovered(i),
+        Chosen::Rule(_, _) => Reached::Uncovered(i),
         Chosen::Nothing => Reached::Uncovered(i),
         Chosen::Unusable => Reached::BadTables,
     }
@@ -121,7 +115,7 @@ pub fn read_letters(
         let s = tables::SET * numbers::wide16(left[i]);
         let t = right_sets + tables::SET * numbers::wide16(right[i]);
         let choice = choose(sets, s, t, image, rules, frame, i);
-        let Chosen::Rule { place, fitting } = choice else {
+        let Chosen::Rule(place, fitting) = choice else {
             return ending_at(choice, i);
         };
         parts[count] = reading::delivery::part_of(place, fitting);
