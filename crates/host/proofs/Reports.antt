@@ -8,14 +8,13 @@ use lib.ListN.{length}
 use borrow.Author.Tests.{eq-eqb, ne-eqb, lt-leb, le-leb}
 use Rattle.rules.specs.Shape.{shape}
 use Rattle.rules.specs.declared.Rule.{Rule}
-use Rattle.rules.specs.Refusals.{Reply, accepted, declined, replyCode, replyPlace}
+use Rattle.rules.specs.Refusals.{Reply, accepted, declined, replyCode, replyPlace, Report}
 use Rattle.image.specs.Image.{imageSize, valid, ledgerOf, Edited, outcome, countOf, lastOf, ruleSize, ruleOf}
 use Rattle.edits.specs.Ledger.{Edit, judged}
 use Rattle.edits.specs.Edits.{edited, outcomeBy}
 use Rattle.reading.specs.Speech.{Told, Said, saying}
 use Rattle.tables.specs.Words.{Built, building}
 use Rattle.file.specs.Loading.{Filed, filing}
-use Rattle.rules.specs.Refusals.{Report}
 use Rattle.host.specs.Files.{writtenCode, bytesOrPlace}
 use Rattle.host.specs.Codes.{checked, countIn, lastIn, spokenCode, phonesOrPlace, numbersGiven, contestedGiven, blankRule, ruleGiven}
 

@@ -1,7 +1,6 @@
 -- `reading::delivery::contested_in` meets its contract: two or more are from twice 2^16 on.
 -- Assumes nothing.
 use Prim.Native.Nat.{_<_, _≤_}
-use mathlib.Core.Path.{sym}
 use native.Mathlib.Omega.{arith}
 use borrow.Author.Tests.{lt-ltb, le-ltb}
 use borrow.Author.Needs.{needs}

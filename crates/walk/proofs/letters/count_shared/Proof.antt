@@ -14,9 +14,6 @@ use Rattle.tables.proofs.SetWords.{ones-all, ones-next, ones-end}
 use Rattle.walk.proofs.letters.count_shared.Statement.{statement}
 use Rattle.walk.proofs.letters.count_shared.Tie as tie
 
--- `walk::letters::count_shared` meets its contract. The loop's invariant: those counted and those from word j on are all.
--- Assumes nothing.
-
 meet-small : (ss : List ℕ) (s t j : ℕ) → getD ss (t + j) 0 < 2 ^ 64 → meetWord ss s t j < 2 ^ 64
 meet-small ss s t j h = lt-of-le-of-lt (and-le-r (getD ss (s + j) 0) (getD ss (t + j) 0)) h
 
