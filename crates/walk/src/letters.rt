@@ -3,7 +3,9 @@ use reading::Reached;
 ghost use mathlib.Core.Path.{_≡_};
 ghost use mathlib.Core.Bool.{true};
 ghost use Prim.Native.Nat.{_+_, _-_, _*_, _<_, _≤_};
-ghost use lib.ListN.{length};
+ghost use lib.Bits.{bitAnd};
+ghost use lib.Count.{onesIn};
+ghost use lib.ListN.{length, getD};
 ghost use Rattle.rules.specs.Limits.{maxRules};
 ghost use Rattle.rules.specs.Names.{SoundName};
 ghost use Rattle.image.specs.Image.{countOf, valid};
@@ -35,7 +37,15 @@ fn lowest_place(sets: &[u64], s: usize, t: usize) -> Found
     Found::Empty
 }
 
-// How many places two sets share: the ones of the eight words in which the sets from `s` and from `t` on meet.
+// How many places a word of one set and a word of another share.
+fn shared_in(sets: &[u64], a: usize, b: usize) -> usize
+    requires { ⌜ (a < length (now sets)) × (b < length (now sets)) ⌝ }
+    ensures { λ r. ⌜ (r ≡ onesIn 64 (bitAnd (getD (now (sets .entry)) a 0) (getD (now (sets .entry)) b 0))) × (r ≤ 64) ⌝ }
+{
+    u64::count_ones(sets[a] & sets[b]) as usize
+}
+
+// How many places two sets share: those of the eight words in which the sets from `s` and from `t` on meet.
 fn count_shared(sets: &[u64], s: usize, t: usize) -> usize
     requires { ⌜ (s + setSize ≤ length (now sets)) × (t + setSize ≤ length (now sets)) ⌝ }
     ensures { λ r. ⌜ (r ≡ countShared (now (sets .entry)) s t) × (r ≤ maxRules) ⌝ }
@@ -43,8 +53,7 @@ fn count_shared(sets: &[u64], s: usize, t: usize) -> usize
     let mut count: usize = 0;
     let mut j: usize = 0;
     while j < tables::SET {
-        let x = sets[s + j] & sets[t + j];
-        count += u64::count_ones(x) as usize;
+        count += shared_in(sets, s + j, t + j);
         j += 1;
     }
     count
