@@ -7,14 +7,12 @@ use native.Mathlib.Omega.{arith}
 use borrow.Author.Tests.{ne-eqb}
 use lib.ListN.{length, getD, List·getD-eq-default}
 use Rattle.rules.specs.Memory.{over}
-use Rattle.transcript.specs.Answers.{refusedBody}
-use Rattle.transcript.proofs.Printed.{length-printed}
-use Rattle.commands.specs.Answers.{Effect, Effects, Answered, BothAnswered, malformedLine, added, dropped, moved}
-use Rattle.commands.specs.Memory.{forcedBy, clearedBy, storedWord, storedSet, shownWords, shownSets, shownPhones, shownNumbers}
+use Rattle.commands.specs.Answers.{Effect, Effects, SpeechEffect, Answered, BothAnswered, SpeechAnswered, malformedLine, added, dropped, moved}
+use Rattle.commands.specs.Memory.{forcedBy, clearedBy, storedWord, storedSet, shownWords, shownSets, shownPhones, shownNumbers, shownContested}
 use Rattle.commands.specs.Lent.{builtBy, walkedBy, plainBy}
 use Rattle.commands.specs.Filing.{loadedBy, writeLine}
 use Rattle.commands.specs.Monitor.{State, holding, Response, onImage, onWords, onSets, onTables, onSpeech, shows, byKind, answerTo, Replied}
-use Rattle.commands.proofs.Replies.{Gives, within}
+use Rattle.commands.proofs.Replies.{Gives, within, length-malformed}
 
 -- an answer that was given had room
 abbrev pub Given : Response → State → ℕ → List ℕ → List ℕ → Type 0
@@ -27,11 +25,11 @@ given o s len out out′ k l h = (record { kept = k; many = l; bytes = h }, with
 -- no kind of command
 abbrev Other : ℕ → Type 0
 Other k =
-    ((((((((((((((((Unit {0} × (k ≡ 16 → ⊥)) × (k ≡ 17 → ⊥)) × (k ≡ 18 → ⊥)) × (k ≡ 19 → ⊥)) × (k ≡ 20 → ⊥)) × (k ≡ 21 → ⊥)) × (k ≡ 22 → ⊥)) × (k ≡ 23 → ⊥)) × (k ≡ 24 → ⊥)) × (k ≡ 25 → ⊥)) × (k ≡ 26 → ⊥)) × (k ≡ 27 → ⊥)) × (k ≡ 28 → ⊥)) × (k ≡ 29 → ⊥)) × (k ≡ 30 → ⊥)) × (k ≡ 31 → ⊥))
+    (((((((((((((((((Unit {0} × (k ≡ 16 → ⊥)) × (k ≡ 17 → ⊥)) × (k ≡ 18 → ⊥)) × (k ≡ 19 → ⊥)) × (k ≡ 20 → ⊥)) × (k ≡ 21 → ⊥)) × (k ≡ 22 → ⊥)) × (k ≡ 23 → ⊥)) × (k ≡ 24 → ⊥)) × (k ≡ 25 → ⊥)) × (k ≡ 26 → ⊥)) × (k ≡ 27 → ⊥)) × (k ≡ 28 → ⊥)) × (k ≡ 29 → ⊥)) × (k ≡ 30 → ⊥)) × (k ≡ 31 → ⊥)) × (k ≡ 39 → ⊥))
 
-module _ (f file list image words sets phones numbers : List ℕ) (len : ℕ) (out out′ : List ℕ) where
+module _ (f file list image words sets phones numbers : List ℕ) (contested len : ℕ) (out out′ : List ℕ) where
   abbrev before : State
-  before = holding image words sets phones numbers
+  before = holding image words sets phones numbers contested
 
   -- the command's kind decides
   at : (k : ℕ) (s : State) → getD f 0 0 ≡ k → Given (byKind k f file list before) s len out out′ → Given (answerTo f file list before) s len out out′
@@ -41,40 +39,34 @@ module _ (f file list image words sets phones numbers : List ℕ) (len : ℕ) (o
   same-after : (line : List ℕ) → Gives line len out out′ → Given (shows before line) before len out out′
   same-after line g = given (shows before line) before len out out′ refl (g .0) (g .1)
 
-  image-after : (e : Effect) (xs : List ℕ) → Answered e xs len out out′ → Given (onImage before e) (holding xs words sets phones numbers) len out out′
-  image-after e xs w = given (onImage before e) _ len out out′ (ap (λ (x : List ℕ). holding x words sets phones numbers) (w .left)) (w .many) (w .bytes)
+  image-after : (e : Effect) (xs : List ℕ) → Answered e xs len out out′ → Given (onImage before e) (holding xs words sets phones numbers contested) len out out′
+  image-after e xs w = given (onImage before e) _ len out out′ (ap (λ (x : List ℕ). holding x words sets phones numbers contested) (w .left)) (w .many) (w .bytes)
 
-  words-after : (e : Effect) (xs : List ℕ) → Answered e xs len out out′ → Given (onWords before e) (holding image xs sets phones numbers) len out out′
-  words-after e xs w = given (onWords before e) _ len out out′ (ap (λ (x : List ℕ). holding image x sets phones numbers) (w .left)) (w .many) (w .bytes)
+  words-after : (e : Effect) (xs : List ℕ) → Answered e xs len out out′ → Given (onWords before e) (holding image xs sets phones numbers contested) len out out′
+  words-after e xs w = given (onWords before e) _ len out out′ (ap (λ (x : List ℕ). holding image x sets phones numbers contested) (w .left)) (w .many) (w .bytes)
 
-  sets-after : (e : Effect) (xs : List ℕ) → Answered e xs len out out′ → Given (onSets before e) (holding image words xs phones numbers) len out out′
-  sets-after e xs w = given (onSets before e) _ len out out′ (ap (λ (x : List ℕ). holding image words x phones numbers) (w .left)) (w .many) (w .bytes)
+  sets-after : (e : Effect) (xs : List ℕ) → Answered e xs len out out′ → Given (onSets before e) (holding image words xs phones numbers contested) len out out′
+  sets-after e xs w = given (onSets before e) _ len out out′ (ap (λ (x : List ℕ). holding image words x phones numbers contested) (w .left)) (w .many) (w .bytes)
 
-  tables-after : (e : Effects) (xs ys : List ℕ) → BothAnswered e xs ys len out out′ → Given (onTables before e) (holding image xs ys phones numbers) len out out′
-  tables-after e xs ys w =
-      given (onTables before e) _ len out out′
-      (ap (λ (x : List ℕ). holding image x ys phones numbers) (w .left) ∙ ap (λ (y : List ℕ). holding image (e .first) y phones numbers) (w .right))
-      (w .many) (w .bytes)
+  tables-after : (e : Effects) (xs ys : List ℕ) → BothAnswered e xs ys len out out′ → Given (onTables before e) (holding image xs ys phones numbers contested) len out out′
+  tables-after e xs ys w = given (onTables before e) _ len out out′ (cc (w .left, w .right)) (w .many) (w .bytes)
 
-  speech-after : (e : Effects) (xs ys : List ℕ) → BothAnswered e xs ys len out out′ → Given (onSpeech before e) (holding image words sets xs ys) len out out′
-  speech-after e xs ys w =
-      given (onSpeech before e) _ len out out′
-      (ap (λ (x : List ℕ). holding image words sets x ys) (w .left) ∙ ap (λ (y : List ℕ). holding image words sets (e .first) y) (w .right))
-      (w .many) (w .bytes)
+  speech-after : (e : SpeechEffect) (xs ys : List ℕ) (k : ℕ) → SpeechAnswered e xs ys k len out out′ → Given (onSpeech before e) (holding image words sets xs ys k) len out out′
+  speech-after e xs ys k w = given (onSpeech before e) _ len out out′ (cc (w .said, w .numbered, w .counted)) (w .many) (w .bytes)
 
-  pub by-add : (xs : List ℕ) → getD f 0 0 ≡ 16 → Answered (added f image) xs len out out′ → Given (answerTo f file list before) (holding xs words sets phones numbers) len out out′
+  pub by-add : (xs : List ℕ) → getD f 0 0 ≡ 16 → Answered (added f image) xs len out out′ → Given (answerTo f file list before) (holding xs words sets phones numbers contested) len out out′
   unfolding byKind
   by-add xs e w = at 16 _ e (image-after (added f image) xs w)
 
-  pub by-drop : (xs : List ℕ) → getD f 0 0 ≡ 17 → Answered (dropped f image) xs len out out′ → Given (answerTo f file list before) (holding xs words sets phones numbers) len out out′
+  pub by-drop : (xs : List ℕ) → getD f 0 0 ≡ 17 → Answered (dropped f image) xs len out out′ → Given (answerTo f file list before) (holding xs words sets phones numbers contested) len out out′
   unfolding byKind
   by-drop xs e w = at 17 _ e (image-after (dropped f image) xs w)
 
-  pub by-move : (xs : List ℕ) → getD f 0 0 ≡ 18 → Answered (moved f image) xs len out out′ → Given (answerTo f file list before) (holding xs words sets phones numbers) len out out′
+  pub by-move : (xs : List ℕ) → getD f 0 0 ≡ 18 → Answered (moved f image) xs len out out′ → Given (answerTo f file list before) (holding xs words sets phones numbers contested) len out out′
   unfolding byKind
   by-move xs e w = at 18 _ e (image-after (moved f image) xs w)
 
-  pub by-read : (xs : List ℕ) → getD f 0 0 ≡ 19 → Answered (loadedBy f file image) xs len out out′ → Given (answerTo f file list before) (holding xs words sets phones numbers) len out out′
+  pub by-read : (xs : List ℕ) → getD f 0 0 ≡ 19 → Answered (loadedBy f file image) xs len out out′ → Given (answerTo f file list before) (holding xs words sets phones numbers contested) len out out′
   unfolding byKind
   by-read xs e w = at 19 _ e (image-after (loadedBy f file image) xs w)
 
@@ -82,23 +74,23 @@ module _ (f file list image words sets phones numbers : List ℕ) (len : ℕ) (o
   unfolding byKind
   by-write e g = at 20 _ e (same-after (writeLine f image) g)
 
-  pub by-build : (xs ys : List ℕ) → getD f 0 0 ≡ 21 → BothAnswered (builtBy f image words sets) xs ys len out out′ → Given (answerTo f file list before) (holding image xs ys phones numbers) len out out′
+  pub by-build : (xs ys : List ℕ) → getD f 0 0 ≡ 21 → BothAnswered (builtBy f image words sets) xs ys len out out′ → Given (answerTo f file list before) (holding image xs ys phones numbers contested) len out out′
   unfolding byKind
   by-build xs ys e w = at 21 _ e (tables-after (builtBy f image words sets) xs ys w)
 
-  pub by-walk : (xs ys : List ℕ) → getD f 0 0 ≡ 22 → BothAnswered (walkedBy f image list words sets phones numbers) xs ys len out out′ → Given (answerTo f file list before) (holding image words sets xs ys) len out out′
+  pub by-walk : (xs ys : List ℕ) (k : ℕ) → getD f 0 0 ≡ 22 → SpeechAnswered (walkedBy f image list words sets phones numbers contested) xs ys k len out out′ → Given (answerTo f file list before) (holding image words sets xs ys k) len out out′
   unfolding byKind
-  by-walk xs ys e w = at 22 _ e (speech-after (walkedBy f image list words sets phones numbers) xs ys w)
+  by-walk xs ys k e w = at 22 _ e (speech-after (walkedBy f image list words sets phones numbers contested) xs ys k w)
 
-  pub by-plain : (xs ys : List ℕ) → getD f 0 0 ≡ 23 → BothAnswered (plainBy f image list phones numbers) xs ys len out out′ → Given (answerTo f file list before) (holding image words sets xs ys) len out out′
+  pub by-plain : (xs ys : List ℕ) (k : ℕ) → getD f 0 0 ≡ 23 → SpeechAnswered (plainBy f image list phones numbers contested) xs ys k len out out′ → Given (answerTo f file list before) (holding image words sets xs ys k) len out out′
   unfolding byKind
-  by-plain xs ys e w = at 23 _ e (speech-after (plainBy f image list phones numbers) xs ys w)
+  by-plain xs ys k e w = at 23 _ e (speech-after (plainBy f image list phones numbers contested) xs ys k w)
 
-  pub by-store-word : (xs : List ℕ) → getD f 0 0 ≡ 24 → Answered (storedWord f words) xs len out out′ → Given (answerTo f file list before) (holding image xs sets phones numbers) len out out′
+  pub by-store-word : (xs : List ℕ) → getD f 0 0 ≡ 24 → Answered (storedWord f words) xs len out out′ → Given (answerTo f file list before) (holding image xs sets phones numbers contested) len out out′
   unfolding byKind
   by-store-word xs e w = at 24 _ e (words-after (storedWord f words) xs w)
 
-  pub by-store-set : (xs : List ℕ) → getD f 0 0 ≡ 25 → Answered (storedSet f sets) xs len out out′ → Given (answerTo f file list before) (holding image words xs phones numbers) len out out′
+  pub by-store-set : (xs : List ℕ) → getD f 0 0 ≡ 25 → Answered (storedSet f sets) xs len out out′ → Given (answerTo f file list before) (holding image words xs phones numbers contested) len out out′
   unfolding byKind
   by-store-set xs e w = at 25 _ e (sets-after (storedSet f sets) xs w)
 
@@ -118,17 +110,21 @@ module _ (f file list image words sets phones numbers : List ℕ) (len : ℕ) (o
   unfolding byKind
   by-show-numbers e g = at 29 _ e (same-after (shownNumbers f numbers) g)
 
-  pub by-force : (xs : List ℕ) → getD f 0 0 ≡ 30 → Answered (forcedBy f image) xs len out out′ → Given (answerTo f file list before) (holding xs words sets phones numbers) len out out′
+  pub by-force : (xs : List ℕ) → getD f 0 0 ≡ 30 → Answered (forcedBy f image) xs len out out′ → Given (answerTo f file list before) (holding xs words sets phones numbers contested) len out out′
   unfolding byKind
   by-force xs e w = at 30 _ e (image-after (forcedBy f image) xs w)
 
-  pub by-clear : (xs : List ℕ) → getD f 0 0 ≡ 31 → Answered (clearedBy f image) xs len out out′ → Given (answerTo f file list before) (holding xs words sets phones numbers) len out out′
+  pub by-clear : (xs : List ℕ) → getD f 0 0 ≡ 31 → Answered (clearedBy f image) xs len out out′ → Given (answerTo f file list before) (holding xs words sets phones numbers contested) len out out′
   unfolding byKind
   by-clear xs e w = at 31 _ e (image-after (clearedBy f image) xs w)
 
+  pub by-show-contested : getD f 0 0 ≡ 39 → Gives (shownContested f contested) len out out′ → Given (answerTo f file list before) before len out out′
+  unfolding byKind
+  by-show-contested e g = at 39 _ e (same-after (shownContested f contested) g)
+
   module _ (l : len ≡ 15) (h : out′ ≡ over malformedLine out) where
     none : Given (shows before malformedLine) before len out out′
-    none = same-after malformedLine (l ∙ sym (length-printed (refusedBody 13 0)), h)
+    none = same-after malformedLine (l ∙ sym length-malformed, h)
 
     -- a frame of no bytes
     pub by-none : length f ≡ 0 → Given (answerTo f file list before) before len out out′
@@ -137,7 +133,7 @@ module _ (f file list image words sets phones numbers : List ℕ) (len : ℕ) (o
 
     other : (k : ℕ) → Other k → byKind k f file list before ≡ shows before malformedLine
     unfolding byKind
-    other k n = rw (ne-eqb k 16 (n .0 .0 .0 .0 .0 .0 .0 .0 .0 .0 .0 .0 .0 .0 .0 .1), ne-eqb k 17 (n .0 .0 .0 .0 .0 .0 .0 .0 .0 .0 .0 .0 .0 .0 .1), ne-eqb k 18 (n .0 .0 .0 .0 .0 .0 .0 .0 .0 .0 .0 .0 .0 .1), ne-eqb k 19 (n .0 .0 .0 .0 .0 .0 .0 .0 .0 .0 .0 .0 .1), ne-eqb k 20 (n .0 .0 .0 .0 .0 .0 .0 .0 .0 .0 .0 .1), ne-eqb k 21 (n .0 .0 .0 .0 .0 .0 .0 .0 .0 .0 .1), ne-eqb k 22 (n .0 .0 .0 .0 .0 .0 .0 .0 .0 .1), ne-eqb k 23 (n .0 .0 .0 .0 .0 .0 .0 .0 .1), ne-eqb k 24 (n .0 .0 .0 .0 .0 .0 .0 .1), ne-eqb k 25 (n .0 .0 .0 .0 .0 .0 .1), ne-eqb k 26 (n .0 .0 .0 .0 .0 .1), ne-eqb k 27 (n .0 .0 .0 .0 .1), ne-eqb k 28 (n .0 .0 .0 .1), ne-eqb k 29 (n .0 .0 .1), ne-eqb k 30 (n .0 .1), ne-eqb k 31 (n .1))
+    other k n = rw (ne-eqb k 16 (n .0 .0 .0 .0 .0 .0 .0 .0 .0 .0 .0 .0 .0 .0 .0 .0 .1), ne-eqb k 17 (n .0 .0 .0 .0 .0 .0 .0 .0 .0 .0 .0 .0 .0 .0 .0 .1), ne-eqb k 18 (n .0 .0 .0 .0 .0 .0 .0 .0 .0 .0 .0 .0 .0 .0 .1), ne-eqb k 19 (n .0 .0 .0 .0 .0 .0 .0 .0 .0 .0 .0 .0 .0 .1), ne-eqb k 20 (n .0 .0 .0 .0 .0 .0 .0 .0 .0 .0 .0 .0 .1), ne-eqb k 21 (n .0 .0 .0 .0 .0 .0 .0 .0 .0 .0 .0 .1), ne-eqb k 22 (n .0 .0 .0 .0 .0 .0 .0 .0 .0 .0 .1), ne-eqb k 23 (n .0 .0 .0 .0 .0 .0 .0 .0 .0 .1), ne-eqb k 24 (n .0 .0 .0 .0 .0 .0 .0 .0 .1), ne-eqb k 25 (n .0 .0 .0 .0 .0 .0 .0 .1), ne-eqb k 26 (n .0 .0 .0 .0 .0 .0 .1), ne-eqb k 27 (n .0 .0 .0 .0 .0 .1), ne-eqb k 28 (n .0 .0 .0 .0 .1), ne-eqb k 29 (n .0 .0 .0 .1), ne-eqb k 30 (n .0 .0 .1), ne-eqb k 31 (n .0 .1), ne-eqb k 39 (n .1))
 
     pub by-other : Other (getD f 0 0) → Given (answerTo f file list before) before len out out′
     by-other n = at (getD f 0 0) _ refl (subst (λ (o : Response). Given o before len out out′) (sym (other (getD f 0 0) n)) none)

@@ -44,8 +44,8 @@ filed-back r n image out x e = ap (filedBack n out) e
 
 -- ---- what is told has room
 
-more-room : (t : Told) (a b c d : ℕ) → a ≤ c → b ≤ d → ToldWithin t a b → ToldWithin t c d
-more-room (spoken p n) a b c d h k w = (omega (arith, w .0, h), omega (arith, w .1, k))
+pub more-room : (t : Told) (a b c d : ℕ) → a ≤ c → b ≤ d → ToldWithin t a b → ToldWithin t c d
+more-room (spoken p n q) a b c d h k w = (omega (arith, w .0, h), omega (arith, w .1, k), w .2)
 more-room (refused n p) a b c d h k w = tt
 
 shorter : (n : ℕ) (xs : List ℕ) → length (take n xs) ≤ length xs

@@ -20,8 +20,8 @@ use Rattle.tables.specs.Words.{Built, building}
 use Rattle.tables.specs.Walk.{Walked}
 use Rattle.transcript.specs.Answers.{printed, toldBody, refusedBody, refusalLine}
 use Rattle.transcript.proofs.Printed.{length-printed}
-use Rattle.commands.specs.Answers.{doneLine, lastLine, statesLine, walkRefusal, malformedLine, replyLine, editLine, Effect, leaving, Effects, sizedTo, bothSized, ruled, Answered, BothAnswered}
-use Rattle.commands.specs.Lent.{buildLine, buildEffects, plainLine, plainEffects, walkLine, walkEffects}
+use Rattle.commands.specs.Answers.{doneLine, lastLine, statesLine, walkRefusal, malformedLine, replyLine, editLine, Effect, leaving, Effects, SpeechEffect, sizedTo, bothSized, speechSized, ruled, Answered, BothAnswered, SpeechAnswered}
+use Rattle.commands.specs.Lent.{buildLine, buildEffects, contestedAfter, plainLine, plainEffect, walkLine, walkEffect}
 
 length-last : (n : ℕ) → length (lastLine n) ≡ 9
 unfolding lastLine
@@ -54,11 +54,14 @@ length-done : length doneLine ≡ 5
 unfolding doneLine
 length-done = length-printed (6 ∷ [])
 
+pub length-malformed : length malformedLine ≡ 15
+length-malformed = length-printed (refusedBody 13 0)
+
 -- ---- a command's effect, carried out
 
 module _ (b : Bool) (e : Effect) (xs out out′ : List ℕ) (len : ℕ) where
   pub answered-not : b ≡ false → len ≡ 15 → out′ ≡ over malformedLine out → Answered (sizedTo b e xs) xs len out out′
-  answered-not p l h = rw p (record { left = refl; many = l ∙ sym (length-printed (refusedBody 13 0)); bytes = h })
+  answered-not p l h = rw p (record { left = refl; many = l ∙ sym length-malformed; bytes = h })
 
   pub answered-so : b ≡ true → (xs′ : List ℕ) → xs′ ≡ e .after → len ≡ length (e .line) → out′ ≡ over (e .line) out
       → Answered (sizedTo b e xs) xs′ len out out′
@@ -76,7 +79,12 @@ answered-done b ys xs out out′ len p xs′ x l h = answered-so b (leaving done
 
 module _ (b : Bool) (e : Effects) (xs ys out out′ : List ℕ) (len : ℕ) where
   pub both-not : b ≡ false → len ≡ 15 → out′ ≡ over malformedLine out → BothAnswered (bothSized b e xs ys) xs ys len out out′
-  both-not p l h = rw p (record { left = refl; right = refl; many = l ∙ sym (length-printed (refusedBody 13 0)); bytes = h })
+  both-not p l h = rw p (record { left = refl; right = refl; many = l ∙ sym length-malformed; bytes = h })
+
+pub speech-not : (b : Bool) (e : SpeechEffect) (xs ys : List ℕ) (k : ℕ) (out out′ : List ℕ) (len : ℕ) → b ≡ false → len ≡ 15 → out′ ≡ over malformedLine out
+    → SpeechAnswered (speechSized b e xs ys k) xs ys k len out out′
+speech-not b e xs ys k out out′ len p l h =
+    rw p (record { said = refl; numbered = refl; counted = refl; many = l ∙ sym length-malformed; bytes = h })
 
 -- ---- tables and names
 
@@ -88,18 +96,18 @@ module _ (a : Answer) (words : List ℕ) (len : ℕ) (out out′ : List ℕ) whe
   pub gives-unbuilt : (x : Refusal) → a ≡ Refused x → len ≡ 15 → out′ ≡ over (refusalLine x) out → Gives (buildLine (replyOf a) words) len out out′
   gives-unbuilt x p l h = rw p (l ∙ sym (length-printed (refusedBody (refusalNumber x) (refusalPlace x))), h)
 
-module _ (b : Bool) (xs ys out out′ : List ℕ) (len : ℕ) (p : b ≡ true) (xs′ ys′ : List ℕ) where
-  pub both-built : (w : Built) (a : Reply) → building a xs′ ys′ ≡ w → Gives (buildLine a xs′) len out out′
-      → BothAnswered (bothSized b (buildEffects w) xs ys) xs′ ys′ len out out′
-  both-built w a q g = rw (p, ← q) (record { left = refl; right = refl; many = g .0; bytes = g .1 })
+pub both-built : (b : Bool) (xs ys out out′ : List ℕ) (len : ℕ) → b ≡ true → (xs′ ys′ : List ℕ) (w : Built) (a : Reply) → building a xs′ ys′ ≡ w
+    → Gives (buildLine a xs′) len out out′ → BothAnswered (bothSized b (buildEffects w) xs ys) xs′ ys′ len out out′
+both-built b xs ys out out′ len p xs′ ys′ w a q g = rw (p, ← q) (record { left = refl; right = refl; many = g .0; bytes = g .1 })
 
-  pub both-read : (s : Said) (t : Told) → saying t xs′ ys′ ≡ s → Gives (plainLine t xs′ ys′) len out out′
-      → BothAnswered (bothSized b (plainEffects s) xs ys) xs′ ys′ len out out′
-  both-read s t q g = rw (p, ← q) (record { left = refl; right = refl; many = g .0; bytes = g .1 })
+module _ (b : Bool) (xs ys : List ℕ) (k : ℕ) (out out′ : List ℕ) (len : ℕ) (p : b ≡ true) (xs′ ys′ : List ℕ) (k′ : ℕ) (t : Told) (h : k′ ≡ contestedAfter t k) where
+  pub speech-read : (s : Said) → saying t xs′ ys′ ≡ s → Gives (plainLine t xs′ ys′) len out out′
+      → SpeechAnswered (speechSized b (plainEffect s k) xs ys k) xs′ ys′ k′ len out out′
+  speech-read s q g = rw (p, ← q) (record { said = refl; numbered = refl; counted = h; many = g .0; bytes = g .1 })
 
-  pub both-walked : (w : Walked) (t : Told) (steps : ℕ) → record { said = saying t xs′ ys′; steps = steps } ≡ w
-      → Gives (walkLine t steps xs′ ys′) len out out′ → BothAnswered (bothSized b (walkEffects w) xs ys) xs′ ys′ len out out′
-  both-walked w t steps q g = rw (p, ← q) (record { left = refl; right = refl; many = g .0; bytes = g .1 })
+  pub speech-walked : (w : Walked) (steps : ℕ) → record { said = saying t xs′ ys′; steps = steps } ≡ w → Gives (walkLine t steps xs′ ys′) len out out′
+      → SpeechAnswered (speechSized b (walkEffect w k) xs ys k) xs′ ys′ k′ len out out′
+  speech-walked w steps q g = rw (p, ← q) (record { said = refl; numbered = refl; counted = h; many = g .0; bytes = g .1 })
 
 -- a walk that is refused is answered by 08, any other as it is told
 module _ (speech : Speech) (steps : ℕ) (phones numbers : List ℕ) (len : ℕ) (out out′ : List ℕ) where
@@ -107,8 +115,8 @@ module _ (speech : Speech) (steps : ℕ) (phones numbers : List ℕ) (len : ℕ)
       → Gives (walkLine (toldOf speech) steps phones numbers) len out out′
   walk-refused x p l h = rw p (l ∙ sym (length-walk-refusal steps (refusalNumber x) (refusalPlace x)), h)
 
-  pub walk-spoken : (p n : ℕ) → speech ≡ speeches.Spoken p n → Gives (printed (toldBody (toldOf speech) steps phones numbers)) len out out′
+  pub walk-spoken : (p n c : ℕ) → speech ≡ speeches.Spoken p n c → Gives (printed (toldBody (toldOf speech) steps phones numbers)) len out out′
       → Gives (walkLine (toldOf speech) steps phones numbers) len out out′
-  walk-spoken p n e g =
+  walk-spoken p n c e g =
       subst (λ (s : Speech). Gives (printed (toldBody (toldOf s) steps phones numbers)) len out out′ → Gives (walkLine (toldOf s) steps phones numbers) len out out′)
       (sym e) (λ h. h) g

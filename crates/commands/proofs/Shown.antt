@@ -10,12 +10,11 @@ use lib.ListN.{length, getD, take, drop, set}
 use lib.Dec.{eqb, ltb}
 use Rattle.rules.proofs.Cases.{and-l, and-r}
 use Rattle.rules.specs.Memory.{over}
-use Rattle.transcript.specs.Answers.{printed, refusedBody}
-use Rattle.transcript.proofs.Printed.{length-printed}
+use Rattle.transcript.specs.Answers.{printed}
 use Rattle.commands.specs.Fields.{four}
 use Rattle.commands.specs.Answers.{malformedLine, doneLine, leaving, sizedTo, Answered}
 use Rattle.commands.specs.Memory.{storedAt, shownIf, inside, shown}
-use Rattle.commands.proofs.Replies.{Gives, answered-not, answered-done}
+use Rattle.commands.proofs.Replies.{Gives, length-malformed, answered-not, answered-done}
 
 module _ (n k i j v : ℕ) (xs out out′ : List ℕ) (len : ℕ) (h : n ≡ k) (e : j ≡ i) where
   pub stored-out : length xs ≤ j → len ≡ 15 → out′ ≡ over malformedLine out → Answered (sizedTo (eqb n k) (storedAt i v xs) xs) xs len out out′
@@ -29,7 +28,7 @@ module _ (n k i j v : ℕ) (xs out out′ : List ℕ) (len : ℕ) (h : n ≡ k) 
 -- what is shown, or that nothing is
 module _ (b : Bool) (bytes : List ℕ) (len : ℕ) (out out′ : List ℕ) where
   pub not-shown : b ≡ false → len ≡ 15 → out′ ≡ over malformedLine out → Gives (shownIf b bytes) len out out′
-  not-shown p l h = rw p (l ∙ sym (length-printed (refusedBody 13 0)), h)
+  not-shown p l h = rw p (l ∙ sym length-malformed, h)
 
   pub is-shown : b ≡ true → Gives (printed (10 ∷ bytes)) len out out′ → Gives (shownIf b bytes) len out out′
   is-shown p g = rw p g

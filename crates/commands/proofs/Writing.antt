@@ -24,7 +24,7 @@ use Rattle.commands.specs.Fields.{four}
 use Rattle.commands.specs.Answers.{longestFile, malformedLine}
 use Rattle.commands.specs.Lent.{lentOf, back}
 use Rattle.commands.specs.Filing.{filedBack, filedIn, reportLine, fileLine, writeLine}
-use Rattle.commands.proofs.Replies.{Gives}
+use Rattle.commands.proofs.Replies.{Gives, length-malformed}
 
 back-over : (ys xs : List ℕ) (n : ℕ) → length ys ≤ n → n ≤ length xs → back n (over ys (take n xs)) xs ≡ over ys xs
 back-over [] xs n h k = take-append-drop n xs
@@ -104,7 +104,7 @@ module _ (n : ℕ) (image : List ℕ) where
 module _ (f image out out′ : List ℕ) (len : ℕ) where
   pub written-not : (length f ≡ 5 → ⊥) → len ≡ 15 → out′ ≡ over malformedLine out → Gives (writeLine f image) len out out′
   unfolding writeLine
-  written-not h l b = rw (ne-eqb (length f) 5 h) (l ∙ sym (length-printed (refusedBody 13 0)), b)
+  written-not h l b = rw (ne-eqb (length f) 5 h) (l ∙ sym length-malformed, b)
 
   pub written : (n i : ℕ) → length f ≡ 5 → n ≡ lentOf i longestFile → i ≡ four 1 f → Gives (fileLine n image) len out out′
       → Gives (writeLine f image) len out out′

@@ -67,12 +67,25 @@ pub record Effects : Type 0 where
 abbrev pub leavingBoth : List ℕ → List ℕ → List ℕ → Effects
 leavingBoth line first second = record { line = line; first = first; second = second }
 
+-- the same of a command that speaks a name: it is lent the phones, the numbers, and the contested letters of the last name spoken
+pub record SpeechEffect : Type 0 where
+  pub line : List ℕ
+  pub phones : List ℕ
+  pub numbers : List ℕ
+  pub contested : ℕ
+
+abbrev pub leavingSpeech : List ℕ → List ℕ → List ℕ → ℕ → SpeechEffect
+leavingSpeech line phones numbers contested = record { line = line; phones = phones; numbers = numbers; contested = contested }
+
 -- what a frame as long as its fields comes to; any other changes nothing
 abbrev pub sizedTo : Bool → Effect → List ℕ → Effect
 sizedTo b e xs = cond b e (leaving malformedLine xs)
 
 abbrev pub bothSized : Bool → Effects → List ℕ → List ℕ → Effects
 bothSized b e xs ys = cond b e (leavingBoth malformedLine xs ys)
+
+abbrev pub speechSized : Bool → SpeechEffect → List ℕ → List ℕ → ℕ → SpeechEffect
+speechSized b e phones numbers contested = cond b e (leavingSpeech malformedLine phones numbers contested)
 
 -- the ruleset after an edit
 abbrev pub ruled : Edited → Effect
@@ -99,5 +112,12 @@ pub record Answered (e : Effect) (memory : List ℕ) (len : ℕ) (out out′ : L
 pub record BothAnswered (e : Effects) (one other : List ℕ) (len : ℕ) (out out′ : List ℕ) : Type 0 where
   pub left : one ≡ e .first
   pub right : other ≡ e .second
+  pub many : len ≡ length (e .line)
+  pub bytes : out′ ≡ over (e .line) out
+
+pub record SpeechAnswered (e : SpeechEffect) (phones numbers : List ℕ) (contested len : ℕ) (out out′ : List ℕ) : Type 0 where
+  pub said : phones ≡ e .phones
+  pub numbered : numbers ≡ e .numbers
+  pub counted : contested ≡ e .contested
   pub many : len ≡ length (e .line)
   pub bytes : out′ ≡ over (e .line) out

@@ -12,7 +12,7 @@ use Rattle.tables.specs.Walk.{Walked, walkSaid}
 use Rattle.rules.specs.Refusals.{Reply, accepted, declined}
 use Rattle.transcript.specs.Answers.{printed, refusedBody, spokenBody, toldBody}
 use Rattle.commands.specs.Fields.{four}
-use Rattle.commands.specs.Answers.{Effects, leavingBoth, bothSized, statesLine, walkRefusal}
+use Rattle.commands.specs.Answers.{Effects, leavingBoth, bothSized, SpeechEffect, leavingSpeech, speechSized, statesLine, walkRefusal}
 
 -- so many as are asked for; more than there are counts as all
 abbrev pub lentOf : ℕ → ℕ → ℕ
@@ -59,30 +59,39 @@ builtBy f image words sets =
     bothSized (eqb (length f) 9)
     (buildEffects (builtIn (lentOf (four 1 f) (length words)) (lentOf (four 5 f) (length sets)) image words sets)) words sets
 
+-- the contested letters of the last name spoken: a name that is refused leaves those of the one before
+abbrev pub contestedAfter : Told → ℕ → ℕ
+contestedAfter (spoken p n c) before = c
+contestedAfter (refused n p) before = before
+
+-- what a name leaves, by its answer's line
+abbrev pub saidEffect : List ℕ → Said → ℕ → SpeechEffect
+saidEffect line s contested = leavingSpeech line (s .phones) (s .numbers) (contestedAfter (s .told) contested)
+
 -- what a walk answers: 04, or 08 with the steps
 abbrev pub walkLine : Told → ℕ → List ℕ → List ℕ → List ℕ
-walkLine (spoken p n) steps phones numbers = printed (spokenBody steps (take p phones) (take n numbers))
+walkLine (spoken p n c) steps phones numbers = printed (spokenBody steps (take p phones) (take n numbers))
 walkLine (refused n p) steps phones numbers = walkRefusal steps n p
 
-abbrev pub walkEffects : Walked → Effects
-walkEffects w = leavingBoth (walkLine (w .said .told) (w .steps) (w .said .phones) (w .said .numbers)) (w .said .phones) (w .said .numbers)
+abbrev pub walkEffect : Walked → ℕ → SpeechEffect
+walkEffect w contested = saidEffect (walkLine (w .said .told) (w .steps) (w .said .phones) (w .said .numbers)) (w .said) contested
 
 -- 16, lent words (4), lent set words (4), lent phones (2), lent numbers (2), letters: walk, over the first so many of each
-unfoldable pub walkedBy : List ℕ → List ℕ → List ℕ → List ℕ → List ℕ → List ℕ → List ℕ → Effects
-walkedBy f image list words sets phones numbers =
-    bothSized (leb 13 (length f))
-    (walkEffects (walkIn (lentOf (two 9 f) (length phones)) (lentOf (two 11 f) (length numbers)) image list (take (lentOf (four 1 f) (length words)) words) (take (lentOf (four 5 f) (length sets)) sets) (drop 13 f) phones numbers))
-    phones numbers
+unfoldable pub walkedBy : List ℕ → List ℕ → List ℕ → List ℕ → List ℕ → List ℕ → List ℕ → ℕ → SpeechEffect
+walkedBy f image list words sets phones numbers contested =
+    speechSized (leb 13 (length f))
+    (walkEffect (walkIn (lentOf (two 9 f) (length phones)) (lentOf (two 11 f) (length numbers)) image list (take (lentOf (four 1 f) (length words)) words) (take (lentOf (four 5 f) (length sets)) sets) (drop 13 f) phones numbers) contested)
+    phones numbers contested
 
 -- what a plain reading answers: 04 with steps 0, or 05
 abbrev pub plainLine : Told → List ℕ → List ℕ → List ℕ
 plainLine t phones numbers = printed (toldBody t 0 phones numbers)
 
-abbrev pub plainEffects : Said → Effects
-plainEffects s = leavingBoth (plainLine (s .told) (s .phones) (s .numbers)) (s .phones) (s .numbers)
+abbrev pub plainEffect : Said → ℕ → SpeechEffect
+plainEffect s contested = saidEffect (plainLine (s .told) (s .phones) (s .numbers)) s contested
 
 -- 17, lent phones (2), lent numbers (2), letters: plain reading
-unfoldable pub plainBy : List ℕ → List ℕ → List ℕ → List ℕ → List ℕ → Effects
-plainBy f image list phones numbers =
-    bothSized (leb 5 (length f))
-    (plainEffects (plainIn (lentOf (two 1 f) (length phones)) (lentOf (two 3 f) (length numbers)) image list (drop 5 f) phones numbers)) phones numbers
+unfoldable pub plainBy : List ℕ → List ℕ → List ℕ → List ℕ → List ℕ → ℕ → SpeechEffect
+plainBy f image list phones numbers contested =
+    speechSized (leb 5 (length f))
+    (plainEffect (plainIn (lentOf (two 1 f) (length phones)) (lentOf (two 3 f) (length numbers)) image list (drop 5 f) phones numbers) contested) phones numbers contested

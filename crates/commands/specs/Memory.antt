@@ -2,7 +2,7 @@
 -- Assumes nothing.
 use Prim.Native.Nat.{ℕ, _+_, _/_, _≤_}
 use mathlib.Core.Bool.{Bool, cond, _&&_}
-use mathlib.Core.List.{List, _∷_, _++_}
+use mathlib.Core.List.{List, [], _∷_, _++_}
 use lib.ListN.{length, getD, take, drop, set}
 use lib.Dec.{leb, ltb, eqb}
 use Rattle.numbers.specs.Numbers.{two, bytes4}
@@ -74,6 +74,10 @@ shownPhones f phones = shownIf (eqb (length f) 1) phones
 -- 1D: show the numbers, 2 bytes each
 unfoldable pub shownNumbers : List ℕ → List ℕ → List ℕ
 shownNumbers f numbers = shownIf (eqb (length f) 1) (twos numbers)
+
+-- 27: show the contested letters of the last name spoken, 1 byte
+unfoldable pub shownContested : List ℕ → ℕ → List ℕ
+shownContested f contested = shownIf (eqb (length f) 1) (contested ∷ [])
 
 -- what the monitor holds is large enough: a ruleset's image, phones and numbers that an answer has room for, and the longest answer's bytes
 pub record Held (image phones numbers out : ℕ) : Type 0 where

@@ -9,8 +9,8 @@ use lib.ListN.{length, getD, take}
 use Rattle.rules.specs.Memory.{over}
 use Rattle.frames.specs.Lines.{Parsed}
 use Rattle.frames.specs.Lines.Parsed.{Bad, Good}
-use Rattle.commands.specs.Answers.{Effect, Effects, malformedLine, added, dropped, moved}
-use Rattle.commands.specs.Memory.{forcedBy, clearedBy, storedWord, storedSet, shownWords, shownSets, shownPhones, shownNumbers}
+use Rattle.commands.specs.Answers.{Effect, Effects, SpeechEffect, malformedLine, added, dropped, moved}
+use Rattle.commands.specs.Memory.{forcedBy, clearedBy, storedWord, storedSet, shownWords, shownSets, shownPhones, shownNumbers, shownContested}
 use Rattle.commands.specs.Lent.{builtBy, walkedBy, plainBy}
 use Rattle.commands.specs.Filing.{loadedBy, writeLine}
 
@@ -23,16 +23,18 @@ commandIn room (Good f rest) = cond (leb (length f) room) (take (length f - 1) f
 unfoldable pub readsFile : List ℕ → Bool
 readsFile f = eqb (length f) 1 && eqb (getD f 0 0) 19
 
--- what the monitor holds
+-- what the monitor holds; `contested` is the number of contested letters of the last name spoken
 pub record State : Type 0 where
   pub image : List ℕ
   pub words : List ℕ
   pub sets : List ℕ
   pub phones : List ℕ
   pub numbers : List ℕ
+  pub contested : ℕ
 
-abbrev pub holding : List ℕ → List ℕ → List ℕ → List ℕ → List ℕ → State
-holding image words sets phones numbers = record { image = image; words = words; sets = sets; phones = phones; numbers = numbers }
+abbrev pub holding : List ℕ → List ℕ → List ℕ → List ℕ → List ℕ → ℕ → State
+holding image words sets phones numbers contested =
+    record { image = image; words = words; sets = sets; phones = phones; numbers = numbers; contested = contested }
 
 -- the line of an answer, and what is held after it
 pub record Response : Type 0 where
@@ -42,24 +44,24 @@ pub record Response : Type 0 where
 -- ---- what is not lent to a command to change stays as it is
 
 abbrev pub onImage : State → Effect → Response
-onImage s e = record { line = e .line; state = holding (e .after) (s .words) (s .sets) (s .phones) (s .numbers) }
+onImage s e = record { line = e .line; state = holding (e .after) (s .words) (s .sets) (s .phones) (s .numbers) (s .contested) }
 
 abbrev pub onWords : State → Effect → Response
-onWords s e = record { line = e .line; state = holding (s .image) (e .after) (s .sets) (s .phones) (s .numbers) }
+onWords s e = record { line = e .line; state = holding (s .image) (e .after) (s .sets) (s .phones) (s .numbers) (s .contested) }
 
 abbrev pub onSets : State → Effect → Response
-onSets s e = record { line = e .line; state = holding (s .image) (s .words) (e .after) (s .phones) (s .numbers) }
+onSets s e = record { line = e .line; state = holding (s .image) (s .words) (e .after) (s .phones) (s .numbers) (s .contested) }
 
 abbrev pub onTables : State → Effects → Response
-onTables s e = record { line = e .line; state = holding (s .image) (e .first) (e .second) (s .phones) (s .numbers) }
+onTables s e = record { line = e .line; state = holding (s .image) (e .first) (e .second) (s .phones) (s .numbers) (s .contested) }
 
-abbrev pub onSpeech : State → Effects → Response
-onSpeech s e = record { line = e .line; state = holding (s .image) (s .words) (s .sets) (e .first) (e .second) }
+abbrev pub onSpeech : State → SpeechEffect → Response
+onSpeech s e = record { line = e .line; state = holding (s .image) (s .words) (s .sets) (e .phones) (e .numbers) (e .contested) }
 
 abbrev pub shows : State → List ℕ → Response
 shows s line = record { line = line; state = s }
 
--- 10 to 1F; `file` is what rules.hex holds, and `list` the lent list, which none of them changes
+-- 10 to 1F and 27; `file` is what rules.hex holds, and `list` the lent list, which none of them changes
 unfoldable pub byKind : ℕ → List ℕ → List ℕ → List ℕ → State → Response
 byKind kind f file list s =
     cond (eqb kind 16) (onImage s (added f (s .image)))
@@ -68,8 +70,8 @@ byKind kind f file list s =
     (cond (eqb kind 19) (onImage s (loadedBy f file (s .image)))
     (cond (eqb kind 20) (shows s (writeLine f (s .image)))
     (cond (eqb kind 21) (onTables s (builtBy f (s .image) (s .words) (s .sets)))
-    (cond (eqb kind 22) (onSpeech s (walkedBy f (s .image) list (s .words) (s .sets) (s .phones) (s .numbers)))
-    (cond (eqb kind 23) (onSpeech s (plainBy f (s .image) list (s .phones) (s .numbers)))
+    (cond (eqb kind 22) (onSpeech s (walkedBy f (s .image) list (s .words) (s .sets) (s .phones) (s .numbers) (s .contested)))
+    (cond (eqb kind 23) (onSpeech s (plainBy f (s .image) list (s .phones) (s .numbers) (s .contested)))
     (cond (eqb kind 24) (onWords s (storedWord f (s .words)))
     (cond (eqb kind 25) (onSets s (storedSet f (s .sets)))
     (cond (eqb kind 26) (shows s (shownWords f (s .words)))
@@ -78,7 +80,8 @@ byKind kind f file list s =
     (cond (eqb kind 29) (shows s (shownNumbers f (s .numbers)))
     (cond (eqb kind 30) (onImage s (forcedBy f (s .image)))
     (cond (eqb kind 31) (onImage s (clearedBy f (s .image)))
-    (shows s malformedLine))))))))))))))))
+    (cond (eqb kind 39) (shows s (shownContested f (s .contested)))
+    (shows s malformedLine)))))))))))))))))
 
 -- the answer to a command; a frame of no bytes is none
 unfoldable pub answerTo : List ℕ → List ℕ → List ℕ → State → Response

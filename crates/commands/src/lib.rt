@@ -49,8 +49,8 @@ pub fn asks_for_file(f: &[u8]) -> bool
     f[0] == 0x13
 }
 
-// The answer to a command, at the front of `out`, and its length; `file` holds the bytes of rules.hex where the command reads it, and `list` is
-// the lent list that names are looked up in.
+// The answer to a command, at the front of `out`, and its length; `file` holds the bytes of rules.hex where the command reads it, `list` is the
+// lent list that names are looked up in, and `contested` the contested letters of the last name spoken.
 pub fn answer(
     f: &[u8],
     file: &[u8],
@@ -60,10 +60,11 @@ pub fn answer(
     sets: &mut [u64],
     phones: &mut [u8],
     numbers: &mut [u16],
+    contested: &mut u8,
     out: &mut [u8],
 ) -> usize
     requires { ⌜ Held (length (now image)) (length (now phones)) (length (now numbers)) (length (now out)) ⌝ }
-    ensures replied { λ r. ⌜ Replied (answerTo (now (f .entry)) (now (file .entry)) (now (list .entry)) (holding (now (image .entry)) (now (words .entry)) (now (sets .entry)) (now (phones .entry)) (now (numbers .entry)))) (holding (now (image .exit)) (now (words .exit)) (now (sets .exit)) (now (phones .exit)) (now (numbers .exit))) r (now (out .entry)) (now (out .exit)) ⌝ }
+    ensures replied { λ r. ⌜ Replied (answerTo (now (f .entry)) (now (file .entry)) (now (list .entry)) (holding (now (image .entry)) (now (words .entry)) (now (sets .entry)) (now (phones .entry)) (now (numbers .entry)) (now (contested .entry)))) (holding (now (image .exit)) (now (words .exit)) (now (sets .exit)) (now (phones .exit)) (now (numbers .exit)) (now (contested .exit))) r (now (out .entry)) (now (out .exit)) ⌝ }
     ensures within { λ r. ⌜ r ≤ length (now (out .exit)) ⌝ }
 {
     if f.len() == 0 {
@@ -77,8 +78,18 @@ pub fn answer(
         0x13 => filing::read_command(f, file, image, out),
         0x14 => filing::write_command(f, image, out),
         0x15 => speaking::build_command(f, image, words, sets, out),
-        0x16 => speaking::walk_command(f, image, list, words, sets, phones, numbers, out),
-        0x17 => speaking::plain_command(f, image, list, phones, numbers, out),
+        0x16 => speaking::walk_command(
+            f,
+            image,
+            list,
+            words,
+            sets,
+            phones,
+            numbers,
+            contested,
+            out,
+        ),
+        0x17 => speaking::plain_command(f, image, list, phones, numbers, contested, out),
         0x18 => memory::store_word(f, words, out),
         0x19 => memory::store_set(f, sets, out),
         0x1A => memory::show_words(f, words, out),
@@ -87,6 +98,7 @@ pub fn answer(
         0x1D => memory::show_numbers(f, numbers, out),
         0x1E => editing::force_command(f, image, out),
         0x1F => editing::clear_command(f, image, out),
+        0x27 => memory::show_contested(f, *contested, out),
         _ => answers::malformed(out),
     }
 }

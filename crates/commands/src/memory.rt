@@ -1,4 +1,4 @@
-// The commands that reach into the memory of the tables, the phones and the numbers.
+// The commands that reach into the memory of the tables, the phones, the numbers and the contested letters.
 use crate::answers;
 use crate::fields;
 use frames::writer;
@@ -11,7 +11,7 @@ ghost use Rattle.rules.specs.Memory.{over};
 ghost use Rattle.frames.specs.Output.{output, Sent};
 ghost use Rattle.transcript.specs.Answers.{twos, printed};
 ghost use Rattle.commands.specs.Answers.{Answered};
-ghost use Rattle.commands.specs.Memory.{eights, bytes8, storedWord, storedSet, inside, shownWords, shownSets, shownPhones, shownNumbers};
+ghost use Rattle.commands.specs.Memory.{eights, bytes8, storedWord, storedSet, inside, shownWords, shownSets, shownPhones, shownNumbers, shownContested};
 
 // 18, index (4), value (2): one word is stored.
 pub fn store_word(f: &[u8], words: &mut [u16], out: &mut [u8]) -> usize
@@ -166,4 +166,17 @@ pub fn show_numbers(f: &[u8], numbers: &[u16], out: &mut [u8]) -> usize
         return answers::malformed(out);
     }
     words_line(numbers, out)
+}
+
+// 27: the contested letters of the last name spoken are shown.
+pub fn show_contested(f: &[u8], contested: u8, out: &mut [u8]) -> usize
+    requires { ⌜ 15 ≤ length (now out) ⌝ }
+    ensures len { λ r. ⌜ r ≡ length (shownContested (now (f .entry)) contested) ⌝ }
+    ensures bytes { λ _. ⌜ now (out .exit) ≡ over (shownContested (now (f .entry)) contested) (now (out .entry)) ⌝ }
+{
+    if f.len() != 1 {
+        return answers::malformed(out);
+    }
+    let bytes = [contested];
+    bytes_line(&bytes, out)
 }

@@ -6,7 +6,7 @@ use rules::Answer;
 use walk::WalkAnswer;
 ghost use mathlib.Core.Path.{_≡_};
 ghost use Prim.Native.Nat.{_≤_};
-ghost use lib.ListN.{length, getD, take, drop};
+ghost use lib.ListN.{length, take, drop};
 ghost use Rattle.numbers.specs.Numbers.{two};
 ghost use Rattle.rules.specs.Memory.{over};
 ghost use Rattle.rules.specs.Refusals.{replyOf};
@@ -15,9 +15,9 @@ ghost use Rattle.tables.specs.Words.{building};
 ghost use Rattle.walk.specs.Walked.{walkedOf};
 ghost use Rattle.transcript.specs.Names.{ToldWithin};
 ghost use Rattle.transcript.specs.Answers.{longestLine};
-ghost use Rattle.commands.specs.Answers.{BothAnswered};
+ghost use Rattle.commands.specs.Answers.{BothAnswered, SpeechAnswered};
 ghost use Rattle.commands.specs.Fields.{four};
-ghost use Rattle.commands.specs.Lent.{lentOf, builtIn, plainIn, walkIn, builtBy, plainLine, plainBy, walkLine, walkedBy};
+ghost use Rattle.commands.specs.Lent.{lentOf, builtIn, plainIn, walkIn, builtBy, contestedAfter, plainLine, plainBy, walkLine, walkedBy};
 
 // So many as are asked for; more than there are counts as all.
 pub fn lent(asked: usize, there: usize) -> usize
@@ -159,6 +159,21 @@ pub fn walk_lent<'a>(
     )
 }
 
+// The contested letters of the last name spoken, after a speech: no more than the numbers given, so that a byte holds them.
+fn contested_after(speech: Speech, before: u8) -> u8
+    requires { ⌜ ToldWithin (toldOf speech) 256 64 ⌝ }
+    ensures { λ r. ⌜ r ≡ contestedAfter (toldOf speech) before ⌝ }
+{
+    match speech {
+        Speech::Spoken {
+            phones: _,
+            numbers: _,
+            contested: c,
+        } => c as u8,
+        Speech::Refused(_) => before,
+    }
+}
+
 // The answer of a plain reading: 04 with no steps, or 05.
 fn plain_line(speech: Speech, phones: &[u8], numbers: &[u16], out: &mut [u8]) -> usize
     requires { ⌜ (length (now phones) ≤ 256) × ((length (now numbers) ≤ 64) × ((longestLine ≤ length (now out)) × ToldWithin (toldOf speech) (length (now phones)) (length (now numbers)))) ⌝ }
@@ -176,15 +191,17 @@ pub fn plain_command(
     list: &[u32],
     phones: &mut [u8],
     numbers: &mut [u16],
+    contested: &mut u8,
     out: &mut [u8],
 ) -> usize
     requires { ⌜ (length (now phones) ≤ 256) × ((length (now numbers) ≤ 64) × (longestLine ≤ length (now out))) ⌝ }
-    ensures { λ r. ⌜ BothAnswered (plainBy (now (f .entry)) (now (image .entry)) (now (list .entry)) (now (phones .entry)) (now (numbers .entry))) (now (phones .exit)) (now (numbers .exit)) r (now (out .entry)) (now (out .exit)) ⌝ }
+    ensures { λ r. ⌜ SpeechAnswered (plainBy (now (f .entry)) (now (image .entry)) (now (list .entry)) (now (phones .entry)) (now (numbers .entry)) (now (contested .entry))) (now (phones .exit)) (now (numbers .exit)) (now (contested .exit)) r (now (out .entry)) (now (out .exit)) ⌝ }
 {
     if f.len() < 5 {
         return answers::malformed(out);
     }
     let speech = plain_lent(f, image, list, &mut *phones, &mut *numbers);
+    *contested = contested_after(speech, *contested);
     plain_line(speech, phones, numbers, out)
 }
 
@@ -210,14 +227,17 @@ pub fn walk_command<'a>(
     sets: &'a [u64],
     phones: &mut [u8],
     numbers: &mut [u16],
+    contested: &mut u8,
     out: &mut [u8],
 ) -> usize
     requires { ⌜ (length (now phones) ≤ 256) × ((length (now numbers) ≤ 64) × (longestLine ≤ length (now out))) ⌝ }
-    ensures { λ r. ⌜ BothAnswered (walkedBy (now (f .entry)) (now (image .entry)) (now (list .entry)) (now (words .entry)) (now (sets .entry)) (now (phones .entry)) (now (numbers .entry))) (now (phones .exit)) (now (numbers .exit)) r (now (out .entry)) (now (out .exit)) ⌝ }
+    ensures { λ r. ⌜ SpeechAnswered (walkedBy (now (f .entry)) (now (image .entry)) (now (list .entry)) (now (words .entry)) (now (sets .entry)) (now (phones .entry)) (now (numbers .entry)) (now (contested .entry))) (now (phones .exit)) (now (numbers .exit)) (now (contested .exit)) r (now (out .entry)) (now (out .exit)) ⌝ }
 {
     if f.len() < 13 {
         return answers::malformed(out);
     }
     let answer = walk_lent(f, image, list, words, sets, &mut *phones, &mut *numbers);
+    let speech = answer.speech;
+    *contested = contested_after(speech, *contested);
     walk_line(answer, phones, numbers, out)
 }

@@ -1,7 +1,7 @@
 -- `commands::answer` meets its contract: each command is answered by its own function.
 -- Assumes nothing.
 use borrow.Author.Needs.{needs}
-use Rattle.commands.proofs.Dispatch.{by-none, by-add, by-drop, by-move, by-read, by-write, by-build, by-walk, by-plain, by-store-word, by-store-set, by-show-words, by-show-sets, by-show-phones, by-show-numbers, by-force, by-clear, by-other}
+use Rattle.commands.proofs.Dispatch.{by-none, by-add, by-drop, by-move, by-read, by-write, by-build, by-walk, by-plain, by-store-word, by-store-set, by-show-words, by-show-sets, by-show-phones, by-show-numbers, by-force, by-clear, by-show-contested, by-other}
 use Rattle.commands.proofs.answer.Statement.{statement}
 use Rattle.commands.proofs.answer.Tie as tie
 
@@ -14,7 +14,7 @@ same-length c = search needs
 returns : tie.Need-returns
 returns c =
     let a = c .before .before .before .before .before .before .before .before .before .before .before .before .before .before .args in
-    by-none (a .f .now) (a .file .now) (a .list .now) (a .image .now) (a .words .now) (a .sets .now) (a .phones .now) (a .numbers .now) _ (a .out .now) _ (c .before .before .malformed .ensures .0) (c .before .before .malformed .ensures .1) (c .before .before .before .before .if1 .taken)
+    by-none (a .f .now) (a .file .now) (a .list .now) (a .image .now) (a .words .now) (a .sets .now) (a .phones .now) (a .numbers .now) (a .contested .now) _ (a .out .now) _ (c .before .before .malformed .ensures .0) (c .before .before .malformed .ensures .1) (c .before .before .before .before .if1 .taken)
 
 shared-slice-read-kind : tie.Need-shared-slice-read-kind
 shared-slice-read-kind c = search needs
@@ -67,6 +67,9 @@ force-command-requires c κs = search needs
 clear-command-requires : tie.Need-clear-command-requires
 clear-command-requires c κs = search needs
 
+show-contested-requires : tie.Need-show-contested-requires
+show-contested-requires c κs = search needs
+
 malformed-requires-2 : tie.Need-malformed-requires-2
 malformed-requires-2 c κs = search needs
 
@@ -79,7 +82,7 @@ same-length-3 c = search needs
 returns-2 : tie.Need-returns-2
 returns-2 c =
     let a = c .before .before .before .before .before .before .before .before .before .before .before .before .before .before .before .before .before .before .before .args in
-    by-add (a .f .now) (a .file .now) (a .list .now) (a .image .now) (a .words .now) (a .sets .now) (a .phones .now) (a .numbers .now) _ (a .out .now) _ _ (c .before .before .before .before .before .before .before .match .keys1) (c .before .before .before .before .add-command .ensures)
+    by-add (a .f .now) (a .file .now) (a .list .now) (a .image .now) (a .words .now) (a .sets .now) (a .phones .now) (a .numbers .now) (a .contested .now) _ (a .out .now) _ _ (c .before .before .before .before .before .before .before .match .keys1) (c .before .before .before .before .add-command .ensures)
 
 same-length-4 : tie.Need-same-length-4
 same-length-4 c = search needs
@@ -90,7 +93,7 @@ same-length-5 c = search needs
 returns-3 : tie.Need-returns-3
 returns-3 c =
     let a = c .before .before .before .before .before .before .before .before .before .before .before .before .before .before .before .before .before .before .before .args in
-    by-drop (a .f .now) (a .file .now) (a .list .now) (a .image .now) (a .words .now) (a .sets .now) (a .phones .now) (a .numbers .now) _ (a .out .now) _ _ (c .before .before .before .before .before .before .before .match .keys2) (c .before .before .before .before .drop-command .ensures)
+    by-drop (a .f .now) (a .file .now) (a .list .now) (a .image .now) (a .words .now) (a .sets .now) (a .phones .now) (a .numbers .now) (a .contested .now) _ (a .out .now) _ _ (c .before .before .before .before .before .before .before .match .keys2) (c .before .before .before .before .drop-command .ensures)
 
 same-length-6 : tie.Need-same-length-6
 same-length-6 c = search needs
@@ -101,7 +104,7 @@ same-length-7 c = search needs
 returns-4 : tie.Need-returns-4
 returns-4 c =
     let a = c .before .before .before .before .before .before .before .before .before .before .before .before .before .before .before .before .before .before .before .args in
-    by-move (a .f .now) (a .file .now) (a .list .now) (a .image .now) (a .words .now) (a .sets .now) (a .phones .now) (a .numbers .now) _ (a .out .now) _ _ (c .before .before .before .before .before .before .before .match .keys3) (c .before .before .before .before .move-command .ensures)
+    by-move (a .f .now) (a .file .now) (a .list .now) (a .image .now) (a .words .now) (a .sets .now) (a .phones .now) (a .numbers .now) (a .contested .now) _ (a .out .now) _ _ (c .before .before .before .before .before .before .before .match .keys3) (c .before .before .before .before .move-command .ensures)
 
 same-length-8 : tie.Need-same-length-8
 same-length-8 c = search needs
@@ -112,7 +115,7 @@ same-length-9 c = search needs
 returns-5 : tie.Need-returns-5
 returns-5 c =
     let a = c .before .before .before .before .before .before .before .before .before .before .before .before .before .before .before .before .before .before .before .args in
-    by-read (a .f .now) (a .file .now) (a .list .now) (a .image .now) (a .words .now) (a .sets .now) (a .phones .now) (a .numbers .now) _ (a .out .now) _ _ (c .before .before .before .before .before .before .before .match .keys4) (c .before .before .before .before .read-command .ensures)
+    by-read (a .f .now) (a .file .now) (a .list .now) (a .image .now) (a .words .now) (a .sets .now) (a .phones .now) (a .numbers .now) (a .contested .now) _ (a .out .now) _ _ (c .before .before .before .before .before .before .before .match .keys4) (c .before .before .before .before .read-command .ensures)
 
 same-length-10 : tie.Need-same-length-10
 same-length-10 c = search needs
@@ -123,7 +126,7 @@ same-length-11 c = search needs
 returns-6 : tie.Need-returns-6
 returns-6 c =
     let a = c .before .before .before .before .before .before .before .before .before .before .before .before .before .before .before .before .before .args in
-    by-write (a .f .now) (a .file .now) (a .list .now) (a .image .now) (a .words .now) (a .sets .now) (a .phones .now) (a .numbers .now) _ (a .out .now) _ (c .before .before .before .before .before .match .keys5) (c .before .before .write-command .ensures)
+    by-write (a .f .now) (a .file .now) (a .list .now) (a .image .now) (a .words .now) (a .sets .now) (a .phones .now) (a .numbers .now) (a .contested .now) _ (a .out .now) _ (c .before .before .before .before .before .match .keys5) (c .before .before .write-command .ensures)
 
 same-length-12 : tie.Need-same-length-12
 same-length-12 c = search needs
@@ -140,7 +143,7 @@ same-length-15 c = search needs
 returns-7 : tie.Need-returns-7
 returns-7 c =
     let a = c .before .before .before .before .before .before .before .before .before .before .before .before .before .before .before .before .before .before .before .before .before .before .before .args in
-    by-build (a .f .now) (a .file .now) (a .list .now) (a .image .now) (a .words .now) (a .sets .now) (a .phones .now) (a .numbers .now) _ (a .out .now) _ _ _ (c .before .before .before .before .before .before .before .before .before .before .before .match .keys6) (c .before .before .before .before .before .before .build-command .ensures)
+    by-build (a .f .now) (a .file .now) (a .list .now) (a .image .now) (a .words .now) (a .sets .now) (a .phones .now) (a .numbers .now) (a .contested .now) _ (a .out .now) _ _ _ (c .before .before .before .before .before .before .before .before .before .before .before .match .keys6) (c .before .before .before .before .before .before .build-command .ensures)
 
 same-length-16 : tie.Need-same-length-16
 same-length-16 c = search needs
@@ -162,8 +165,8 @@ same-length-21 c = search needs
 
 returns-8 : tie.Need-returns-8
 returns-8 c =
-    let a = c .before .before .before .before .before .before .before .before .before .before .before .before .before .before .before .before .before .before .before .before .before .before .before .before .before .args in
-    by-walk (a .f .now) (a .file .now) (a .list .now) (a .image .now) (a .words .now) (a .sets .now) (a .phones .now) (a .numbers .now) _ (a .out .now) _ _ _ (c .before .before .before .before .before .before .before .before .before .before .before .before .before .match .keys7) (c .before .before .before .before .before .before .walk-command .ensures)
+    let a = c .before .before .before .before .before .before .before .before .before .before .before .before .before .before .before .before .before .before .before .before .before .before .before .before .before .before .args in
+    by-walk (a .f .now) (a .file .now) (a .list .now) (a .image .now) (a .words .now) (a .sets .now) (a .phones .now) (a .numbers .now) (a .contested .now) _ (a .out .now) _ _ _ _ (c .before .before .before .before .before .before .before .before .before .before .before .before .before .before .match .keys7) (c .before .before .before .before .before .before .walk-command .ensures)
 
 same-length-22 : tie.Need-same-length-22
 same-length-22 c = search needs
@@ -179,8 +182,8 @@ same-length-25 c = search needs
 
 returns-9 : tie.Need-returns-9
 returns-9 c =
-    let a = c .before .before .before .before .before .before .before .before .before .before .before .before .before .before .before .before .before .before .before .before .before .before .before .args in
-    by-plain (a .f .now) (a .file .now) (a .list .now) (a .image .now) (a .words .now) (a .sets .now) (a .phones .now) (a .numbers .now) _ (a .out .now) _ _ _ (c .before .before .before .before .before .before .before .before .before .before .before .match .keys8) (c .before .before .before .before .before .before .plain-command .ensures)
+    let a = c .before .before .before .before .before .before .before .before .before .before .before .before .before .before .before .before .before .before .before .before .before .before .before .before .args in
+    by-plain (a .f .now) (a .file .now) (a .list .now) (a .image .now) (a .words .now) (a .sets .now) (a .phones .now) (a .numbers .now) (a .contested .now) _ (a .out .now) _ _ _ _ (c .before .before .before .before .before .before .before .before .before .before .before .before .match .keys8) (c .before .before .before .before .before .before .plain-command .ensures)
 
 same-length-26 : tie.Need-same-length-26
 same-length-26 c = search needs
@@ -191,7 +194,7 @@ same-length-27 c = search needs
 returns-10 : tie.Need-returns-10
 returns-10 c =
     let a = c .before .before .before .before .before .before .before .before .before .before .before .before .before .before .before .before .before .before .before .args in
-    by-store-word (a .f .now) (a .file .now) (a .list .now) (a .image .now) (a .words .now) (a .sets .now) (a .phones .now) (a .numbers .now) _ (a .out .now) _ _ (c .before .before .before .before .before .before .before .match .keys9) (c .before .before .before .before .store-word .ensures)
+    by-store-word (a .f .now) (a .file .now) (a .list .now) (a .image .now) (a .words .now) (a .sets .now) (a .phones .now) (a .numbers .now) (a .contested .now) _ (a .out .now) _ _ (c .before .before .before .before .before .before .before .match .keys9) (c .before .before .before .before .store-word .ensures)
 
 same-length-28 : tie.Need-same-length-28
 same-length-28 c = search needs
@@ -202,7 +205,7 @@ same-length-29 c = search needs
 returns-11 : tie.Need-returns-11
 returns-11 c =
     let a = c .before .before .before .before .before .before .before .before .before .before .before .before .before .before .before .before .before .before .before .args in
-    by-store-set (a .f .now) (a .file .now) (a .list .now) (a .image .now) (a .words .now) (a .sets .now) (a .phones .now) (a .numbers .now) _ (a .out .now) _ _ (c .before .before .before .before .before .before .before .match .keys10) (c .before .before .before .before .store-set .ensures)
+    by-store-set (a .f .now) (a .file .now) (a .list .now) (a .image .now) (a .words .now) (a .sets .now) (a .phones .now) (a .numbers .now) (a .contested .now) _ (a .out .now) _ _ (c .before .before .before .before .before .before .before .match .keys10) (c .before .before .before .before .store-set .ensures)
 
 same-length-30 : tie.Need-same-length-30
 same-length-30 c = search needs
@@ -213,7 +216,7 @@ same-length-31 c = search needs
 returns-12 : tie.Need-returns-12
 returns-12 c =
     let a = c .before .before .before .before .before .before .before .before .before .before .before .before .before .before .before .before .before .args in
-    by-show-words (a .f .now) (a .file .now) (a .list .now) (a .image .now) (a .words .now) (a .sets .now) (a .phones .now) (a .numbers .now) _ (a .out .now) _ (c .before .before .before .before .before .match .keys11) (c .before .before .show-words .ensures)
+    by-show-words (a .f .now) (a .file .now) (a .list .now) (a .image .now) (a .words .now) (a .sets .now) (a .phones .now) (a .numbers .now) (a .contested .now) _ (a .out .now) _ (c .before .before .before .before .before .match .keys11) (c .before .before .show-words .ensures)
 
 same-length-32 : tie.Need-same-length-32
 same-length-32 c = search needs
@@ -224,7 +227,7 @@ same-length-33 c = search needs
 returns-13 : tie.Need-returns-13
 returns-13 c =
     let a = c .before .before .before .before .before .before .before .before .before .before .before .before .before .before .before .before .before .args in
-    by-show-sets (a .f .now) (a .file .now) (a .list .now) (a .image .now) (a .words .now) (a .sets .now) (a .phones .now) (a .numbers .now) _ (a .out .now) _ (c .before .before .before .before .before .match .keys12) (c .before .before .show-sets .ensures)
+    by-show-sets (a .f .now) (a .file .now) (a .list .now) (a .image .now) (a .words .now) (a .sets .now) (a .phones .now) (a .numbers .now) (a .contested .now) _ (a .out .now) _ (c .before .before .before .before .before .match .keys12) (c .before .before .show-sets .ensures)
 
 same-length-34 : tie.Need-same-length-34
 same-length-34 c = search needs
@@ -235,7 +238,7 @@ same-length-35 c = search needs
 returns-14 : tie.Need-returns-14
 returns-14 c =
     let a = c .before .before .before .before .before .before .before .before .before .before .before .before .before .before .before .before .before .args in
-    by-show-phones (a .f .now) (a .file .now) (a .list .now) (a .image .now) (a .words .now) (a .sets .now) (a .phones .now) (a .numbers .now) _ (a .out .now) _ (c .before .before .before .before .before .match .keys13) (c .before .before .show-phones .ensures)
+    by-show-phones (a .f .now) (a .file .now) (a .list .now) (a .image .now) (a .words .now) (a .sets .now) (a .phones .now) (a .numbers .now) (a .contested .now) _ (a .out .now) _ (c .before .before .before .before .before .match .keys13) (c .before .before .show-phones .ensures)
 
 same-length-36 : tie.Need-same-length-36
 same-length-36 c = search needs
@@ -246,7 +249,7 @@ same-length-37 c = search needs
 returns-15 : tie.Need-returns-15
 returns-15 c =
     let a = c .before .before .before .before .before .before .before .before .before .before .before .before .before .before .before .before .before .args in
-    by-show-numbers (a .f .now) (a .file .now) (a .list .now) (a .image .now) (a .words .now) (a .sets .now) (a .phones .now) (a .numbers .now) _ (a .out .now) _ (c .before .before .before .before .before .match .keys14) (c .before .before .show-numbers .ensures)
+    by-show-numbers (a .f .now) (a .file .now) (a .list .now) (a .image .now) (a .words .now) (a .sets .now) (a .phones .now) (a .numbers .now) (a .contested .now) _ (a .out .now) _ (c .before .before .before .before .before .match .keys14) (c .before .before .show-numbers .ensures)
 
 same-length-38 : tie.Need-same-length-38
 same-length-38 c = search needs
@@ -257,7 +260,7 @@ same-length-39 c = search needs
 returns-16 : tie.Need-returns-16
 returns-16 c =
     let a = c .before .before .before .before .before .before .before .before .before .before .before .before .before .before .before .before .before .before .before .args in
-    by-force (a .f .now) (a .file .now) (a .list .now) (a .image .now) (a .words .now) (a .sets .now) (a .phones .now) (a .numbers .now) _ (a .out .now) _ _ (c .before .before .before .before .before .before .before .match .keys15) (c .before .before .before .before .force-command .ensures)
+    by-force (a .f .now) (a .file .now) (a .list .now) (a .image .now) (a .words .now) (a .sets .now) (a .phones .now) (a .numbers .now) (a .contested .now) _ (a .out .now) _ _ (c .before .before .before .before .before .before .before .match .keys15) (c .before .before .before .before .force-command .ensures)
 
 same-length-40 : tie.Need-same-length-40
 same-length-40 c = search needs
@@ -268,15 +271,23 @@ same-length-41 c = search needs
 returns-17 : tie.Need-returns-17
 returns-17 c =
     let a = c .before .before .before .before .before .before .before .before .before .before .before .before .before .before .before .before .before .before .before .args in
-    by-clear (a .f .now) (a .file .now) (a .list .now) (a .image .now) (a .words .now) (a .sets .now) (a .phones .now) (a .numbers .now) _ (a .out .now) _ _ (c .before .before .before .before .before .before .before .match .keys16) (c .before .before .before .before .clear-command .ensures)
+    by-clear (a .f .now) (a .file .now) (a .list .now) (a .image .now) (a .words .now) (a .sets .now) (a .phones .now) (a .numbers .now) (a .contested .now) _ (a .out .now) _ _ (c .before .before .before .before .before .before .before .match .keys16) (c .before .before .before .before .clear-command .ensures)
 
 same-length-42 : tie.Need-same-length-42
 same-length-42 c = search needs
 
 returns-18 : tie.Need-returns-18
 returns-18 c =
+    let a = c .before .before .before .before .before .before .before .before .before .before .before .before .before .before .before .before .before .args in
+    by-show-contested (a .f .now) (a .file .now) (a .list .now) (a .image .now) (a .words .now) (a .sets .now) (a .phones .now) (a .numbers .now) (a .contested .now) _ (a .out .now) _ (c .before .before .before .before .before .match .keys17) (c .before .before .show-contested .ensures)
+
+same-length-43 : tie.Need-same-length-43
+same-length-43 c = search needs
+
+returns-19 : tie.Need-returns-19
+returns-19 c =
     let a = c .before .before .before .before .before .before .before .before .before .before .before .before .before .before .before .before .args in
-    by-other (a .f .now) (a .file .now) (a .list .now) (a .image .now) (a .words .now) (a .sets .now) (a .phones .now) (a .numbers .now) _ (a .out .now) _ (c .before .before .malformed2 .ensures .0) (c .before .before .malformed2 .ensures .1) (c .before .before .before .before .match .rest)
+    by-other (a .f .now) (a .file .now) (a .list .now) (a .image .now) (a .words .now) (a .sets .now) (a .phones .now) (a .numbers .now) (a .contested .now) _ (a .out .now) _ (c .before .before .malformed2 .ensures .0) (c .before .before .malformed2 .ensures .1) (c .before .before .before .before .match .rest)
 
 pub answer-spec : {M : Type 1} → statement M
 answer-spec =
@@ -302,6 +313,7 @@ answer-spec =
     show-numbers-requires
     force-command-requires
     clear-command-requires
+    show-contested-requires
     malformed-requires-2
     same-length-2
     same-length-3
@@ -360,4 +372,6 @@ answer-spec =
     same-length-41
     returns-17
     same-length-42
-    returns-18)
+    returns-18
+    same-length-43
+    returns-19)

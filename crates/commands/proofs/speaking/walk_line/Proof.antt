@@ -31,7 +31,7 @@ same-length-2 c = search needs
 returns-2 : tie.Need-returns-2
 returns-2 c =
     let a = c .before .before .before .before .before .before .before .before .before .args in
-    walk-spoken (a .answer .speech) (a .answer .steps) (a .phones .now) (a .numbers .now) _ (a .out .now) _ _ _ (c .before .before .before .before .enum-told .given .1) (c .before .before .answer-line .ensures)
+    walk-spoken (a .answer .speech) (a .answer .steps) (a .phones .now) (a .numbers .now) _ (a .out .now) _ _ _ _ (c .before .before .before .before .enum-told .given .1) (c .before .before .answer-line .ensures)
 
 pub walk-line-spec : {M : Type 1} → statement M
 walk-line-spec =
