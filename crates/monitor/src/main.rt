@@ -5,7 +5,7 @@ use libc::STDOUT_FILENO;
 use lines::MAX_LINE;
 use lines::Next;
 use list_commands::Reply;
-ghost use Prim.Native.Nat.{ℕ, _≤_};
+ghost use Prim.Native.Nat.{_≤_};
 ghost use lib.ListN.{length};
 ghost use Rattle.io.specs.Counts.{Counts};
 ghost use Rattle.commands.specs.Memory.{Held};
@@ -47,6 +47,7 @@ fn answer(
     sets: &mut [u64],
     phones: &mut [u8],
     numbers: &mut [u16],
+    contested: &mut u8,
     out: &mut [u8],
 ) -> Reply
     requires { ⌜ (lent ≤ length (now list)) × Held (length (now image)) (length (now phones)) (length (now numbers)) (length (now out)) ⌝ }
@@ -64,6 +65,7 @@ fn answer(
         sets,
         phones,
         numbers,
+        contested,
         out,
     );
     Reply { len, lent }
@@ -83,6 +85,7 @@ fn converse(
     sets: &mut [u64],
     phones: &mut [u8],
     numbers: &mut [u16],
+    contested: &mut u8,
     out: &mut [u8],
 )
     requires { ⌜ Held (length (now image)) (length (now phones)) (length (now numbers)) (length (now out)) ⌝ }
@@ -111,6 +114,7 @@ fn converse(
             sets,
             phones,
             numbers,
+            contested,
             out,
         );
         let n = reply.len;
@@ -136,6 +140,7 @@ fn main() {
     let mut sets = [18446744073709551615u64; 65552];
     let mut phones = [238u8; 256];
     let mut numbers = [61166u16; 64];
+    let mut contested = 0u8;
     let mut out = [0u8; commands::LONGEST_FILE];
     converse(
         &mut piece,
@@ -149,6 +154,7 @@ fn main() {
         &mut sets,
         &mut phones,
         &mut numbers,
+        &mut contested,
         &mut out,
     );
 }
