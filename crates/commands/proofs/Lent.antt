@@ -7,7 +7,7 @@ use native.Mathlib.Omega.{arith}
 use lib.ListN.{length, take, drop, length-take}
 use borrow.Author.Tests.{le-leb, lt-leb}
 use Rattle.numbers.specs.Numbers.{two}
-use Rattle.rules.specs.Refusals.{Reply, declined}
+use Rattle.rules.specs.Refusals.{Reply, declined, Report}
 use Rattle.image.specs.Image.{Edited, outcome}
 use Rattle.exceptions.specs.Judging.{Listing, listingOf}
 use Rattle.commands.specs.Fields.{four}
@@ -15,7 +15,6 @@ use Rattle.reading.specs.Speech.{Told, spoken, refused, Said, saying, plainOutc
 use Rattle.tables.specs.Words.{building, built}
 use Rattle.tables.specs.Walk.{Walked, walkSaid}
 use Rattle.file.specs.Loading.{filing, filed, loaded}
-use Rattle.rules.specs.Refusals.{Report}
 use Rattle.loader.specs.Prepared.{maxInput}
 use Rattle.transcript.specs.Names.{ToldWithin}
 use Rattle.transcript.proofs.Spoken.{delivered-within, walk-within}

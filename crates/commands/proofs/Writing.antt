@@ -10,12 +10,11 @@ use lib.Dec.{leb}
 use lib.ListN.{length, take, replicate, take-append-drop, length-replicate}
 use lib.Seq.{length-take-le}
 use Rattle.rules.specs.Memory.{over}
-use Rattle.rules.specs.Refusals.{refusalNumber, refusalPlace}
+use Rattle.rules.specs.Refusals.{refusalNumber, refusalPlace, Report, wrote, refused, reportOf}
 use Rattle.rules.specs.declared.Refusal.{Refusal}
 use Rattle.image.specs.Image.{valid}
 use Rattle.file.specs.File.{encode}
 use Rattle.file.specs.Loading.{Filed, filing, filed, rulesetIn}
-use Rattle.rules.specs.Refusals.{Report, wrote, refused, reportOf}
 use Rattle.rules.specs.declared.Written.{Written}
 use Rattle.rules.specs.declared.Written.the-variants.{Bytes, Refused}
 use Rattle.transcript.specs.Answers.{refusedBody, refusalLine}

@@ -3,18 +3,17 @@
 --     words-end      it ends with the words said in turn, or at a reached letter of an unlisted word that no rule covers
 --     said-finished, uncovered-stops      and where they are said so, or a letter is so uncovered, it ends just there
 -- Assumes nothing.
-use Prim.Native.Nat.{ℕ, _+_, _≤_}
+use Prim.Native.Nat.{ℕ, _+_}
 use mathlib.Core.Path.{_≡_, refl, ap, ap₂, _∙_}
 use mathlib.Core.List.{List, [], _∷_, _++_}
 use native.Mathlib.Omega.{arith}
-use lib.ListN.{length}
 use Rattle.rules.specs.Shape.{Entry}
 use Rattle.reading.specs.Fitting.{Str}
 use Rattle.reading.specs.Reading.{Piece, listed, Reading, finished, uncovered, plain}
 use Rattle.reading.specs.Words.{Word, inName, phonesOr, readWord, followed, readWords}
 use Rattle.reading.specs.Meaning.{Uncovered, piecesOf, SaidWord, fromList, byRules, SaidWords, none, next, UncoveredIn, here, later}
 use Rattle.reading.proofs.Search.{Targets}
-use Rattle.reading.proofs.NameReading.{listed-word}
+use Rattle.reading.proofs.WordReading.{listed-word}
 use Rattle.reading.proofs.Meaning.{Ending, ended, stuck, plain-ends, reads-finished, is-uncovered}
 
 -- what a word, and what words come to, with the meaning of each

@@ -1,25 +1,25 @@
 // The plain reading of a name, word by word: at each reached letter the first rule in order that fits (document 01, "Letters, rules, fitting").
+pub mod choice;
 pub mod delivery;
 pub mod words;
 
+use choice::Fit;
 use delivery::Listed;
 use rules::Answer;
 use rules::Refusal;
 ghost use mathlib.Core.Path.{_≡_};
 ghost use mathlib.Core.Bool.{true};
 ghost use mathlib.Core.List.{[]};
-ghost use Prim.Native.Nat.{_+_, _-_, _<_, _≤_};
-ghost use lib.ListN.{length, take, drop};
-ghost use Rattle.rules.specs.Limits.{maxTarget};
+ghost use Prim.Native.Nat.{_-_, _≤_};
+ghost use lib.ListN.{length, take};
 ghost use Rattle.rules.specs.Names.{SoundName};
 ghost use Rattle.exceptions.specs.Layout.{wordsOf, phonesFor};
 ghost use Rattle.exceptions.specs.Judging.{isList, listingOf, noList, saysOf};
-ghost use Rattle.image.specs.Image.{countOf, entriesOf, entryAt, valid};
-ghost use Rattle.reading.specs.Fitting.{same, starts, ends, fits};
-ghost use Rattle.reading.specs.Reading.{passing, firstFit, plain};
+ghost use Rattle.image.specs.Image.{entriesOf, valid};
+ghost use Rattle.reading.specs.Reading.{firstFit, plain};
 ghost use Rattle.reading.specs.Words.{word, readWord, frameOf, wordAt, WordOf};
 ghost use Rattle.reading.specs.Speech.{toldOf, saying, answered, listedOr, delivered, plainWords, plainSaid};
-ghost use Rattle.reading.specs.Places.{FitAt, ReadBy, Unsaid, frameSize, partsAt, PartsSoFar, ReadOn};
+ghost use Rattle.reading.specs.Places.{ReadBy, Unsaid, frameSize, partsAt, PartsSoFar, ReadOn};
 
 // Symbols of the longest frame: a boundary before the name and one after it.
 pub const MAX_FRAME: usize = rules::MAX_NAME + 2;
@@ -38,111 +38,11 @@ pub enum Speech {
     Refused(Refusal),
 }
 
-// A rule that fits, by its place, and how many rules fit there.
-pub enum Fit {
-    Rule(usize, usize),
-    Nothing,
-}
-
 // How reading ended: how many rules were applied, the letter that none covers, or tables that are unusable.
 pub enum Reached {
     Rules(usize),
     Uncovered(usize),
     BadTables,
-}
-
-// Whether `b` has the symbols of `a` from `at` on.
-fn same_run(a: &[u8], b: &[u8], at: usize) -> bool
-    requires { ⌜ at + length (now a) ≤ length (now b) ⌝ }
-    ensures { λ r. ⌜ r ≡ same (now (a .entry)) (take (length (now (a .entry))) (drop at (now (b .entry)))) ⌝ }
-{
-    let mut i = 0;
-    while i < a.len() {
-        if a[i] != b[at + i] {
-            return false;
-        }
-        i += 1;
-    }
-    true
-}
-
-// Whether the frame starts, from `i` on, with a pattern.
-fn starts_at(pattern: &[u8], frame: &[u8], i: usize) -> bool
-    requires { ⌜ i ≤ length (now frame) ⌝ }
-    ensures { λ r. ⌜ r ≡ starts (now (pattern .entry)) (drop i (now (frame .entry))) ⌝ }
-{
-    if frame.len() - i < pattern.len() {
-        return false;
-    }
-    same_run(pattern, frame, i)
-}
-
-// Whether the frame before `i` ends with a pattern.
-fn ends_at(pattern: &[u8], frame: &[u8], i: usize) -> bool
-    requires { ⌜ i ≤ length (now frame) ⌝ }
-    ensures { λ r. ⌜ r ≡ ends (now (pattern .entry)) (take i (now (frame .entry))) ⌝ }
-{
-    if i < pattern.len() {
-        return false;
-    }
-    same_run(pattern, frame, i - pattern.len())
-}
-
-// Whether the rule at a place fits at `i`. The target is tested first: it decides soonest.
-pub fn fits_at(image: &[u8], place: usize, frame: &[u8], i: usize) -> bool
-    requires { ⌜ (valid (now image) ≡ true) × ((place < countOf (now image)) × (i ≤ length (now frame))) ⌝ }
-    ensures { λ r. ⌜ r ≡ fits (entryAt (now (image .entry)) place .rule) (now (frame .entry)) i ⌝ }
-{
-    let target = image::target_at(image, place);
-    if !starts_at(target, frame, i) {
-        return false;
-    }
-    let right = image::right_at(image, place);
-    if !starts_at(right, frame, i + target.len()) {
-        return false;
-    }
-    let left = image::left_at(image, place);
-    ends_at(left, frame, i)
-}
-
-// The length of the target of the rule at a place.
-pub fn target_len_at(image: &[u8], place: usize) -> usize
-    requires { ⌜ (valid (now image) ≡ true) × (place < countOf (now image)) ⌝ }
-    ensures { λ r. ⌜ (r ≡ length (entryAt (now (image .entry)) place .rule .target)) × ((1 ≤ r) × (r ≤ maxTarget)) ⌝ }
-{
-    let target = image::target_at(image, place);
-    target.len()
-}
-
-// How many of the rules from `from` on fit at `i`.
-fn count_fits(image: &[u8], count: usize, frame: &[u8], i: usize, from: usize) -> usize
-    requires { ⌜ (valid (now image) ≡ true) × ((count ≡ countOf (now image)) × ((i ≤ length (now frame)) × (from ≤ count))) ⌝ }
-    ensures { λ r. ⌜ r ≡ passing (λ e. fits (e .rule) (now (frame .entry)) i) (drop from (entriesOf (now (image .entry)))) ⌝ }
-{
-    let mut fitting = 0;
-    let mut p = from;
-    while p < count {
-        if fits_at(image, p, frame, i) {
-            fitting += 1;
-        }
-        p += 1;
-    }
-    fitting
-}
-
-// The first rule in order that fits at `i`, and how many do: none before it.
-fn first_fit(image: &[u8], count: usize, frame: &[u8], i: usize) -> Fit
-    requires { ⌜ (valid (now image) ≡ true) × ((count ≡ countOf (now image)) × (i ≤ length (now frame))) ⌝ }
-    ensures { λ r. ⌜ FitAt (now (image .entry)) (now (frame .entry)) i r ⌝ }
-{
-    let mut p = 0;
-    while p < count {
-        if fits_at(image, p, frame, i) {
-            return Fit::Rule(p, count_fits(image, count, frame, i, p));
-        }
-        p += 1;
-    }
-    Fit::Nothing
 }
 
 // The parts of the rules applied to a framed word, in order, from its first letter on.
@@ -155,13 +55,13 @@ fn read_letters(image: &[u8], frame: &[u8], parts: &mut [u32]) -> Reached
     let mut k = 0;
     let mut i = 1;
     while i <= n {
-        let fit = first_fit(image, count, frame, i);
+        let fit = choice::first_fit(image, count, frame, i);
         let Fit::Rule(place, fitting) = fit else {
             return Reached::Uncovered(i);
         };
         parts[k] = delivery::part_of(place, fitting);
         k += 1;
-        i += target_len_at(image, place);
+        i += choice::target_len_at(image, place);
     }
     Reached::Rules(k)
 }

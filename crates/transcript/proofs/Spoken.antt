@@ -21,7 +21,7 @@ use Rattle.reading.specs.Speech.{Outcome, speaks, declines, atOnce, judgedCall,
 use Rattle.reading.specs.declared.Speech.{Speech}
 use Rattle.reading.specs.declared.Speech.the-variants.{Spoken, Refused}
 use Rattle.reading.proofs.Call.{call-refused}
-use Rattle.reading.proofs.Written.{contested-most}
+use Rattle.reading.proofs.Counted.{contested-most}
 use Rattle.tables.specs.Words.{compiledFrom}
 use Rattle.tables.specs.Walk.{Walked, walkedAs, walkThrough, walkFor, walkSaid}
 use Rattle.transcript.specs.Answers.{spokenBody, refusedBody, printed, refusalLine, toldBody, walkedLine}

@@ -17,7 +17,7 @@ use Rattle.reading.specs.Words.{Word, word, wordsIn, unless, unlisted, frameOf,
 use Rattle.reading.specs.Places.{frameSize, FoundFor}
 use Rattle.reading.proofs.Strings.{frame-long}
 use Rattle.reading.proofs.NameWords.{words-begin, words-step, words-end, end-most, starts-first, starts-next, no-start, word-long, frame-length, frame-symbols}
-use Rattle.reading.proofs.NameReading.{part-long}
+use Rattle.reading.proofs.WordReading.{part-long}
 use Rattle.tables.specs.Walk.{walkUsable, allWords, sumWords}
 use Rattle.tables.proofs.Truth.{clash}
 use Rattle.tables.proofs.Steps.{walk-steps}

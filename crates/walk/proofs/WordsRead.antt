@@ -20,7 +20,8 @@ use Rattle.reading.specs.Places.{EndsBy, Placed, ReadBy, partsAt, frameSize, Re
 use Rattle.reading.specs.declared.Reached.{Reached}
 use Rattle.reading.specs.declared.Reached.the-variants.{Rules, Uncovered, BadTables}
 use Rattle.reading.proofs.NameWords.{end-most, starts-first, starts-next, word-long}
-use Rattle.reading.proofs.NameReading.{WordsRead, words-read-begin, words-read-next, words-read-stop, words-read-end, part-frame, part-long, listed-part, read-part}
+use Rattle.reading.proofs.NameReading.{WordsRead, words-read-begin, words-read-next, words-read-stop, words-read-end}
+use Rattle.reading.proofs.WordReading.{part-frame, part-long, listed-part, read-part}
 use Rattle.tables.specs.Words.{setSize}
 use Rattle.walk.specs.Letters.{choicesBy, Bounded, suffix, between, WordRead, Held, Tells, NameRead}
 

@@ -86,7 +86,7 @@ fn choose(
     if rules <= place {
         return Chosen::Unusable;
     }
-    if !reading::fits_at(image, place, frame, i) {
+    if !reading::choice::fits_at(image, place, frame, i) {
         return Chosen::Unusable;
     }
     Chosen::Rule(place, count_shared(sets, s, t))
@@ -129,7 +129,7 @@ pub fn read_letters(
         };
         parts[count] = reading::delivery::part_of(place, fitting);
         count += 1;
-        i += reading::target_len_at(image, place);
+        i += reading::choice::target_len_at(image, place);
     }
     Reached::Rules(count)
 }

@@ -8,7 +8,7 @@ use Rattle.reading.proofs.Plain.{plain-word}
 use Rattle.image.specs.Image.{entriesOf}
 use Rattle.reading.specs.Reading.{plain}
 use Rattle.reading.specs.Words.{wordAt}
-use Rattle.reading.proofs.NameReading.{part-frame, part-long, part-inside, part-bound, room, listed-part, read-part, ends-most}
+use Rattle.reading.proofs.WordReading.{part-frame, part-long, part-inside, part-bound, room, listed-part, read-part, ends-most}
 use native.Mathlib.Omega.{arith}
 use borrow.Author.Needs.{needs}
 use Rattle.reading.proofs.read_word.Statement.{statement}

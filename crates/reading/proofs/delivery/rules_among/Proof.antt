@@ -5,7 +5,7 @@ use mathlib.Core.Logic.{⊎-elim}
 use native.Mathlib.Omega.{arith}
 use borrow.Author.Needs.{needs}
 use lib.ListN.{length}
-use Rattle.reading.proofs.Written.{Tallied, tallied-begin, tallied-rule, tallied-other, tallied-end}
+use Rattle.reading.proofs.Counted.{Tallied, tallied-begin, tallied-rule, tallied-other, tallied-end}
 use Rattle.reading.proofs.delivery.rules_among.Statement.{statement}
 use Rattle.reading.proofs.delivery.rules_among.Tie as tie
 

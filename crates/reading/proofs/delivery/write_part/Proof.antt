@@ -9,7 +9,8 @@ use borrow.Author.Needs.{needs}
 use Rattle.image.proofs.Entries.{number-is-at}
 use Rattle.image.proofs.Tests.{valid-long}
 use Rattle.reading.specs.Places.{partAt}
-use Rattle.reading.proofs.Written.{contested-least, rule-phones, rule-numbers, rule-contested, listed-phones, listed-numbers, listed-contested, given-rule, given-listed}
+use Rattle.reading.proofs.Written.{rule-phones, rule-numbers, rule-contested, listed-phones, listed-numbers, listed-contested, given-rule, given-listed}
+use Rattle.reading.proofs.Counted.{contested-least}
 use Rattle.reading.proofs.delivery.write_part.Statement.{statement}
 use Rattle.reading.proofs.delivery.write_part.Tie as tie
 

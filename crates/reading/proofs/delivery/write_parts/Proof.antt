@@ -7,7 +7,8 @@ use lib.ListN.{length, getD}
 use borrow.Author.Needs.{needs}
 use Rattle.reading.specs.Places.{partAt}
 use Rattle.reading.specs.Speech.{phonesIn, phonesOf, numbersIn, numbersOf, contestedIn, contestedOf}
-use Rattle.reading.proofs.Written.{phones-gather, numbers-gather, Written, written-begin, written-next, written-length, written-room, written-count, written-end, contested-sum, contested-least, Counted, counted-begin, counted-next, counted-end}
+use Rattle.reading.proofs.Written.{phones-gather, numbers-gather, Written, written-begin, written-next, written-length, written-room, written-count, written-end}
+use Rattle.reading.proofs.Counted.{contested-sum, contested-least, Counted, counted-begin, counted-next, counted-end}
 use Rattle.reading.proofs.delivery.write_parts.Statement.{statement}
 use Rattle.reading.proofs.delivery.write_parts.Tie as tie
 

@@ -4,7 +4,7 @@ use Prim.Native.Nat.{_+_, _-_}
 use lib.ListN.{length}
 use borrow.Rule.Slice.PartMut.{mid-len}
 use Rattle.rules.proofs.Memory.{put-tail}
-use Rattle.reading.proofs.NameReading.{ends-most}
+use Rattle.reading.proofs.WordReading.{ends-most}
 use Rattle.walk.specs.Letters.{choicesBy, suffix, between}
 use Rattle.walk.proofs.WordsRead.{word-listed, word-letters, between-long}
 use native.Mathlib.Omega.{arith}

@@ -5,7 +5,8 @@ use Prim.Native.Nat.{_+_, _-_}
 use lib.ListN.{length}
 use borrow.Author.Needs.{needs}
 use Rattle.reading.proofs.NameWords.{frame-length}
-use Rattle.reading.proofs.NameReading.{part-inside, not-rules-by}
+use Rattle.reading.proofs.NameReading.{not-rules-by}
+use Rattle.reading.proofs.WordReading.{part-inside}
 use Rattle.walk.proofs.WordsRead.{NameGoing, name-begin, name-word, name-bounded, name-next, name-stop, name-end}
 use native.Mathlib.Omega.{arith}
 use Rattle.walk.proofs.letters.read_words.Statement.{statement}

@@ -5,7 +5,7 @@ use borrow.Rule.Slice.PartMut.{mid-len}
 use borrow.Author.Tests.{not-true, not-false}
 use Rattle.rules.proofs.Memory.{put-tail}
 use Rattle.reading.specs.Words.{wordAt}
-use Rattle.reading.proofs.NameReading.{part-frame, part-long, part-inside, part-bound}
+use Rattle.reading.proofs.WordReading.{part-frame, part-long, part-inside, part-bound}
 use Rattle.walk.proofs.WordsPassed.{word-listed, word-unfit, word-passes, part-symbols}
 use native.Mathlib.Omega.{arith}
 use borrow.Author.Needs.{needs}

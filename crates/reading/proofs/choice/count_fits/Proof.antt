@@ -1,4 +1,4 @@
--- `reading::count_fits` meets its contract: those counted and those from p on are all.
+-- `reading::choice::count_fits` meets its contract: those counted and those from p on are all.
 -- Assumes nothing.
 use Prim.Native.Nat.{_+_, _-_, _≤_}
 use mathlib.Core.Path.{_≡_, sym, _∙_}
@@ -6,8 +6,8 @@ use mathlib.Core.Logic.{⊎-elim}
 use native.Mathlib.Omega.{arith}
 use borrow.Author.Needs.{needs}
 use Rattle.reading.proofs.Search.{fitsFrom, count-next, count-end}
-use Rattle.reading.proofs.count_fits.Statement.{statement}
-use Rattle.reading.proofs.count_fits.Tie as tie
+use Rattle.reading.proofs.choice.count_fits.Statement.{statement}
+use Rattle.reading.proofs.choice.count_fits.Tie as tie
 
 abbrev Inv-loop : tie.InvT-loop
 Inv-loop image count frame i from fitting₀ p₀ fitting p = (p ≤ count) × (fitting ≤ p) × (fitting + fitsFrom image frame i p ≡ fitsFrom image frame i from)
