@@ -1,26 +1,21 @@
 -- What is counted of parts, one part at a time: their phones, their contested letters, and the rules among them.
 -- Assumes nothing.
-use Prim.Native.Nat.{ℕ, zero, suc, _+_, _-_, _*_, _≤_, _<_}
+use Prim.Native.Nat.{ℕ, zero, suc, _+_, _*_, _≤_, _<_}
 use mathlib.Core.Path.{_≡_, refl, sym, ap, ap₂, _∙_}
-use mathlib.Core.Bool.{true, false, cond}
-use mathlib.Core.List.{List, [], _∷_, _++_, map, append-assoc, append-nil, map-append}
+use mathlib.Core.Bool.{true, cond}
+use mathlib.Core.List.{List, [], _∷_, _++_, map, map-append}
 use native.Mathlib.Nat.{mul-suc}
 use native.Mathlib.Omega.{arith}
 use native.Mathlib.Numerals.{add-one}
-use borrow.Author.Tests.{le-leb, lt-leb, lt-ltb, le-ltb, ltb-true}
-use lib.Dec.{leb, ltb}
-use lib.ListN.{length, getD, take, drop, set, length-append, take-append-drop, drop-of-length-le}
-use lib.Seq.{take-suc, drop-cons, paste, paste-zero, set-split, append-snoc, take-all, take-length}
+use borrow.Author.Tests.{lt-ltb, le-ltb, ltb-true}
+use lib.Dec.{ltb}
+use lib.ListN.{length, getD, take, drop, length-append, drop-of-length-le}
+use lib.Seq.{take-suc, drop-cons, take-all}
 use Rattle.rules.specs.Limits.{maxRules, maxPhones}
-use Rattle.rules.specs.Memory.{over}
 use Rattle.rules.proofs.Cases.{byBool}
-use Rattle.rules.proofs.Memory.{over-length, over-paste}
-use Rattle.exceptions.specs.Layout.{wordsOf, phonesEnding}
-use Rattle.image.specs.Image.{entryAt}
 use Rattle.reading.specs.Reading.{Piece, applied, listed}
-use Rattle.reading.specs.Places.{placeIn, fittingIn, pieceAt, partAt, partsAt, rulesAmong, PartGiven, AllGiven}
-use Rattle.reading.specs.Speech.{speaks, phonesIn, phonesOf, numbersIn, numbersOf, contestedIn, contestedOf, spoken, refused, saying, delivered}
-use Rattle.reading.specs.declared.delivery.Given.{Given}
+use Rattle.reading.specs.Places.{placeIn, rulesAmong}
+use Rattle.reading.specs.Speech.{phonesIn, phonesOf, numbersIn, numbersOf, contestedIn, contestedOf}
 
 -- ---- what is counted of pieces: their phones, or their contested letters
 

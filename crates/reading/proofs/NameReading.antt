@@ -17,7 +17,7 @@ use Rattle.reading.specs.declared.Reached.the-variants.{Rules, Uncovered
 use Rattle.reading.proofs.Reached.{the-type}
 use Rattle.reading.proofs.Loop.{after-none}
 use Rattle.reading.proofs.Plain.{not-rules}
-use Rattle.reading.proofs.NameWords.{words-begin, words-step, words-end, end-most, starts-first, starts-next}
+use Rattle.reading.proofs.NameWords.{words-begin, words-step, words-past, end-most, starts-first, starts-next}
 
 -- ---- readings one after another
 
@@ -124,6 +124,6 @@ module _ (image list : List ℕ) (m : Str → Str) (read : Str → Reading) (nam
         few = omega (arith, s .so-far .few, s .near, sound .short);
         within = λ k q. let z : count ≡ k = cc in rw (sym z) (s .so-far .within);
       };
-      says = sym (s .whole ∙ (ap (λ (ws : List Word). after (partsAt image list (take count ps)) (readWords m read ws)) (words-end name b h) ∙ ap finished (append-nil _)) ∙ refl)
+      says = sym (s .whole ∙ (ap (λ (ws : List Word). after (partsAt image list (take count ps)) (readWords m read ws)) (words-past name b h) ∙ ap finished (append-nil _)) ∙ refl)
           ∙ sym (after-none whole-reading);
     }

@@ -141,9 +141,9 @@ pub words-begin : (name : Str) → wordsFrom name 0 ≡ wordsIn name
 unfolding wordsFrom wordsIn
 words-begin name = rw (le-leb 0 (length name) (omega arith))
 
-pub words-end : (name : Str) (b : ℕ) → length name < b → wordsFrom name b ≡ []
+pub words-past : (name : Str) (b : ℕ) → length name < b → wordsFrom name b ≡ []
 unfolding wordsFrom
-words-end name b h = rw (lt-leb b (length name) h)
+words-past name b h = rw (lt-leb b (length name) h)
 
 from-inside : (name : Str) (b : ℕ) → b ≤ length name → wordsFrom name b ≡ word b (wordAt name b) ∷ placed (endAt name b) (others (drop b name))
 unfolding wordsFrom
@@ -171,11 +171,11 @@ AllWords P [] = Unit {0}
 AllWords P (w ∷ ws) = P (w .letters) × AllWords P ws
 
 all-from : (P : Str → Type 0) (name : Str) → ((b : ℕ) → b ≤ length name → P (wordAt name b)) → (n b : ℕ) → length name < b + n → AllWords P (wordsFrom name b)
-all-from P name h zero b l = subst (AllWords P) (sym (words-end name b (omega arith))) tt
+all-from P name h zero b l = subst (AllWords P) (sym (words-past name b (omega arith))) tt
 all-from P name h (suc n) b l =
     byBool (leb b (length name))
     (λ q. let i = leb-true b (length name) q in subst (AllWords P) (sym (words-step name b i)) (h b i, all-from P name h n (endAt name b) (omega arith)))
-    (λ q. subst (AllWords P) (sym (words-end name b (leb-false b (length name) q))) tt)
+    (λ q. subst (AllWords P) (sym (words-past name b (leb-false b (length name) q))) tt)
 
 pub words-all : (P : Str → Type 0) (name : Str) → ((b : ℕ) → b ≤ length name → P (wordAt name b)) → AllWords P (wordsIn name)
 words-all P name h = subst (AllWords P) (words-begin name) (all-from P name h (suc (length name)) 0 (omega arith))

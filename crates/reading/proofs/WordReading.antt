@@ -2,14 +2,12 @@
 -- Assumes nothing.
 use Prim.Native.Nat.{ℕ, suc, _+_, _-_, _≤_, _<_}
 use mathlib.Core.Path.{_≡_, refl, sym, ap, ap₂, _∙_, subst}
-use mathlib.Core.List.{List, [], _∷_, _++_, append-assoc, append-nil, map-append}
+use mathlib.Core.List.{List, [], _∷_, _++_, map-append}
 use mathlib.Core.Bool.{Bool, true, cond}
 use native.Mathlib.Omega.{arith}
 use native.Mathlib.Numerals.{add-one}
 use borrow.Author.Tests.{lt-ltb, le-ltb, eqb-true, eqb-false}
 use native.Mathlib.Decide.{decLe}
-use mathlib.Core.Logic.{_⊎_, ⊎-elim}
-use denote.Enum.Declared.{tagOf}
 use lib.Dec.{eqb, ltb}
 use lib.ListN.{length, getD, take, drop, set, length-set, length-append, List·getD-append}
 use lib.Seq.{take-suc-set, take-append-add, getD-set-same, getD-set-other, getD-take, getD-append-add, length-take-le}
@@ -21,15 +19,13 @@ use Rattle.exceptions.specs.Judging.{saysOf, StateOf}
 use Rattle.image.specs.Image.{countOf, valid}
 use Rattle.image.proofs.Tests.{valid-count}
 use Rattle.reading.specs.Fitting.{Str, frame}
-use Rattle.reading.specs.Reading.{Piece, listed, Reading, finished, uncovered, badTables, after}
-use Rattle.reading.specs.Words.{Word, word, wordsIn, inName, phonesOr, readWord, followed, readWords, frameOf, wordAt, endAt, Starts, WordOf, wordsFrom}
-use Rattle.reading.specs.Places.{placeIn, piecesAt, pieceAt, Within, readingOf, EndsBy, Placed, partAt, partsAt, PartIn, PartsIn, frameSize, FoundFor, partsReading, PartsSoFar, ReadOn, endedIn}
+use Rattle.reading.specs.Reading.{Piece, listed, Reading, finished, after}
+use Rattle.reading.specs.Words.{Word, word, inName, phonesOr, readWord, frameOf, wordAt, WordOf}
+use Rattle.reading.specs.Places.{placeIn, piecesAt, pieceAt, Within, readingOf, EndsBy, Placed, partAt, partsAt, PartIn, PartsIn, frameSize, FoundFor, PartsSoFar, ReadOn, endedIn}
 use Rattle.reading.specs.declared.Reached.{Reached}
 use Rattle.reading.specs.declared.Reached.the-variants.{Rules, Uncovered, BadTables}
-use Rattle.reading.proofs.Reached.{the-type}
-use Rattle.reading.proofs.Loop.{after-none}
 use Rattle.reading.proofs.Plain.{not-rules, not-rules-16}
-use Rattle.reading.proofs.NameWords.{words-begin, words-step, words-end, end-most, starts-first, starts-next, word-long, word-frame, frame-length}
+use Rattle.reading.proofs.NameWords.{word-long, word-frame, frame-length}
 use Rattle.reading.proofs.FoundWord.{state-most}
 use Rattle.reading.proofs.Strings.{frame-long}
 

@@ -16,7 +16,7 @@ use Rattle.reading.specs.Fitting.{Str, frame}
 use Rattle.reading.specs.Words.{Word, word, wordsIn, unless, unlisted, frameOf, wordAt, endAt, Starts, WordOf, wordsFrom}
 use Rattle.reading.specs.Places.{frameSize, FoundFor}
 use Rattle.reading.proofs.Strings.{frame-long}
-use Rattle.reading.proofs.NameWords.{words-begin, words-step, words-end, end-most, starts-first, starts-next, no-start, word-long, frame-length, frame-symbols}
+use Rattle.reading.proofs.NameWords.{words-begin, words-step, words-past, end-most, starts-first, starts-next, no-start, word-long, frame-length, frame-symbols}
 use Rattle.reading.proofs.WordReading.{part-long}
 use Rattle.tables.specs.Walk.{walkUsable, allWords, sumWords}
 use Rattle.tables.proofs.Truth.{clash}
@@ -263,7 +263,7 @@ module _ (ws : List ℕ) (l r : ℕ) (fit : Bool) (list : List ℕ) (name : Str)
     pub passed-end : length name < b → AllPassed ws l r fit list name m (record { usable = true; steps = steps })
     passed-end h = record {
       sized = s .sized;
-      usable = sym (s .usable ∙ ap passing (words-end name b h));
-      steps = λ u. sym (s .steps-are ∙ (ap (λ (vs : List Word). steps + taken vs) (words-end name b h) ∙ add-zero steps));
+      usable = sym (s .usable ∙ ap passing (words-past name b h));
+      steps = λ u. sym (s .steps-are ∙ (ap (λ (vs : List Word). steps + taken vs) (words-past name b h) ∙ add-zero steps));
       known = λ u j v t. s .known j (omega arith) t;
     }
