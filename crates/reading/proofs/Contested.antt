@@ -1,13 +1,20 @@
--- More than one rule fits at a position exactly where it is contested: two rules, at different places, fit there (document 02, request 4).
+-- Contested letters (document 02, request 4): more than one rule fits at a position exactly where two rules, at different places, do, and those
+-- that are counted of what a reading applies are just these.
 -- Assumes nothing.
-use Prim.Native.Nat.{ℕ, zero, suc, _<_}
-use mathlib.Core.List.{List, [], _∷_}
+use Prim.Native.Nat.{ℕ, zero, suc, _+_, _<_}
+use mathlib.Core.Path.{_≡_, refl, sym, ap, _∙_, subst}
+use mathlib.Core.List.{List, [], _∷_, _++_, map-append}
 use native.Mathlib.Omega.{arith}
+use borrow.Author.Tests.{ltb-true, ltb-false}
+use lib.Dec.{ltb}
 use lib.ListN.{length, getD}
+use Rattle.rules.proofs.Cases.{byBool}
 use Rattle.rules.specs.Shape.{Entry}
 use Rattle.image.specs.State.{noEntry}
 use Rattle.reading.specs.Fitting.{Str, frame, FitsAt}
-use Rattle.reading.specs.Meaning.{Fitting, none, one, other, Contested}
+use Rattle.reading.specs.Reading.{Application, Piece, applied, past}
+use Rattle.reading.specs.Speech.{contestedIn, contestedOf}
+use Rattle.reading.specs.Meaning.{Fitting, none, one, other, Contested, Arrives, begins, goes, Contests, nowhere, there, elsewhere, piecesOf}
 
 module _ (w : Str) (i : ℕ) where
   -- the rule at some place fits
@@ -54,3 +61,24 @@ module _ (w : Str) (i : ℕ) where
 
   pub contested-several : (rules : List Entry) (n : ℕ) → Fitting (frame w) i rules n → Contested rules w i → 1 < n
   contested-several rules n c d = two-fit rules n c (d .first) (d .second) (d .ordered) (d .inside) (d .first-fits) (d .second-fits)
+
+-- ---- what is counted
+
+pub contested-append : (xs ys : List Piece) → contestedOf (xs ++ ys) ≡ contestedOf xs + contestedOf ys
+contested-append [] ys = omega arith
+contested-append (x ∷ xs) ys = omega (arith, contested-append xs ys)
+
+module _ (rules : List Entry) (w : Str) where
+  pub contests : {i : ℕ} {rs : List Application} (b : Arrives rules w i rs) → Contests rules w i rs b (contestedOf (piecesOf rs))
+  contests begins = nowhere
+  contests (goes {i} {rs} a b h p) =
+      byBool (ltb 1 (a .fitting))
+      (λ q.
+      subst (Contests rules w (past i a) (rs ++ (a ∷ [])) (goes a b h p)) (sym (all 1 (rw q refl)))
+      (there a h p (several-contested w i rules (a .fitting) (p .many) (ltb-true 1 (a .fitting) q)) (contests b)))
+      (λ q.
+      subst (Contests rules w (past i a) (rs ++ (a ∷ [])) (goes a b h p)) (sym (all 0 (rw q refl) ∙ omega arith))
+      (elsewhere a h p (λ d. let u = contested-several w i rules (a .fitting) (p .many) d in let v = ltb-false 1 (a .fitting) q in omega arith) (contests b)))
+    where
+      all : (k : ℕ) → contestedIn (applied a) ≡ k → contestedOf (piecesOf (rs ++ (a ∷ []))) ≡ contestedOf (piecesOf rs) + k
+      all k e = ap contestedOf (map-append applied rs (a ∷ [])) ∙ omega (arith, contested-append (piecesOf rs) (applied a ∷ []))
