@@ -96,9 +96,9 @@ module _ (image ss : List ℕ) (base : ℕ) (left right f : List ℕ) where
   abbrev choose : ℕ → Choice
   choose = choicesBy image ss base left right f
 
-  -- the loop has `places` and `count`, and stands at i
+  -- the loop has `parts` and `count`, and stands at i
   abbrev pub Gone : List ℕ → ℕ → ℕ → Type 0
-  Gone places count i = Going choose (length f - 2) (applyAt image) (countOf image) places count i
+  Gone parts count i = Going choose (length f - 2) (applyAt image) (countOf image) parts count i
 
 module _ (image ss : List ℕ) (base : ℕ) (left right f : List ℕ) (ok : valid image ≡ true) where
   abbrev made : ℕ → Choice
@@ -111,20 +111,20 @@ module _ (image ss : List ℕ) (base : ℕ) (left right f : List ℕ) (ok : vali
   unfolding choiceBy
   ahead i a e = lookup-past-target (λ q. fits (q .rule) f i) _ (entriesOf image) (valid-targets image ok) (lowestShared ss (setSize * getD left i 0) (base + setSize * getD right i 0)) i a e
 
-  pub begin : (places : List ℕ) → length f - 2 ≤ length places → Read places 0 1
+  pub begin : (parts : List ℕ) → length f - 2 ≤ length parts → Read parts 0 1
   begin = going-begin made (length f - 2) ahead (applyAt image) (countOf image)
 
-  module _ (places : List ℕ) (count i : ℕ) (g : Read places count i) where
+  module _ (parts : List ℕ) (count i : ℕ) (g : Read parts count i) where
     module _ (h : i ≤ length f - 2) where
       pub next : (p n : ℕ) → made i ≡ chosen (apply n (entryAt image p)) → p < countOf image → (x : ℕ) → x ≡ partOf p n → (l : ℕ) → l ≡ length (entryAt image p .rule .target) → 1 ≤ l → l ≤ maxTarget
-          → Read (set places count x) (count + 1) (i + l)
-      next p n e u x is = going-part made (length f - 2) ahead image ok places count i g h p n e u x is
+          → Read (set parts count x) (count + 1) (i + l)
+      next p n e u x is = going-part made (length f - 2) ahead image ok parts count i g h p n e u x is
 
       -- no rule is chosen
-      pub declines : (x : Chosen) → choiceOf image x ≡ made i → ((p n : ℕ) → x ≡ Rule p n → ⊥) → ReadBy image made (length f - 2) places (endingAt x i)
+      pub declines : (x : Chosen) → choiceOf image x ≡ made i → ((p n : ℕ) → x ≡ Rule p n → ⊥) → ReadBy image made (length f - 2) parts (endingAt x i)
       declines (Rule p n) e other = absurd (other p n refl)
-      declines Nothing e other = read-none image made (length f - 2) ahead places count i g h (sym e)
-      declines Unusable e other = read-unusable image made (length f - 2) ahead places count i g h (sym e)
+      declines Nothing e other = read-none image made (length f - 2) ahead parts count i g h (sym e)
+      declines Unusable e other = read-unusable image made (length f - 2) ahead parts count i g h (sym e)
 
-    pub done : length f - 2 < i → ReadBy image made (length f - 2) places (Rules count)
-    done = read-end image made (length f - 2) ahead places count i g
+    pub done : length f - 2 < i → ReadBy image made (length f - 2) parts (Rules count)
+    done = read-end image made (length f - 2) ahead parts count i g

@@ -35,7 +35,7 @@ pub word-letters : (image : List ℕ) (choose : ℕ → Choice) (n count b part 
 word-letters image choose n count b part ps ps₂ ps′ reached r z laid long by ended = record {
   sized = long;
   listed = λ u. absurd (omega arith);
-  read = λ u. record { places = ps₂; laid = laid; reached = reached; by = by; ended = ended };
+  read = λ u. record { parts = ps₂; laid = laid; reached = reached; by = by; ended = ended };
 }
 
 -- a part of the frame that lies in it
@@ -105,8 +105,8 @@ module _ (image ss : List ℕ) (base : ℕ) (name : Str) (found left right : Lis
             by-letters z =
                 let q = o .read z in
                 let so = s .whole list read t .so-far in
-                read-part image list ps count b so near-name w e is read ok (q .places) ps′ (q .laid) (o .sized) (q .reached)
-                (subst (λ (n : ℕ). Placed image n (q .places) (q .reached)) long (q .by .placed))
+                read-part image list ps count b so near-name w e is read ok (q .parts) ps′ (q .laid) (o .sized) (q .reached)
+                (subst (λ (n : ℕ). Placed image n (q .parts) (q .reached)) long (q .by .placed))
                 (t .parts b h (s .started h) .none z)
                 (q .by .says
                 ∙ (ap₂ (λ (x y : List ℕ). readFrom (choicesBy image ss base x y g) (length g - 2) (length g - 2) 1) (suffix-is b left) (suffix-is b right)

@@ -77,10 +77,10 @@ between b e l = take (e - b) (drop b l)
 
 -- the rules applied to the letters of a word that follows b bytes, laid after `count` parts
 pub record LettersRead (image : List ℕ) (choose : ℕ → Choice) (n count b : ℕ) (before after : List ℕ) (r : Reached) : Type 0 where
-  pub places : List ℕ
-  pub laid : after ≡ take count before ++ places
+  pub parts : List ℕ
+  pub laid : after ≡ take count before ++ parts
   pub reached : Reached
-  pub by : ReadBy image choose n places reached
+  pub by : ReadBy image choose n parts reached
   pub ended : r ≡ endedIn count b reached
 
 -- what reading one word gives: its part where the list gives one, else the rules applied

@@ -1,4 +1,4 @@
--- `reading::read_word` meets its contract: the part that the list gives, or the places of the rules applied to the letters.
+-- `reading::read_word` meets its contract: the part that the list gives, or those of the rules applied to the letters.
 -- Assumes nothing.
 use lib.ListN.{length}
 use Prim.Native.Nat.{_-_}
