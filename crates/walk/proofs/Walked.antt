@@ -1,8 +1,8 @@
--- The parts of a walk put together: both passes of a word, reading by the remembered states of all words, and the answer with its steps.
+-- The parts of a walk put together: reading by the remembered states of all words, and the answer with its steps.
 -- Assumes nothing.
 use Prim.Native.Nat.{ℕ, zero, suc, _+_, _*_, _≤_}
 use native.Mathlib.Omega.{arith}
-use mathlib.Core.Path.{_≡_, refl, sym, ap, ap₂, _∙_, subst}
+use mathlib.Core.Path.{_≡_, refl, sym, ap, ap₂, _∙_}
 use mathlib.Core.Bool.{Bool, true, false, cond, _&&_}
 use mathlib.Core.List.{List, [], _∷_, reverse}
 use mathlib.Core.Option.{Option}
@@ -25,45 +25,13 @@ use Rattle.reading.proofs.Loop.{after-none}
 use Rattle.tables.specs.Tables.{Table}
 use Rattle.tables.specs.Words.{headWords, setSize, rightRows, rightSets, neededWords, neededSets, tableAt, Compiled, leftOf, rightOf}
 use Rattle.tables.specs.Walk.{Step as State, step, pass, from, allBelow, lookup, lowest, howMany, places, leftAt, rightAt, walkUsable, walkChoice, walkSteps, walk, lengthsFit, allWords, sumWords, usable, stepsIn, walkWord, allUsable, stepsOver, walkThrough, walkedAs}
-use Rattle.tables.proofs.Truth.{clash}
 use Rattle.tables.proofs.SetWords.{choice-tables, shared-tables}
 use Rattle.tables.proofs.Theorem.{delivered-steps}
-use Rattle.walk.specs.Passes.{rowsAt, leftOn, rightOn, Passed, leftRowsOf, rightRowsOf, Both, Memory, passable, stepsOn, AllPassed}
+use Rattle.passes.specs.Passes.{rowsAt, Passed, leftRowsOf, rightRowsOf, Memory, passable, stepsOn, AllPassed}
 use Rattle.walk.specs.Letters.{lowestShared, countShared, choiceBy, choicesBy, Held, Tells, NameRead}
 use Rattle.walk.specs.Walked.{walkedOf, compiledWith, stepsWith, Fit, FitsAs}
-use Rattle.walk.specs.declared.passes.Pass.{Pass}
+use Rattle.passes.specs.declared.Pass.{Pass}
 use Rattle.walk.specs.declared.WalkAnswer.{WalkAnswer}
-
--- ---- both passes
-
-module _ (ws : List ℕ) (l r : ℕ) (f : List ℕ) (n : ℕ) (left right : List ℕ) (one : Pass) (a : Passed (leftOn (leftRowsOf ws l) f) l (suc n) (suc n) frameSize left one) where
-  -- the steps of the left pass
-  abbrev taken : ℕ
-  taken = leftOn (leftRowsOf ws l) f (suc n) .steps
-
-  pub both-bad : one .usable ≡ false → Both ws l r f n left right one
-  both-bad u =
-      record {
-        usable = u ∙ sym (ap (λ (b : Bool). b && allBelow (λ i. ltb (rightOn (rightRowsOf ws l r) taken f i .state) r) (suc n)) (sym (a .usable) ∙ u));
-        lefts = λ y. clash y u;
-        rights = λ y. clash y u;
-        left-small = λ y. clash y u;
-        right-small = λ y. clash y u;
-        looked = λ y. clash y u;
-      }
-
-  pub both-good : one .usable ≡ true → (two : Pass) → Passed (rightOn (rightRowsOf ws l r) (one .steps) f) r (suc n) 1 (one .steps + frameSize) right two → Both ws l r f n left right two
-  both-good e two b′ =
-      let b : Passed (rightOn (rightRowsOf ws l r) taken f) r (suc n) 1 (taken + frameSize) right two =
-      subst (λ (k : ℕ). Passed (rightOn (rightRowsOf ws l r) k f) r (suc n) 1 (k + frameSize) right two) (a .looked e) b′ in
-      record {
-        usable = b .usable ∙ sym (ap (λ (t : Bool). t && allBelow (λ i. ltb (rightOn (rightRowsOf ws l r) taken f i .state) r) (suc n)) (sym (a .usable) ∙ e));
-        lefts = λ q. a .all e;
-        rights = λ q. b .all q;
-        left-small = λ q. a .small e;
-        right-small = λ q. b .small q;
-        looked = λ q. b .looked q;
-      }
 
 -- ---- the answer
 

@@ -1,7 +1,6 @@
 // The walk of a name through lent tables (document 01, "The walk", and refusal 16): the covered part that the compiled ruleset is taken
 // apart for.
 mod letters;
-mod passes;
 
 use reading::Reached;
 use reading::Speech;

@@ -13,8 +13,8 @@ use Rattle.reading.specs.Places.{frameSize, FoundFor}
 use Rattle.tables.specs.Tables.{Table}
 use Rattle.tables.specs.Words.{headWords, rowSize, rightRows, neededWords, tableAt}
 use Rattle.tables.specs.Walk.{Step as State, from, pass, allBelow, leftAt, rightAt, walkUsable, walkSteps, allWords, sumWords}
-use Rattle.walk.specs.declared.passes.Step.{Step}
-use Rattle.walk.specs.declared.passes.Pass.{Pass}
+use Rattle.passes.specs.declared.Step.{Step}
+use Rattle.passes.specs.declared.Pass.{Pass}
 
 -- one entry is looked up: the next state, and the count raised by one
 pub record Stepped (words : List ℕ) (rows : ℕ) (s : Step) (c : ℕ) (r : Step) : Type 0 where

@@ -1,14 +1,14 @@
--- `walk::passes::right_pass` meets its contract, by the loop invariant `Passing`: the states of the positions from i on are remembered.
+-- `passes::right_pass` meets its contract, by the loop invariant `Passing`: the states of the positions from i on are remembered.
 -- Assumes nothing.
 use Prim.Native.Nat.{_+_, _-_, _≤_, _<_}
 use mathlib.Core.Path.{_≡_, refl}
 use native.Mathlib.Omega.{arith}
 use lib.ListN.{length}
-use Rattle.walk.specs.Passes.{rowsAt, rightOn}
-use Rattle.walk.proofs.Passing.{Passing, go-on, stop, finished, right-start, right-state, right-steps}
+use Rattle.passes.specs.Passes.{rowsAt, rightOn}
+use Rattle.passes.proofs.Passing.{Passing, go-on, stop, finished, right-start, right-state, right-steps}
 use Rattle.reading.specs.Places.{frameSize}
-use Rattle.walk.proofs.passes.right_pass.Statement.{statement}
-use Rattle.walk.proofs.passes.right_pass.Tie as tie
+use Rattle.passes.proofs.right_pass.Statement.{statement}
+use Rattle.passes.proofs.right_pass.Tie as tie
 
 abbrev Inv-loop : tie.InvT-loop
 Inv-loop words rows count frame steps states₀ at₀ i₀ states at i = (0 < i) × (i ≤ length frame) × (at .steps + i ≡ steps + length frame) × Passing (rightOn (rowsAt words rows count) steps frame) count i (length frame - 1) (length states₀) states at i

@@ -1,4 +1,4 @@
--- `walk::passes::run_word` meets its contract: what the list gives for the word, or its passes over its part of the frame.
+-- `passes::run_word` meets its contract: what the list gives for the word, or its passes over its part of the frame.
 -- Assumes nothing.
 use lib.ListN.{length}
 use borrow.Rule.Slice.PartMut.{mid-len}
@@ -6,11 +6,11 @@ use borrow.Author.Tests.{not-true, not-false}
 use Rattle.rules.proofs.Memory.{put-tail}
 use Rattle.reading.specs.Words.{wordAt}
 use Rattle.reading.proofs.WordReading.{part-frame, part-long, part-inside, part-bound}
-use Rattle.walk.proofs.WordsPassed.{word-listed, word-unfit, word-passes, part-symbols}
+use Rattle.passes.proofs.WordsPassed.{word-listed, word-unfit, word-passes, part-symbols}
 use native.Mathlib.Omega.{arith}
 use borrow.Author.Needs.{needs}
-use Rattle.walk.proofs.passes.run_word.Statement.{statement}
-use Rattle.walk.proofs.passes.run_word.Tie as tie
+use Rattle.passes.proofs.run_word.Statement.{statement}
+use Rattle.passes.proofs.run_word.Tie as tie
 
 find-word-requires : tie.Need-find-word-requires
 find-word-requires c κs = (c .before .before .before .before .before .before .before .pre .1, c .before .before .before .before .before .before .before .pre .3 .inside, c .before .before .before .before .before .before .before .pre .3 .ends)

@@ -1,14 +1,14 @@
--- `walk::passes::left_pass` meets its contract, by the loop invariant `Passing`: the states of positions 1 to i are remembered.
+-- `passes::left_pass` meets its contract, by the loop invariant `Passing`: the states of positions 1 to i are remembered.
 -- Assumes nothing.
 use Prim.Native.Nat.{_+_, _-_, _≤_, _<_}
 use mathlib.Core.Path.{_≡_, refl}
 use native.Mathlib.Omega.{arith}
 use lib.ListN.{length}
-use Rattle.walk.specs.Passes.{rowsAt, leftOn}
-use Rattle.walk.proofs.Passing.{Passing, go-on, stop, finished, left-begin, left-state, left-steps}
+use Rattle.passes.specs.Passes.{rowsAt, leftOn}
+use Rattle.passes.proofs.Passing.{Passing, go-on, stop, finished, left-begin, left-state, left-steps}
 use Rattle.reading.specs.Places.{frameSize}
-use Rattle.walk.proofs.passes.left_pass.Statement.{statement}
-use Rattle.walk.proofs.passes.left_pass.Tie as tie
+use Rattle.passes.proofs.left_pass.Statement.{statement}
+use Rattle.passes.proofs.left_pass.Tie as tie
 
 abbrev Inv-loop : tie.InvT-loop
 Inv-loop words rows count frame states₀ at₀ end i₀ states at i = (i ≤ end) × (at .steps ≡ i) × Passing (leftOn (rowsAt words rows count) frame) count 1 i (length states₀) states at i

@@ -22,8 +22,8 @@ use Rattle.tables.specs.Walk.{walkUsable, allWords, sumWords}
 use Rattle.tables.proofs.Truth.{clash}
 use Rattle.tables.proofs.Steps.{walk-steps}
 use Rattle.tables.specs.Words.{rowSize}
-use Rattle.walk.specs.Passes.{Symbols, leftRowsOf, rightRowsOf, Both, Memory, memory, Sized, passable, stepsOn, KeptTo, WordPassed, Known, AllPassed}
-use Rattle.walk.specs.declared.passes.Pass.{Pass}
+use Rattle.passes.specs.Passes.{Symbols, leftRowsOf, rightRowsOf, Both, Memory, memory, Sized, passable, stepsOn, KeptTo, WordPassed, Known, AllPassed}
+use Rattle.passes.specs.declared.Pass.{Pass}
 
 -- ---- one word
 

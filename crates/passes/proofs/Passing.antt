@@ -16,9 +16,9 @@ use Rattle.tables.specs.Tables.{Table}
 use Rattle.tables.specs.Words.{rowSize}
 use Rattle.tables.specs.Walk.{Step as State, step, pass, from, allBelow}
 use Rattle.tables.proofs.Walk.{pass-append}
-use Rattle.walk.specs.Passes.{Stepped, rowsAt, leftOn, rightOn, Passed}
-use Rattle.walk.specs.declared.passes.Step.{Step}
-use Rattle.walk.specs.declared.passes.Pass.{Pass}
+use Rattle.passes.specs.Passes.{Stepped, rowsAt, leftOn, rightOn, Passed}
+use Rattle.passes.specs.declared.Step.{Step}
+use Rattle.passes.specs.declared.Pass.{Pass}
 
 -- ---- a test at every position from 1 to n
 

@@ -6,7 +6,7 @@ ghost use lib.ListN.{length};
 ghost use Rattle.reading.specs.Words.{frameOf, wordAt, WordOf};
 ghost use Rattle.reading.specs.Places.{Unsaid, frameSize};
 ghost use Rattle.tables.specs.Words.{rowSize, neededWords};
-ghost use Rattle.walk.specs.Passes.{Stepped, Symbols, rowsAt, leftOn, rightOn, Passed, Both, Rows, memory, Sized, WordPassed, AllPassed};
+ghost use Rattle.passes.specs.Passes.{Stepped, Symbols, rowsAt, leftOn, rightOn, Passed, Both, Rows, memory, Sized, WordPassed, AllPassed};
 
 // A state, and how many entries have been looked up.
 pub struct Step {

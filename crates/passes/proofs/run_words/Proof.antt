@@ -1,15 +1,15 @@
--- `walk::passes::run_words` meets its contract: one word more at each turn.
+-- `passes::run_words` meets its contract: one word more at each turn.
 -- Assumes nothing.
 use mathlib.Core.Path.{sym, _∙_}
 use Prim.Native.Nat.{_+_, _-_}
 use lib.ListN.{length}
 use borrow.Author.Tests.{not-true, not-false}
 use borrow.Author.Needs.{needs}
-use Rattle.walk.specs.Passes.{memory}
-use Rattle.walk.proofs.WordsPassed.{PassedTo, passed-begin, passed-word, passed-next, passed-bad, passed-end, pass-small}
+use Rattle.passes.specs.Passes.{memory}
+use Rattle.passes.proofs.WordsPassed.{PassedTo, passed-begin, passed-word, passed-next, passed-bad, passed-end, pass-small}
 use native.Mathlib.Omega.{arith}
-use Rattle.walk.proofs.passes.run_words.Statement.{statement}
-use Rattle.walk.proofs.passes.run_words.Tie as tie
+use Rattle.passes.proofs.run_words.Statement.{statement}
+use Rattle.passes.proofs.run_words.Tie as tie
 
 abbrev Inv-loop : tie.InvT-loop
 Inv-loop words left-states right-states fit list name frame found₀ left₀ right₀ steps₀ from₀ found left right steps from = PassedTo words left-states right-states fit list name (memory found left right) steps from

@@ -1,4 +1,4 @@
--- `walk::passes::run_passes` meets its contract, from those of the two passes.
+-- `passes::run_passes` meets its contract, from those of the two passes.
 -- Assumes nothing.
 use Prim.Native.Nat.{ℕ, suc, _+_, _-_, _≤_}
 use mathlib.Core.Path.{_≡_, subst}
@@ -6,12 +6,12 @@ use borrow.Author.Needs.{needs}
 use borrow.Author.Tests.{not-true, not-false}
 use native.Mathlib.Omega.{arith}
 use lib.ListN.{length}
-use Rattle.walk.specs.Passes.{rowsAt, leftOn, rightOn, Passed}
-use Rattle.walk.proofs.Walked.{both-bad, both-good}
+use Rattle.passes.specs.Passes.{rowsAt, leftOn, rightOn, Passed}
+use Rattle.passes.proofs.Both.{both-bad, both-good}
 use Rattle.tables.specs.Words.{headWords, rightRows}
 use Rattle.reading.specs.Places.{frameSize}
-use Rattle.walk.proofs.passes.run_passes.Statement.{statement}
-use Rattle.walk.proofs.passes.run_passes.Tie as tie
+use Rattle.passes.proofs.run_passes.Statement.{statement}
+use Rattle.passes.proofs.run_passes.Tie as tie
 
 shorter : (k : ℕ) → 2 ≤ k → k - 1 ≡ suc (k - 2)
 shorter k h = omega arith

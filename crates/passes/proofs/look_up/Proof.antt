@@ -1,11 +1,11 @@
--- `walk::passes::look_up` meets its contract: the state is the word at the row's entry, and the count is one more.
+-- `passes::look_up` meets its contract: the state is the word at the row's entry, and the count is one more.
 -- Assumes nothing.
 use mathlib.Core.Path.{refl, ap}
 use Prim.Native.Nat.{ℕ, _+_, _*_}
 use lib.ListN.{getD}
 use borrow.Author.Needs.{needs}
-use Rattle.walk.proofs.passes.look_up.Statement.{statement}
-use Rattle.walk.proofs.passes.look_up.Tie as tie
+use Rattle.passes.proofs.look_up.Statement.{statement}
+use Rattle.passes.proofs.look_up.Tie as tie
 
 wide16-requires : tie.Need-wide16-requires
 wide16-requires c κs = search needs
