@@ -82,6 +82,7 @@ returns c =
     let f = partAt (st .args .image .now) (st .args .list .now) in (
       record {
         phones = written-count phonesOf phonesIn phones-gather f (st .args .parts .now) (st .args .phones .now) (l .phones) (l .k) (l .given .phones) (l .inv .0) (omega arith);
+        numbers = written-count numbersOf numbersIn numbers-gather f (st .args .parts .now) (st .args .numbers .now) (l .numbers) (l .k) (l .given .numbers) (l .inv .1) (omega arith);
         contested = counted-end contestedOf contestedIn contested-sum 1 f (st .args .parts .now) (l .k) (l .given .contested) (l .inv .2) (omega arith);
       },
       (
