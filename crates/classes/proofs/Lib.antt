@@ -1,0 +1,13 @@
+pub mod Grid
+pub mod Counts
+pub mod Ordinal
+pub mod Setting
+pub mod Alone
+pub mod Letters
+pub mod Standing
+pub mod Shapes
+pub mod Bytes
+pub mod Members
+pub mod Scan
+pub mod Store
+pub mod Example
