@@ -8,7 +8,7 @@ use lib.ListN.{length, getD, take, drop, length-drop, take-append-drop}
 use lib.Seq.{paste, take-paste, drop-paste, take-at, drop-at, take-take, take-add, drop-drop, take-append-le, take-append-add, drop-append-add, length-take-le, getD-drop}
 use Rattle.rules.specs.Limits.{maxRules}
 use Rattle.rules.specs.declared.Numbered.{Numbered}
-use Rattle.image.specs.State.{Ledger, noNumbered, insertAt, removeAt, relocated}
+use Rattle.image.specs.State.{Ledger, relist, noNumbered, insertAt, removeAt, relocated}
 use Rattle.image.specs.Image.{headSize, slotSize, imageSize, slotOf, bytesOf, slotStart, listed, flat, headOf, ledgerOf, laid, withHead, withRule, rulesIn, numberedAt, countOf, lastOf}
 use Rattle.image.proofs.Scan.{length-listed, slot-get}
 
@@ -272,16 +272,16 @@ module _ (d : List ℕ) (small : Small d) (fits : imageSize ≤ length d) (count
 
   -- the state that stands in the memory afterwards, by its list from the first `count` slots
   laid-as : (change : List Numbered → List Numbered) (last : ℕ) (f z : List ℕ) (n : ℕ) → length (change (rulesIn count d)) ≡ n → z ≡ withHead n last f
-      → drop headSize f ≡ flat (change (rulesIn count d)) ++ drop (slotStart n) d → z ≡ laid (record { list = change (ledgerOf d .list); last = last }) d
+      → drop headSize f ≡ flat (change (rulesIn count d)) ++ drop (slotStart n) d → z ≡ laid (relist (ledgerOf d) (change (ledgerOf d .list)) last) d
   laid-as change last f z n long hz u =
-      laid-by (record { list = change (rulesIn count d); last = last }) d f z n last long refl hz u
-      ∙ ap (λ (l : List Numbered). laid (record { list = change l; last = last }) d) same-list
+      laid-by (relist (ledgerOf d) (change (rulesIn count d)) last) d f z n last long refl hz u
+      ∙ ap (λ (l : List Numbered). laid (relist (ledgerOf d) (change l) last) d) same-list
 
   pub insert-laid : (x : Numbered) (last p : ℕ) (e f z : List ℕ) → p ≤ count → count < maxRules
       → e ≡ paste d (slotStart p + slotSize) (drop (slotStart p) d) (slotSize * (count - p))
       → f ≡ withRule p x e
       → z ≡ withHead (count + 1) last f
-      → z ≡ laid (record { list = insertAt p x (ledgerOf d .list); last = last }) d
+      → z ≡ laid (relist (ledgerOf d) (insertAt p x (ledgerOf d .list)) last) d
   insert-laid x last p e f z hp hn he hf hz =
       let k : p + (count - p) ≡ count = omega arith in
       let s : slotStart (suc (p + (count - p))) ≡ slotStart (count + 1) = omega arith in
@@ -294,15 +294,15 @@ module _ (d : List ℕ) (small : Small d) (fits : imageSize ≤ length d) (count
       ∙ ap (λ (t : List ℕ). t ++ drop (slotStart (count + 1)) d) (sym (insert-body d small count (omega arith) p (count - p) x k)))))
 
   module _ (last : ℕ) (l : last ≡ lastOf d) (le : count ≤ maxRules) (k : ℕ) (hk : k < count) where
-    same-last : (list : List Numbered) → laid (record { list = list; last = last }) d ≡ laid (record { list = list; last = lastOf d }) d
-    same-last list = ap (λ (n : ℕ). laid (record { list = list; last = n }) d) l
+    same-last : (list : List Numbered) → laid (relist (ledgerOf d) list last) d ≡ laid (relist (ledgerOf d) list (lastOf d)) d
+    same-last list = ap (λ (n : ℕ). laid (relist (ledgerOf d) list n) d) l
 
     removed-long : length (removeAt k (rulesIn count d)) ≡ count - 1
     removed-long = length-removeAt k (rulesIn count d) (omega (arith, length-listed count (drop 4 d))) ∙ ap (λ (i : ℕ). i - 1) (length-listed count (drop 4 d))
 
     pub remove-laid : (e z : List ℕ) → e ≡ paste d (slotStart k) (drop (slotStart k + slotSize) d) (slotSize * (count - 1 - k))
         → z ≡ withHead (count - 1) last e
-        → z ≡ laid (record { list = removeAt k (ledgerOf d .list); last = lastOf d }) d
+        → z ≡ laid (relist (ledgerOf d) (removeAt k (ledgerOf d .list)) (lastOf d)) d
     remove-laid e z he hz =
         let s : slotStart (k + (count - 1 - k)) ≡ slotStart (count - 1) = omega arith in
         let j : suc k + (count - 1 - k) ≡ count = omega arith in
@@ -315,7 +315,7 @@ module _ (d : List ℕ) (small : Small d) (fits : imageSize ≤ length d) (count
 
     module _ (p : ℕ) (hp : p < count) (x : Numbered) (is : x ≡ numberedAt d k) (f z : List ℕ) (hz : z ≡ withHead count last f) where
       move-by : drop headSize f ≡ flat (insertAt p x (removeAt k (rulesIn count d))) ++ drop (slotStart count) d
-          → z ≡ laid (record { list = relocated k p (ledgerOf d .list); last = lastOf d }) d
+          → z ≡ laid (relist (ledgerOf d) (relocated k p (ledgerOf d .list)) (lastOf d)) d
       move-by u =
           let y : x ≡ getD (rulesIn count d) k noNumbered = is ∙ sym (slot-get d count k hk) in
           laid-as (relocated k p) last f z count
@@ -325,7 +325,7 @@ module _ (d : List ℕ) (small : Small d) (fits : imageSize ≤ length d) (count
 
       pub up-laid : (e : List ℕ) → k < p → e ≡ paste d (slotStart k) (drop (slotStart k + slotSize) d) (slotSize * (p - k))
           → f ≡ withRule p x e
-          → z ≡ laid (record { list = relocated k p (ledgerOf d .list); last = lastOf d }) d
+          → z ≡ laid (relist (ledgerOf d) (relocated k p (ledgerOf d .list)) (lastOf d)) d
       up-laid e lt he hf =
           let w : k + (p - k) ≡ p = omega arith in
           move-by
@@ -336,7 +336,7 @@ module _ (d : List ℕ) (small : Small d) (fits : imageSize ≤ length d) (count
 
       pub down-laid : (e : List ℕ) → p ≤ k → e ≡ paste d (slotStart p + slotSize) (drop (slotStart p) d) (slotSize * (k - p))
           → f ≡ withRule p x e
-          → z ≡ laid (record { list = relocated k p (ledgerOf d .list); last = lastOf d }) d
+          → z ≡ laid (relist (ledgerOf d) (relocated k p (ledgerOf d .list)) (lastOf d)) d
       down-laid e ge he hf =
           let w : p + (k - p) ≡ k = omega arith in
           move-by

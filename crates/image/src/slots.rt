@@ -7,7 +7,7 @@ ghost use Prim.Native.Nat.{ℕ, _+_, _-_, _*_, _<_, _≤_};
 ghost use lib.ListN.{length, drop};
 ghost use lib.Seq.{paste};
 ghost use Rattle.rules.specs.Limits.{maxRules};
-ghost use Rattle.image.specs.State.{insertAt, removeAt, relocated};
+ghost use Rattle.image.specs.State.{relist, insertAt, removeAt, relocated};
 ghost use Rattle.image.specs.Image.{imageSize, countOf, lastOf, ledgerOf, laid};
 
 // `n` bytes from `src` on are copied to `dst`, which lies before it.
@@ -37,7 +37,7 @@ fn copy_up(s: &mut [u8], src: usize, dst: usize, n: usize)
 // A rule more, before place `p`; `last` is the last number issued afterwards.
 pub fn insert(image: &mut [u8], p: usize, x: Numbered, last: u16)
     requires { ⌜ (imageSize ≤ length (now image)) × ((p ≤ countOf (now image)) × (countOf (now image) < maxRules)) ⌝ }
-    ensures { λ _. ⌜ now (image .exit) ≡ laid (record { list = insertAt p x (ledgerOf (now (image .entry)) .list); last = last }) (now (image .entry)) ⌝ }
+    ensures { λ _. ⌜ now (image .exit) ≡ laid (relist (ledgerOf (now (image .entry))) (insertAt p x (ledgerOf (now (image .entry)) .list)) last) (now (image .entry)) ⌝ }
 {
     let count = crate::rule_count(image);
     let at = HEAD + SLOT * p;
@@ -49,7 +49,7 @@ pub fn insert(image: &mut [u8], p: usize, x: Numbered, last: u16)
 // The rule at place `k` leaves.
 pub fn remove(image: &mut [u8], k: usize)
     requires { ⌜ (imageSize ≤ length (now image)) × ((k < countOf (now image)) × (countOf (now image) ≤ maxRules)) ⌝ }
-    ensures { λ _. ⌜ now (image .exit) ≡ laid (record { list = removeAt k (ledgerOf (now (image .entry)) .list); last = lastOf (now (image .entry)) }) (now (image .entry)) ⌝ }
+    ensures { λ _. ⌜ now (image .exit) ≡ laid (relist (ledgerOf (now (image .entry))) (removeAt k (ledgerOf (now (image .entry)) .list)) (lastOf (now (image .entry)))) (now (image .entry)) ⌝ }
 {
     let count = crate::rule_count(image);
     let last = crate::last_issued(image);
@@ -61,7 +61,7 @@ pub fn remove(image: &mut [u8], k: usize)
 // The rule at place `k` is put before place `p` of the rest.
 pub fn relocate(image: &mut [u8], k: usize, p: usize)
     requires { ⌜ (imageSize ≤ length (now image)) × ((k < countOf (now image)) × ((p < countOf (now image)) × (countOf (now image) ≤ maxRules))) ⌝ }
-    ensures { λ _. ⌜ now (image .exit) ≡ laid (record { list = relocated k p (ledgerOf (now (image .entry)) .list); last = lastOf (now (image .entry)) }) (now (image .entry)) ⌝ }
+    ensures { λ _. ⌜ now (image .exit) ≡ laid (relist (ledgerOf (now (image .entry))) (relocated k p (ledgerOf (now (image .entry)) .list)) (lastOf (now (image .entry)))) (now (image .entry)) ⌝ }
 {
     let count = crate::rule_count(image);
     let last = crate::last_issued(image);
