@@ -11,7 +11,7 @@ use lib.ListN.{length}
 use Rattle.rules.specs.Memory.{over}
 use Rattle.rules.specs.Names.{SoundName}
 use Rattle.exceptions.specs.Judging.{Listing}
-use Rattle.image.specs.Image.{valid, entriesOf}
+use Rattle.image.specs.Image.{valid, entriesOf, classesOf}
 use Rattle.reading.specs.Fitting.{Str}
 use Rattle.reading.specs.Reading.{listed}
 use Rattle.reading.specs.Speech.{Outcome, speaks, answered, ListedAs, spoken, refused, Said as Told, saying, delivered, plainWords, plainSaid}
@@ -30,5 +30,5 @@ pub listed-said : (image : List ℕ) (l : Listing) (name p : Str) (phones number
     → plainSaid image l name phones numbers ≡ sayingListed p phones numbers
 unfolding plainSaid
 listed-said image l name p phones numbers ok s u =
-    ap (λ (o : Outcome). delivered o phones numbers) (call-listed image name (λ m. answered (plainWords (entriesOf image) name m) 0) ok l p s u)
+    ap (λ (o : Outcome). delivered o phones numbers) (call-listed image name (λ m. answered (plainWords (classesOf image) (entriesOf image) name m) 0) ok l p s u)
     ∙ listed-delivered p phones numbers

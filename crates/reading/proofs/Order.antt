@@ -1,4 +1,5 @@
--- A name with no contested letter does not lean on the order of the rules (document 02, request 4): the same rules in any order say the same of it.
+-- A name with no contested letter does not lean on the order of the rules (document 02, request 4): the same rules, with the same classes, say the
+-- same of it in any order.
 --     passing-order      as many rules fit
 --     plain-order      of a word
 --     said-order      of the answer that a call gives, with all lent memory
@@ -17,8 +18,9 @@ use Rattle.rules.specs.Names.{judgedName}
 use Rattle.rules.specs.Refusals.{Reply, accepted, declined}
 use Rattle.rules.specs.Shape.{Entry}
 use Rattle.exceptions.specs.Judging.{Listing}
-use Rattle.image.specs.Image.{valid, entriesOf}
-use Rattle.reading.specs.Fitting.{Str, frame, fits}
+use Rattle.classes.specs.Classes.{Classes}
+use Rattle.image.specs.Image.{valid, entriesOf, classesOf}
+use Rattle.reading.specs.Fitting.{Str, frame, fitsBy}
 use Rattle.reading.specs.Reading.{Application, Choice, chosen, nothing, unusable, Piece, applied, Reading, finished, uncovered, badTables, cons, past, onward, readFrom, passing, firstRule, firstFit, plain}
 use Rattle.reading.specs.Words.{Word, wordsIn, inName, phonesOr, readWord, followed, readWords}
 use Rattle.reading.specs.Speech.{Outcome, speaks, answered, judgedBy, saidFrom, Following, judgedFor, phonesOf, numbersOf, contestedIn, contestedOf, spoken, refused, delivered, plainWords, plainSaid}
@@ -74,35 +76,35 @@ begun x badTables xs e = absurd (not-bad e)
 few : (a : Application) → contestedIn (applied a) ≡ 0 → a .fitting ≤ 1
 few a e = byBool (ltb 1 (a .fitting)) (λ q. let z : contestedIn (applied a) ≡ 1 = rw q refl in absurd (omega arith)) (λ q. ltb-false 1 (a .fitting) q)
 
-module _ {l m : List Entry} (d : Reordered l m) (f : Str) (n : ℕ) where
+module _ (c : Classes) {l m : List Entry} (d : Reordered l m) (f : Str) (n : ℕ) where
   abbrev test : ℕ → Entry → Bool
-  test i r = fits (r .rule) f i
+  test i r = fitsBy c (r .rule) f i
 
-  choice-order : (i : ℕ) (a : Application) → firstFit l f i ≡ chosen a → a .fitting ≤ 1 → firstFit m f i ≡ chosen a
+  choice-order : (i : ℕ) (a : Application) → firstFit c l f i ≡ chosen a → a .fitting ≤ 1 → firstFit c m f i ≡ chosen a
   choice-order i a e h =
       let k = first-tells (test i) (passing (test i) l) l a e in
       ap (λ (x : ℕ). firstRule (test i) x m) (sym (passing-order (test i) d))
       ∙ (sym (first-order (test i) (passing (test i) l) d (omega arith)) ∙ e)
 
-  read-order : (k i : ℕ) (xs : List Piece) → contestedOf xs ≡ 0 → readFrom (firstFit l f) n k i ≡ finished xs → readFrom (firstFit m f) n k i ≡ finished xs
-  read-order zero i xs c e = e
-  read-order (suc k) i xs c e =
-      byBool (ltb n i) (λ q. rw q (rw q at e)) (λ q. rw q (by (λ j ys u g. read-order k j ys u g) (firstFit l f i) refl (rw q at e)))
+  read-order : (k i : ℕ) (xs : List Piece) → contestedOf xs ≡ 0 → readFrom (firstFit c l f) n k i ≡ finished xs → readFrom (firstFit c m f) n k i ≡ finished xs
+  read-order zero i xs u e = e
+  read-order (suc k) i xs u e =
+      byBool (ltb n i) (λ q. rw q (rw q at e)) (λ q. rw q (by (λ j ys v g. read-order k j ys v g) (firstFit c l f i) refl (rw q at e)))
     where
-      by : ((j : ℕ) (ys : List Piece) → contestedOf ys ≡ 0 → readFrom (firstFit l f) n k j ≡ finished ys → readFrom (firstFit m f) n k j ≡ finished ys)
-          → (x : Choice) → firstFit l f i ≡ x → onward (firstFit l f i) i (readFrom (firstFit l f) n k) ≡ finished xs
-          → onward (firstFit m f i) i (readFrom (firstFit m f) n k) ≡ finished xs
+      by : ((j : ℕ) (ys : List Piece) → contestedOf ys ≡ 0 → readFrom (firstFit c l f) n k j ≡ finished ys → readFrom (firstFit c m f) n k j ≡ finished ys)
+          → (x : Choice) → firstFit c l f i ≡ x → onward (firstFit c l f i) i (readFrom (firstFit c l f) n k) ≡ finished xs
+          → onward (firstFit c m f i) i (readFrom (firstFit c m f) n k) ≡ finished xs
       by on (chosen a) y g =
-          let b = begun (applied a) (readFrom (firstFit l f) n k (past i a)) xs (ap (λ (z : Choice). onward z i (readFrom (firstFit l f) n k)) (sym y) ∙ g) in
-          let s : contestedIn (applied a) + contestedOf (b .rest) ≡ 0 = ap contestedOf (sym (b .are)) ∙ c in
-          ap (λ (z : Choice). onward z i (readFrom (firstFit m f) n k)) (choice-order i a y (few a (omega arith)))
+          let b = begun (applied a) (readFrom (firstFit c l f) n k (past i a)) xs (ap (λ (z : Choice). onward z i (readFrom (firstFit c l f) n k)) (sym y) ∙ g) in
+          let s : contestedIn (applied a) + contestedOf (b .rest) ≡ 0 = ap contestedOf (sym (b .are)) ∙ u in
+          ap (λ (z : Choice). onward z i (readFrom (firstFit c m f) n k)) (choice-order i a y (few a (omega arith)))
           ∙ (ap (cons (applied a)) (on (past i a) (b .rest) (omega arith) (b .reads)) ∙ ap finished (sym (b .are)))
-      by on nothing y g = absurd (not-uncovered (ap (λ (x : Choice). onward x i (readFrom (firstFit l f) n k)) (sym y) ∙ g))
-      by on unusable y g = absurd (not-bad (ap (λ (x : Choice). onward x i (readFrom (firstFit l f) n k)) (sym y) ∙ g))
+      by on nothing y g = absurd (not-uncovered (ap (λ (x : Choice). onward x i (readFrom (firstFit c l f) n k)) (sym y) ∙ g))
+      by on unusable y g = absurd (not-bad (ap (λ (x : Choice). onward x i (readFrom (firstFit c l f) n k)) (sym y) ∙ g))
 
-pub plain-order : {l m : List Entry} → Reordered l m → (w : Str) (xs : List Piece) → contestedOf xs ≡ 0 → plain l w ≡ finished xs → plain m w ≡ finished xs
+pub plain-order : (k : Classes) {l m : List Entry} → Reordered l m → (w : Str) (xs : List Piece) → contestedOf xs ≡ 0 → plain k l w ≡ finished xs → plain k m w ≡ finished xs
 unfolding plain
-plain-order d w xs c e = read-order d (frame w) (length w) (length w) 1 xs c e
+plain-order k d w xs c e = read-order k d (frame w) (length w) (length w) 1 xs c e
 
 -- ---- the words of a name
 
@@ -126,18 +128,18 @@ in-name b (finished ys) xs e = e
 in-name b (uncovered i) xs e = absurd (not-uncovered e)
 in-name b badTables xs e = absurd (not-bad e)
 
-module _ {l l′ : List Entry} (d : Reordered l l′) (m : Str → Str) where
-  word-order : (w : Word) (xs : List Piece) → contestedOf xs ≡ 0 → readWord m (plain l) w ≡ finished xs → readWord m (plain l′) w ≡ finished xs
+module _ (k : Classes) {l l′ : List Entry} (d : Reordered l l′) (m : Str → Str) where
+  word-order : (w : Word) (xs : List Piece) → contestedOf xs ≡ 0 → readWord m (plain k l) w ≡ finished xs → readWord m (plain k l′) w ≡ finished xs
   word-order w xs c e = by (m (w .letters)) e
     where
-      by : (p : Str) → phonesOr p (inName (w .before) (plain l (w .letters))) ≡ finished xs → phonesOr p (inName (w .before) (plain l′ (w .letters))) ≡ finished xs
-      by [] g = ap (inName (w .before)) (plain-order d (w .letters) xs c (in-name (w .before) (plain l (w .letters)) xs g))
+      by : (p : Str) → phonesOr p (inName (w .before) (plain k l (w .letters))) ≡ finished xs → phonesOr p (inName (w .before) (plain k l′ (w .letters))) ≡ finished xs
+      by [] g = ap (inName (w .before)) (plain-order k d (w .letters) xs c (in-name (w .before) (plain k l (w .letters)) xs g))
       by (x ∷ p) g = g
 
-  words-order : (ws : List Word) (xs : List Piece) → contestedOf xs ≡ 0 → readWords m (plain l) ws ≡ finished xs → readWords m (plain l′) ws ≡ finished xs
+  words-order : (ws : List Word) (xs : List Piece) → contestedOf xs ≡ 0 → readWords m (plain k l) ws ≡ finished xs → readWords m (plain k l′) ws ≡ finished xs
   words-order [] xs c e = e
   words-order (w ∷ ws) xs c e =
-      let b = parts (readWord m (plain l) w) (readWords m (plain l) ws) xs e in
+      let b = parts (readWord m (plain k l) w) (readWords m (plain k l) ws) xs e in
       let s : contestedOf (b .first) + contestedOf (b .second) ≡ 0 = sym (contested-append (b .first) (b .second)) ∙ (ap contestedOf (sym (b .are)) ∙ c) in
       ap₂ followed (word-order w (b .first) (omega arith) (b .reads)) (words-order ws (b .second) (omega arith) (b .follows)) ∙ ap finished (sym (b .are))
 
@@ -157,12 +159,12 @@ module _ (phones numbers : List ℕ) (p n : ℕ) where
       count : {a b k : ℕ} → spoken a b k ≡ spoken p n 0 → k ≡ 0
       count e = cc
 
-  answered-order : {l l′ : List Entry} → Reordered l l′ → (name : Str) (m : Str → Str)
-      → delivered (answered (plainWords l name m) 0) phones numbers .told ≡ spoken p n 0 → answered (plainWords l′ name m) 0 ≡ answered (plainWords l name m) 0
-  answered-order {l} {l′} d name m e = by (plainWords l name m) refl e
+  answered-order : (k : Classes) {l l′ : List Entry} → Reordered l l′ → (name : Str) (m : Str → Str)
+      → delivered (answered (plainWords k l name m) 0) phones numbers .told ≡ spoken p n 0 → answered (plainWords k l′ name m) 0 ≡ answered (plainWords k l name m) 0
+  answered-order k {l} {l′} d name m e = by (plainWords k l name m) refl e
     where
-      by : (r : Reading) → plainWords l name m ≡ r → delivered (answered r 0) phones numbers .told ≡ spoken p n 0 → answered (plainWords l′ name m) 0 ≡ answered r 0
-      by (finished xs) q g = ap (λ (r : Reading). answered r 0) (words-order d m (wordsIn name) xs (uncontested xs g) q)
+      by : (r : Reading) → plainWords k l name m ≡ r → delivered (answered r 0) phones numbers .told ≡ spoken p n 0 → answered (plainWords k l′ name m) 0 ≡ answered r 0
+      by (finished xs) q g = ap (λ (r : Reading). answered r 0) (words-order k d m (wordsIn name) xs (uncontested xs g) q)
       by (uncovered i) q g = absurd (not-spoken g)
       by badTables q g = absurd (not-spoken g)
 
@@ -176,10 +178,12 @@ module _ (phones numbers : List ℕ) (p n : ℕ) where
       by accepted (x ∷ q) g = refl
       by (declined a b) q g = refl
 
-  pub said-order : (image image′ : List ℕ) → valid image ≡ true → valid image′ ≡ true → Reordered (entriesOf image) (entriesOf image′) → (l : Listing) (name : Str)
+  pub said-order : (image image′ : List ℕ) → valid image ≡ true → valid image′ ≡ true → Reordered (entriesOf image) (entriesOf image′)
+      → classesOf image ≡ classesOf image′ → (l : Listing) (name : Str)
       → plainSaid image l name phones numbers .told ≡ spoken p n 0 → plainSaid image′ l name phones numbers ≡ plainSaid image l name phones numbers
   unfolding plainSaid
-  said-order image image′ v v′ d l name e =
+  said-order image image′ v v′ d c l name e =
       rw (v, v′)
       (ap (λ (o : Outcome). delivered o phones numbers)
-      (judged-order name _ _ (λ m g. answered-order d name m g) l (rw v at e)))
+      (ap (λ (k : Classes). judgedFor l name (λ m. answered (plainWords k (entriesOf image′) name m) 0)) (sym c)
+      ∙ judged-order name _ _ (λ m g. answered-order (classesOf image) d name m g) l (rw v at e)))

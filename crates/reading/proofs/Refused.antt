@@ -12,7 +12,8 @@ use Rattle.rules.proofs.Cases.{byBool}
 use Rattle.rules.specs.Names.{SoundName}
 use Rattle.rules.specs.Shape.{Entry}
 use Rattle.exceptions.specs.Judging.{Listing}
-use Rattle.image.specs.Image.{valid, entriesOf}
+use Rattle.classes.specs.Classes.{Classes}
+use Rattle.image.specs.Image.{valid, entriesOf, classesOf}
 use Rattle.reading.specs.Fitting.{Str}
 use Rattle.reading.specs.Reading.{Piece, listed, Reading}
 use Rattle.reading.specs.Words.{wordsIn}
@@ -28,20 +29,20 @@ pub record WantsRule (image : List ℕ) (l : Listing) (name : Str) (i : ℕ) : T
   pub is-valid : valid image ≡ true
   pub is-sound : SoundName name
   pub unlisted : Unlisted l name
-  pub bare : UncoveredIn (entriesOf image) (saidOf l) (wordsIn name) i
+  pub bare : UncoveredIn (classesOf image) (entriesOf image) (saidOf l) (wordsIn name) i
 
 -- what is said of a sound name that is not on the list, with a valid ruleset
 pub plain-delivered : (image : List ℕ) (l : Listing) (name : Str) (phones numbers : List ℕ) → valid image ≡ true → SoundName name → Unlisted l name
-    → plainSaid image l name phones numbers ≡ delivered (answered (plainWords (entriesOf image) name (saidOf l)) 0) phones numbers
+    → plainSaid image l name phones numbers ≡ delivered (answered (plainWords (classesOf image) (entriesOf image) name (saidOf l)) 0) phones numbers
 unfolding plainSaid
 plain-delivered image l name phones numbers ok s u =
-    ap (λ (o : Outcome). delivered o phones numbers) (call-unlisted image name (λ m. answered (plainWords (entriesOf image) name m) 0) ok l s u)
+    ap (λ (o : Outcome). delivered o phones numbers) (call-unlisted image name (λ m. answered (plainWords (classesOf image) (entriesOf image) name m) 0) ok l s u)
 
 pub wants-refused : (image : List ℕ) (l : Listing) (name : Str) (phones numbers : List ℕ) (i : ℕ) → WantsRule image l name i
     → plainSaid image l name phones numbers ≡ saying (refused 3 i) phones numbers
 wants-refused image l name phones numbers i w =
     plain-delivered image l name phones numbers (w .is-valid) (w .is-sound) (w .unlisted)
-    ∙ ap (λ (o : Reading). delivered (answered o 0) phones numbers) (uncovered-stops (entriesOf image) (saidOf l) (valid-targets image (w .is-valid)) (wordsIn name) i (w .bare))
+    ∙ ap (λ (o : Reading). delivered (answered o 0) phones numbers) (uncovered-stops (classesOf image) (entriesOf image) (saidOf l) (valid-targets image (w .is-valid)) (wordsIn name) i (w .bare))
 
 -- other refusals have other numbers
 other : {n p i : ℕ} → (leb 3 n && leb n 5) ≡ false → refused n p ≡ refused 3 i → ⊥
@@ -71,29 +72,29 @@ unfolding plainSaid
 refused-wants image l name phones numbers i e = by (call-case image l name)
   where
     reading : Following
-    reading m = answered (plainWords (entriesOf image) name m) 0
+    reading m = answered (plainWords (classesOf image) (entriesOf image) name m) 0
 
     comes-to : (o : Outcome) → plainOutcome image l name ≡ o → delivered o phones numbers .told ≡ refused 3 i
     comes-to o q = ap (λ (x : Outcome). delivered x phones numbers .told) (sym q) ∙ e
 
     read : valid image ≡ true → SoundName name → Unlisted l name → plainOutcome image l name ≡ reading (saidOf l)
-        → WordsEnding (entriesOf image) (saidOf l) (wordsIn name) → WantsRule image l name i
+        → WordsEnding (classesOf image) (entriesOf image) (saidOf l) (wordsIn name) → WantsRule image l name i
     read v s u q (finish xs d f) =
         absurd (room-refused xs phones numbers i (comes-to (speaks xs 0) (q ∙ ap (λ (x : Reading). answered x 0) f)))
     read v s u q (stop j d f) =
         let t : refused 3 j ≡ refused 3 i = comes-to (declines 3 j 0) (q ∙ ap (λ (x : Reading). answered x 0) f) in
         let z : j ≡ i = cc in
-        record { is-valid = v; is-sound = s; unlisted = u; bare = subst (UncoveredIn (entriesOf image) (saidOf l) (wordsIn name)) z d }
+        record { is-valid = v; is-sound = s; unlisted = u; bare = subst (UncoveredIn (classesOf image) (entriesOf image) (saidOf l) (wordsIn name)) z d }
 
     by : CallCase image l name → WantsRule image l name i
     by (refuses n p h r) = absurd (other h (comes-to (atOnce n p) (r reading)))
     by (lists p u r) = absurd (room-refused (listed p ∷ []) phones numbers i (comes-to (speaks (listed p ∷ []) 0) (r reading)))
-    by (follows v s u r) = read v s u (r reading) (words-end (entriesOf image) (saidOf l) (valid-targets image v) (wordsIn name))
+    by (follows v s u r) = read v s u (r reading) (words-end (classesOf image) (entriesOf image) (saidOf l) (valid-targets image v) (wordsIn name))
 
 -- a plain reading carries its steps to the answer: it is never ended by tables
-pub plain-steps : (rules : List Entry) (name : Str) (m : Str → Str) → Targets rules → (steps : ℕ) → stepsOf (answered (plainWords rules name m) steps) ≡ steps
-plain-steps rules name m targets steps = by (words-end rules m targets (wordsIn name))
+pub plain-steps : (k : Classes) (rules : List Entry) (name : Str) (m : Str → Str) → Targets rules → (steps : ℕ) → stepsOf (answered (plainWords k rules name m) steps) ≡ steps
+plain-steps k rules name m targets steps = by (words-end k rules m targets (wordsIn name))
   where
-    by : WordsEnding rules m (wordsIn name) → stepsOf (answered (plainWords rules name m) steps) ≡ steps
+    by : WordsEnding k rules m (wordsIn name) → stepsOf (answered (plainWords k rules name m) steps) ≡ steps
     by (finish xs d q) = ap (λ (o : Reading). stepsOf (answered o steps)) q
     by (stop i d q) = ap (λ (o : Reading). stepsOf (answered o steps)) q

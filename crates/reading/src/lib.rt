@@ -15,7 +15,7 @@ ghost use lib.ListN.{length, take};
 ghost use Rattle.rules.specs.Names.{SoundName};
 ghost use Rattle.exceptions.specs.Layout.{wordsOf, phonesFor};
 ghost use Rattle.exceptions.specs.Judging.{isList, listingOf, noList, saysOf};
-ghost use Rattle.image.specs.Image.{entriesOf, valid};
+ghost use Rattle.image.specs.Image.{entriesOf, classesOf, valid};
 ghost use Rattle.reading.specs.Reading.{firstFit, plain};
 ghost use Rattle.reading.specs.Words.{word, readWord, frameOf, wordAt, WordOf};
 ghost use Rattle.reading.specs.Speech.{toldOf, saying, answered, listedOr, delivered, plainWords, plainSaid};
@@ -48,7 +48,7 @@ pub enum Reached {
 // The parts of the rules applied to a framed word, in order, from its first letter on.
 fn read_letters(image: &[u8], frame: &[u8], parts: &mut [u32]) -> Reached
     requires { ⌜ (valid (now image) ≡ true) × ((2 ≤ length (now frame)) × ((length (now frame) ≤ frameSize) × (length (now frame) - 2 ≤ length (now parts)))) ⌝ }
-    ensures { λ r. ⌜ ReadBy (now (image .entry)) (firstFit (entriesOf (now (image .entry))) (now (frame .entry))) (length (now (frame .entry)) - 2) (now (parts .exit)) r ⌝ }
+    ensures { λ r. ⌜ ReadBy (now (image .entry)) (firstFit (classesOf (now (image .entry))) (entriesOf (now (image .entry))) (now (frame .entry))) (length (now (frame .entry)) - 2) (now (parts .exit)) r ⌝ }
 {
     let count = image::rule_count(image);
     let n = frame.len() - 2;
@@ -78,7 +78,7 @@ fn read_word(
     count: usize,
 ) -> Reached
     requires { ⌜ (valid (now image) ≡ true) × Unsaid (now list) (now name) × (now frame ≡ frameOf (now name)) × WordOf (now name) from end × PartsSoFar (now image) (now list) (now parts) count from ⌝ }
-    ensures { λ r. ⌜ ReadOn (now (image .entry)) (now (list .entry)) (partsAt (now (image .entry)) (now (list .entry)) (take count (now (parts .entry)))) (readWord (saysOf (now (list .entry))) (plain (entriesOf (now (image .entry)))) (word from (wordAt (now (name .entry)) from))) end (now (parts .exit)) r ⌝ }
+    ensures { λ r. ⌜ ReadOn (now (image .entry)) (now (list .entry)) (partsAt (now (image .entry)) (now (list .entry)) (take count (now (parts .entry)))) (readWord (saysOf (now (list .entry))) (plain (classesOf (now (image .entry))) (entriesOf (now (image .entry)))) (word from (wordAt (now (name .entry)) from))) end (now (parts .exit)) r ⌝ }
 {
     let part = words::find_word(list, name, from, end);
     if part != 0 {
@@ -92,7 +92,7 @@ fn read_word(
 // The words of a name that is not on the list, in turn.
 fn read_words(image: &[u8], list: &[u32], name: &[u8], frame: &[u8], parts: &mut [u32]) -> Reached
     requires { ⌜ (valid (now image) ≡ true) × Unsaid (now list) (now name) × (now frame ≡ frameOf (now name)) × (length (now parts) ≡ frameSize) ⌝ }
-    ensures { λ r. ⌜ ReadOn (now (image .entry)) (now (list .entry)) [] (plainWords (entriesOf (now (image .entry))) (now (name .entry)) (saysOf (now (list .entry)))) frameSize (now (parts .exit)) r ⌝ }
+    ensures { λ r. ⌜ ReadOn (now (image .entry)) (now (list .entry)) [] (plainWords (classesOf (now (image .entry))) (entriesOf (now (image .entry))) (now (name .entry)) (saysOf (now (list .entry)))) frameSize (now (parts .exit)) r ⌝ }
 {
     let mut count = 0;
     let mut from = 0;
@@ -117,7 +117,7 @@ fn read_sound(
     numbers: &mut [u16],
 ) -> Speech
     requires { ⌜ (valid (now image) ≡ true) × Unsaid (now list) (now name) ⌝ }
-    ensures { λ r. ⌜ saying (toldOf r) (now (phones .exit)) (now (numbers .exit)) ≡ delivered (answered (plainWords (entriesOf (now (image .entry))) (now (name .entry)) (saysOf (now (list .entry)))) 0) (now (phones .entry)) (now (numbers .entry)) ⌝ }
+    ensures { λ r. ⌜ saying (toldOf r) (now (phones .exit)) (now (numbers .exit)) ≡ delivered (answered (plainWords (classesOf (now (image .entry))) (entriesOf (now (image .entry))) (now (name .entry)) (saysOf (now (list .entry)))) 0) (now (phones .entry)) (now (numbers .entry)) ⌝ }
 {
     let mut frame = [0u8; MAX_FRAME];
     words::lay_frame(name, &mut frame);
@@ -148,7 +148,7 @@ fn read_listed(
     numbers: &mut [u16],
 ) -> Speech
     requires { ⌜ (valid (now image) ≡ true) × ((isList (now list) ≡ true) × SoundName (now name)) ⌝ }
-    ensures { λ r. ⌜ saying (toldOf r) (now (phones .exit)) (now (numbers .exit)) ≡ delivered (listedOr (phonesFor (wordsOf (now (list .entry)))) (now (name .entry)) (answered (plainWords (entriesOf (now (image .entry))) (now (name .entry)) (phonesFor (wordsOf (now (list .entry))))) 0)) (now (phones .entry)) (now (numbers .entry)) ⌝ }
+    ensures { λ r. ⌜ saying (toldOf r) (now (phones .exit)) (now (numbers .exit)) ≡ delivered (listedOr (phonesFor (wordsOf (now (list .entry)))) (now (name .entry)) (answered (plainWords (classesOf (now (image .entry))) (entriesOf (now (image .entry))) (now (name .entry)) (phonesFor (wordsOf (now (list .entry))))) 0)) (now (phones .entry)) (now (numbers .entry)) ⌝ }
 {
     let found = delivery::say_listed(list, name, &mut *phones);
     match found {

@@ -1,7 +1,7 @@
 -- `reading::read_sound` meets its contract: the frame, the parts of the words, the answer.
 -- Assumes nothing.
 use Rattle.exceptions.specs.Judging.{saysOf}
-use Rattle.image.specs.Image.{entriesOf}
+use Rattle.image.specs.Image.{entriesOf, classesOf}
 use Rattle.reading.proofs.Loop.{after-none}
 use Rattle.reading.proofs.NameWords.{frame-length, frame-part}
 use Rattle.reading.specs.Speech.{answered, delivered, plainWords}
@@ -46,7 +46,7 @@ same-length-2 : tie.Need-same-length-2
 same-length-2 c = search needs
 
 returns : tie.Need-returns
-returns c = c .before .before .before .before .answer .ensures ∙ ap (λ (o : Reading). delivered (answered o 0) (c .before .before .before .before .before .before .before .before .before .before .before .before .before .before .before .before .before .before .before .before .args .phones .now) (c .before .before .before .before .before .before .before .before .before .before .before .before .before .before .before .before .before .before .before .before .args .numbers .now)) (c .before .before .before .before .before .before .before .before .before .read-words .ensures .says ∙ after-none (plainWords (entriesOf (c .before .before .before .before .before .before .before .before .before .before .before .before .before .before .before .before .before .before .before .before .args .image .now)) (c .before .before .before .before .before .before .before .before .before .before .before .before .before .before .before .before .before .before .before .before .args .name .now) (saysOf (c .before .before .before .before .before .before .before .before .before .before .before .before .before .before .before .before .before .before .before .before .args .list .now))))
+returns c = c .before .before .before .before .answer .ensures ∙ ap (λ (o : Reading). delivered (answered o 0) (c .before .before .before .before .before .before .before .before .before .before .before .before .before .before .before .before .before .before .before .before .args .phones .now) (c .before .before .before .before .before .before .before .before .before .before .before .before .before .before .before .before .before .before .before .before .args .numbers .now)) (c .before .before .before .before .before .before .before .before .before .read-words .ensures .says ∙ after-none (plainWords (classesOf (c .before .before .before .before .before .before .before .before .before .before .before .before .before .before .before .before .before .before .before .before .args .image .now)) (entriesOf (c .before .before .before .before .before .before .before .before .before .before .before .before .before .before .before .before .before .before .before .before .args .image .now)) (c .before .before .before .before .before .before .before .before .before .before .before .before .before .before .before .before .before .before .before .before .args .name .now) (saysOf (c .before .before .before .before .before .before .before .before .before .before .before .before .before .before .before .before .before .before .before .before .args .list .now))))
 
 pub read-sound-spec : {M : Type 1} → statement M
 read-sound-spec =

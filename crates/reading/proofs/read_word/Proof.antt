@@ -5,7 +5,7 @@ use Prim.Native.Nat.{_-_}
 use borrow.Rule.Slice.PartMut.{mid-len}
 use Rattle.rules.proofs.Memory.{put-tail}
 use Rattle.reading.proofs.Plain.{plain-word}
-use Rattle.image.specs.Image.{entriesOf}
+use Rattle.image.specs.Image.{entriesOf, classesOf}
 use Rattle.reading.specs.Reading.{plain}
 use Rattle.reading.specs.Words.{wordAt}
 use Rattle.reading.proofs.WordReading.{part-frame, part-long, part-inside, part-bound, room, listed-part, read-part, ends-most}
@@ -33,7 +33,7 @@ same-length : tie.Need-same-length
 same-length c = search needs
 
 returns : tie.Need-returns
-returns c = listed-part (c .before .before .before .before .before .before .before .args .image .now) (c .before .before .before .before .before .before .before .args .list .now) (c .before .before .before .before .before .before .before .args .parts .now) (c .before .before .before .before .before .before .before .args .count) (c .before .before .before .before .before .before .before .args .from) (c .before .before .before .before .before .before .before .pre .4) (let x = c .before .before .before .before .before .before .before .pre .3 .inside in omega (arith, c .before .before .before .before .before .before .before .pre .1 .sound .short)) (wordAt (c .before .before .before .before .before .before .before .args .name .now) (c .before .before .before .before .before .before .before .args .from)) (c .before .before .before .before .before .before .before .args .end) (c .before .before .before .before .before .before .before .pre .3 .ends) (plain (entriesOf (c .before .before .before .before .before .before .before .args .image .now))) _ (omega arith) (c .before .find-word .ensures)
+returns c = listed-part (c .before .before .before .before .before .before .before .args .image .now) (c .before .before .before .before .before .before .before .args .list .now) (c .before .before .before .before .before .before .before .args .parts .now) (c .before .before .before .before .before .before .before .args .count) (c .before .before .before .before .before .before .before .args .from) (c .before .before .before .before .before .before .before .pre .4) (let x = c .before .before .before .before .before .before .before .pre .3 .inside in omega (arith, c .before .before .before .before .before .before .before .pre .1 .sound .short)) (wordAt (c .before .before .before .before .before .before .before .args .name .now) (c .before .before .before .before .before .before .before .args .from)) (c .before .before .before .before .before .before .before .args .end) (c .before .before .before .before .before .before .before .pre .3 .ends) (plain (classesOf (c .before .before .before .before .before .before .before .args .image .now)) (entriesOf (c .before .before .before .before .before .before .before .args .image .now))) _ (omega arith) (c .before .find-word .ensures)
 
 add-read-letters : tie.Need-add-read-letters
 add-read-letters c = omega (arith, part-inside (c .before .before .before .before .before .before .before .args .name .now) (c .before .before .before .before .before .before .before .args .frame .now) (c .before .before .before .before .before .before .before .pre .2) (c .before .before .before .before .before .before .before .args .from) (c .before .before .before .before .before .before .before .args .end) (c .before .before .before .before .before .before .before .pre .3))
@@ -69,7 +69,7 @@ same-length-2 : tie.Need-same-length-2
 same-length-2 c = search needs
 
 returns-2 : tie.Need-returns-2
-returns-2 c = let r = plain-word (c .before .before .before .before .before .before .before .before .before .before .before .before .before .args .image .now) (wordAt (c .before .before .before .before .before .before .before .before .before .before .before .before .before .args .name .now) (c .before .before .before .before .before .before .before .before .before .before .before .before .before .args .from)) _ (part-frame (c .before .before .before .before .before .before .before .before .before .before .before .before .before .args .name .now) (c .before .before .before .before .before .before .before .before .before .before .before .before .before .args .frame .now) (c .before .before .before .before .before .before .before .before .before .before .before .before .before .pre .2) (c .before .before .before .before .before .before .before .before .before .before .before .before .before .args .from) (c .before .before .before .before .before .before .before .before .before .before .before .before .before .args .end) (c .before .before .before .before .before .before .before .before .before .before .before .before .before .pre .3)) _ _ (c .before .before .before .read-letters .ensures) in read-part (c .before .before .before .before .before .before .before .before .before .before .before .before .before .args .image .now) (c .before .before .before .before .before .before .before .before .before .before .before .before .before .args .list .now) (c .before .before .before .before .before .before .before .before .before .before .before .before .before .args .parts .now) (c .before .before .before .before .before .before .before .before .before .before .before .before .before .args .count) (c .before .before .before .before .before .before .before .before .before .before .before .before .before .args .from) (c .before .before .before .before .before .before .before .before .before .before .before .before .before .pre .4) (let x = c .before .before .before .before .before .before .before .before .before .before .before .before .before .pre .3 .inside in omega (arith, c .before .before .before .before .before .before .before .before .before .before .before .before .before .pre .1 .sound .short)) (wordAt (c .before .before .before .before .before .before .before .before .before .before .before .before .before .args .name .now) (c .before .before .before .before .before .before .before .before .before .before .before .before .before .args .from)) (c .before .before .before .before .before .before .before .before .before .before .before .before .before .args .end) (c .before .before .before .before .before .before .before .before .before .before .before .before .before .pre .3 .ends) (plain (entriesOf (c .before .before .before .before .before .before .before .before .before .before .before .before .before .args .image .now))) (c .before .before .before .before .before .before .before .before .before .before .before .before .before .pre .0) _ _ (put-tail (c .before .before .before .before .before .before .before .before .before .before .before .before .before .args .count) (c .before .before .before .before .before .before .before .before .before .before .before .before .before .args .parts .now) _) (search needs) (c .before .before .before .read-letters .result) (r .0) (c .before .before .before .before .before .before .before .find-word .ensures .none (omega (arith, c .before .before .before .before .before .before .if1 .left))) (r .1) _ (c .in-name .ensures)
+returns-2 c = let r = plain-word (c .before .before .before .before .before .before .before .before .before .before .before .before .before .args .image .now) (wordAt (c .before .before .before .before .before .before .before .before .before .before .before .before .before .args .name .now) (c .before .before .before .before .before .before .before .before .before .before .before .before .before .args .from)) _ (part-frame (c .before .before .before .before .before .before .before .before .before .before .before .before .before .args .name .now) (c .before .before .before .before .before .before .before .before .before .before .before .before .before .args .frame .now) (c .before .before .before .before .before .before .before .before .before .before .before .before .before .pre .2) (c .before .before .before .before .before .before .before .before .before .before .before .before .before .args .from) (c .before .before .before .before .before .before .before .before .before .before .before .before .before .args .end) (c .before .before .before .before .before .before .before .before .before .before .before .before .before .pre .3)) _ _ (c .before .before .before .read-letters .ensures) in read-part (c .before .before .before .before .before .before .before .before .before .before .before .before .before .args .image .now) (c .before .before .before .before .before .before .before .before .before .before .before .before .before .args .list .now) (c .before .before .before .before .before .before .before .before .before .before .before .before .before .args .parts .now) (c .before .before .before .before .before .before .before .before .before .before .before .before .before .args .count) (c .before .before .before .before .before .before .before .before .before .before .before .before .before .args .from) (c .before .before .before .before .before .before .before .before .before .before .before .before .before .pre .4) (let x = c .before .before .before .before .before .before .before .before .before .before .before .before .before .pre .3 .inside in omega (arith, c .before .before .before .before .before .before .before .before .before .before .before .before .before .pre .1 .sound .short)) (wordAt (c .before .before .before .before .before .before .before .before .before .before .before .before .before .args .name .now) (c .before .before .before .before .before .before .before .before .before .before .before .before .before .args .from)) (c .before .before .before .before .before .before .before .before .before .before .before .before .before .args .end) (c .before .before .before .before .before .before .before .before .before .before .before .before .before .pre .3 .ends) (plain (classesOf (c .before .before .before .before .before .before .before .before .before .before .before .before .before .args .image .now)) (entriesOf (c .before .before .before .before .before .before .before .before .before .before .before .before .before .args .image .now))) (c .before .before .before .before .before .before .before .before .before .before .before .before .before .pre .0) _ _ (put-tail (c .before .before .before .before .before .before .before .before .before .before .before .before .before .args .count) (c .before .before .before .before .before .before .before .before .before .before .before .before .before .args .parts .now) _) (search needs) (c .before .before .before .read-letters .result) (r .0) (c .before .before .before .before .before .before .before .find-word .ensures .none (omega (arith, c .before .before .before .before .before .before .if1 .left))) (r .1) _ (c .in-name .ensures)
 
 pub read-word-spec : {M : Type 1} → statement M
 read-word-spec =

@@ -1,25 +1,28 @@
 -- `reading::choice::count_fits` meets its contract: those counted and those from p on are all.
 -- Assumes nothing.
-use Prim.Native.Nat.{_+_, _-_, _≤_}
+use Prim.Native.Nat.{_+_, _-_, _≤_, _<_}
 use mathlib.Core.Path.{_≡_, sym, _∙_}
 use mathlib.Core.Logic.{⊎-elim}
 use native.Mathlib.Omega.{arith}
 use borrow.Author.Needs.{needs}
+use Rattle.image.specs.Image.{countOf}
 use Rattle.reading.proofs.Search.{fitsFrom, count-next, count-end}
 use Rattle.reading.proofs.choice.count_fits.Statement.{statement}
 use Rattle.reading.proofs.choice.count_fits.Tie as tie
 
 abbrev Inv-loop : tie.InvT-loop
-Inv-loop image count frame i from fitting₀ p₀ fitting p = (p ≤ count) × (fitting ≤ p) × (fitting + fitsFrom image frame i p ≡ fitsFrom image frame i from)
+Inv-loop image masks count frame i from fitting₀ p₀ fitting p = (p ≤ count) × (fitting ≤ p) × (fitting + fitsFrom image frame i p ≡ fitsFrom image frame i from)
 
 abbrev μ-loop : tie.MeasureT-loop
-μ-loop image count frame i from fitting₀ p₀ fitting p = count - p
+μ-loop image masks count frame i from fitting₀ p₀ fitting p = count - p
 
 loop-holds : tie.Need-loop-holds Inv-loop μ-loop
 loop-holds c = (search needs, omega arith, omega arith)
 
-fits-at-requires : tie.Need-fits-at-requires Inv-loop μ-loop
-fits-at-requires c κs = search needs
+fits-by-requires : tie.Need-fits-by-requires Inv-loop μ-loop
+fits-by-requires c κs =
+    let st = c .before .before .before .before .before in
+    (st .pre .0, (st .pre .1 .0, (omega (arith, c .loop-test .taken, st .pre .1 .1 .0), st .pre .1 .1 .1 .0)))
 
 add-fitting : tie.Need-add-fitting Inv-loop μ-loop
 add-fitting c = search needs
@@ -32,15 +35,18 @@ loop-less c = search needs
 
 loop-again : tie.Need-loop-again Inv-loop μ-loop
 loop-again c =
-    let a = c .before .before .before .before .before .before .args in
+    let st = c .before .before .before .before .before .before .before in
     let l = c .before .before .before .loop in
+    let h : l .p < countOf (st .args .image .now) = omega (arith, c .before .before .loop-test .taken, st .pre .1 .1 .0) in
     ⊎-elim
-    (λ b. rw (b .1) (omega arith, omega (arith, l .inv .1), omega (arith, count-next (a .image .now) (a .frame .now) (a .i) (l .p) (omega (arith, c .before .before .loop-test .taken, c .before .before .before .before .before .before .pre .1 .0)) _ (sym (c .before .fits-at .ensures) ∙ b .0 .taken), l .inv .2)))
-    (λ b. rw (b .1) (omega arith, omega (arith, l .inv .1), omega (arith, count-next (a .image .now) (a .frame .now) (a .i) (l .p) (omega (arith, c .before .before .loop-test .taken, c .before .before .before .before .before .before .pre .1 .0)) _ (sym (c .before .fits-at .ensures) ∙ b .0 .left), l .inv .2)))
+    (λ b. rw (b .1) (omega arith, omega (arith, l .inv .1), omega (arith, count-next (st .args .image .now) (st .args .frame .now) (st .args .i) (l .p) h _ (sym (c .before .fits-by .ensures) ∙ b .0 .taken), l .inv .2)))
+    (λ b. rw (b .1) (omega arith, omega (arith, l .inv .1), omega (arith, count-next (st .args .image .now) (st .args .frame .now) (st .args .i) (l .p) h _ (sym (c .before .fits-by .ensures) ∙ b .0 .left), l .inv .2)))
     (c .if1 .came)
 
 returns : tie.Need-returns Inv-loop μ-loop
-returns c = omega (arith, c .before .loop .inv .2, count-end (c .before .before .before .before .args .image .now) (c .before .before .before .before .args .frame .now) (c .before .before .before .before .args .i) (c .before .loop .p) (omega (arith, c .loop-test .left, c .before .before .before .before .pre .1 .0)))
+returns c =
+    let st = c .before .before .before .before .before in
+    omega (arith, c .before .loop .inv .2, count-end (st .args .image .now) (st .args .frame .now) (st .args .i) (c .before .loop .p) (omega (arith, c .loop-test .left, st .pre .1 .1 .0)))
 
 pub count-fits-spec : {M : Type 1} → statement M
 count-fits-spec =
@@ -49,7 +55,7 @@ count-fits-spec =
     Inv-loop
     μ-loop
     loop-holds
-    fits-at-requires
+    fits-by-requires
     add-fitting
     add-p
     loop-less
