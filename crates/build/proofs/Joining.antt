@@ -10,7 +10,7 @@ use lib.Seq.{drop-cons}
 use borrow.Rule.Slice.PartMut.{midOf, putMid, mid-len}
 use Rattle.rules.specs.Memory.{over}
 use Rattle.rules.proofs.Memory.{over-length, over-rest}
-use Rattle.image.specs.Image.{entriesOf}
+use Rattle.image.specs.Image.{literalsOf}
 use Rattle.tables.specs.Words.{rowsOf, setsOf, builtWords, builtSets, wordsFor, setsFor, headWords, rowSize, setSize, rightRows, rightSets}
 use Rattle.build.specs.Sides.{sideTable}
 use Rattle.build.proofs.Whole.{rows-length, sets-length, words-are, sets-built}
@@ -23,7 +23,7 @@ module _ (d : List ℕ) where
   vs = rowsOf (sideTable d true)
 
   -- the words xs, of which the first two are stored last
-  module _ (xs : List ℕ) (h : wordsFor (entriesOf d) ≤ length xs) where
+  module _ (xs : List ℕ) (h : wordsFor (literalsOf d) ≤ length xs) where
     abbrev x : ℕ
     x = getD xs 0 0
 
@@ -65,7 +65,7 @@ module _ (d : List ℕ) where
         length₂ = ap length is₂ ∙ over-length (x ∷ y ∷ (us ++ vs)) xs (omega (arith, length-append us vs, rows-length (sideTable d false), rows-length (sideTable d true)))
 
         -- the counts are stored
-        pub words : set (set w₂ 0 l) 1 r ≡ over (builtWords (entriesOf d)) xs
+        pub words : set (set w₂ 0 l) 1 r ≡ over (builtWords (literalsOf d)) xs
         words = ap (λ (w : List ℕ). set (set w 0 l) 1 r) is₂ ∙ ap (λ (w : List ℕ). over w xs) (words-are d l r el er)
 
         pub length₃ : length (set w₂ 0 l) ≡ length xs
@@ -75,7 +75,7 @@ module _ (d : List ℕ) where
         length₄ = simp length-set length₂
 
   -- the set words, after the left sets s and the right sets
-  module _ (xs : List ℕ) (h : setsFor (entriesOf d) ≤ length xs) (s : List ℕ) (e : s ≡ over (setsOf (sideTable d false)) xs) (l : ℕ) (el : l ≡ sideTable d false .count) where
+  module _ (xs : List ℕ) (h : setsFor (literalsOf d) ≤ length xs) (s : List ℕ) (e : s ≡ over (setsOf (sideTable d false)) xs) (l : ℕ) (el : l ≡ sideTable d false .count) where
     left-sets : length (setsOf (sideTable d false)) ≡ rightSets l
     left-sets = sets-length (sideTable d false) ∙ ap (λ (k : ℕ). setSize * k) (sym el)
 
@@ -89,7 +89,7 @@ module _ (d : List ℕ) where
       both-sets : putMid (rightSets l) (length s - rightSets l) s z ≡ over (setsOf (sideTable d false) ++ setsOf (sideTable d true)) xs
       both-sets = over-rest (setsOf (sideTable d false)) xs (setsOf (sideTable d true)) s z (rightSets l) e left-sets f
 
-      pub sets : putMid (rightSets l) (length s - rightSets l) s z ≡ over (builtSets (entriesOf d)) xs
+      pub sets : putMid (rightSets l) (length s - rightSets l) s z ≡ over (builtSets (literalsOf d)) xs
       sets = both-sets ∙ ap (λ (x : List ℕ). over x xs) (sets-built d)
 
       pub sets-kept : length (putMid (rightSets l) (length s - rightSets l) s z) ≡ length xs

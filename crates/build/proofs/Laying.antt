@@ -13,9 +13,9 @@ use Rattle.rules.specs.Limits.{maxRules}
 use Rattle.tables.specs.Words.{rowSize}
 use Rattle.image.specs.State.{noEntry}
 use Rattle.rules.specs.Shape.{Entry}
-use Rattle.image.specs.Image.{entriesOf, valid, countOf, entryAt}
-use Rattle.image.proofs.Tests.{valid-count}
-use Rattle.image.proofs.Entries.{entries-length}
+use Rattle.image.specs.Image.{valid, totalOf, literalsOf}
+use Rattle.image.proofs.Literals.{total-is, literals-few}
+use Rattle.literals.specs.Places.{literalEntry}
 use Rattle.reading.specs.Fitting.{Str}
 use Rattle.side.specs.Patterns.{patternAt, patternsOf, maxPattern}
 use Rattle.side.specs.Wrote.{Wrote}
@@ -25,7 +25,7 @@ use Rattle.build.proofs.Symbols.{long, small}
 module _ (d : List ℕ) (right : Bool) (ps₀ ls₀ : List ℕ) where
   -- the first i patterns are laid
   pub record Laying (ps ls : List ℕ) (i : ℕ) : Type 0 where
-    pub reached : i ≤ countOf d
+    pub reached : i ≤ totalOf d
     pub psLen : length ps ≡ length ps₀
     pub lsLen : length ls ≡ length ls₀
     pub low : (k : ℕ) → getD ps k 0 < rowSize
@@ -33,14 +33,14 @@ module _ (d : List ℕ) (right : Bool) (ps₀ ls₀ : List ℕ) where
     pub symbols : (j k : ℕ) → j < i → k < length (patternIn d right j) → getD ps (maxPattern * j + k) 0 ≡ getD (patternIn d right j) k 0
 
 module _ (d : List ℕ) (right : Bool) (ok : valid d ≡ true) (ps₀ ls₀ : List ℕ) (sc : Scratch ps₀ ls₀) where
-  few : countOf d ≤ maxRules
-  few = valid-count d ok
+  few : totalOf d ≤ maxRules
+  few = omega (arith, total-is d ok, literals-few d ok)
 
   pub begin : Laying d right ps₀ ls₀ ps₀ ls₀ 0
   begin = record { reached = omega arith; psLen = refl; lsLen = refl; low = sc .low; lengths = λ j h. absurd (omega arith); symbols = λ j k h l. absurd (omega arith) }
 
   module _ (ps ls : List ℕ) (i : ℕ) (y : Laying d right ps₀ ls₀ ps ls i) where
-    module _ (h : i < countOf d) where
+    module _ (h : i < totalOf d) where
       pub fits : maxPattern * i + maxPattern ≤ length ps
       fits = omega (arith, y .psLen, sc .room, few)
 
@@ -82,8 +82,8 @@ module _ (d : List ℕ) (right : Bool) (ok : valid d ≡ true) (ps₀ ls₀ : Li
 
   -- ---- all are laid
 
-  module _ (ps ls : List ℕ) (y : Laying d right ps₀ ls₀ ps ls (countOf d)) where
-    at : (j : ℕ) → j < countOf d → patternAt ps ls j ≡ patternIn d right j
+  module _ (ps ls : List ℕ) (y : Laying d right ps₀ ls₀ ps ls (totalOf d)) where
+    at : (j : ℕ) → j < totalOf d → patternAt ps ls j ≡ patternIn d right j
     at j h =
         let f = long d ok j h right in
         let n = y .lengths j h in
@@ -91,13 +91,13 @@ module _ (d : List ℕ) (right : Bool) (ok : valid d ≡ true) (ps₀ ls₀ : Li
         ext-getD 0 (patternAt ps ls j) (patternIn d right j) l
         (λ k m. getD-take (getD ls j 0) (drop (maxPattern * j) ps) k 0 (omega arith) ∙ getD-drop (maxPattern * j) ps k 0 ∙ y .symbols j k h (omega arith))
 
-    all : (n : ℕ) → n ≤ countOf d → patternsOf ps ls n ≡ map (sideOf right) (take n (entriesOf d))
+    all : (n : ℕ) → n ≤ totalOf d → patternsOf ps ls n ≡ map (sideOf right) (take n (literalsOf d))
     unfolding patternsOf
     all zero h = refl
     all (suc n) h =
         ap₂ (λ (l : List Str) (s : Str). l ++ (s ∷ [])) (all n (omega arith)) (at n (omega arith))
-        ∙ sym (ap (λ (l : List Entry). map (sideOf right) l) (take-suc (entriesOf d) n noEntry (omega (arith, entries-length d)))
-        ∙ map-append (sideOf right) (take n (entriesOf d)) (entryAt d n ∷ []))
+        ∙ sym (ap (λ (l : List Entry). map (sideOf right) l) (take-suc (literalsOf d) n noEntry (omega (arith, total-is d ok)))
+        ∙ map-append (sideOf right) (take n (literalsOf d)) (literalEntry d n ∷ []))
 
     pub finished : Laid d right ps ls
     finished =
@@ -111,8 +111,8 @@ module _ (d : List ℕ) (right : Bool) (ok : valid d ≡ true) (ps₀ ls₀ : Li
             small = λ k h. y .low k;
           };
           are =
-              all (countOf d) (omega arith)
-              ∙ ap (map (sideOf right)) (take-all (countOf d) (entriesOf d) (omega (arith, entries-length d)));
+              all (totalOf d) (omega arith)
+              ∙ ap (map (sideOf right)) (take-all (totalOf d) (literalsOf d) (omega (arith, total-is d ok)));
         }
 
 pub laid-at : {d : List ℕ} {right : Bool} {ps₀ ls₀ ps ls : List ℕ} {i : ℕ} (n : ℕ) → i ≡ n → Laying d right ps₀ ls₀ ps ls i → Laying d right ps₀ ls₀ ps ls n

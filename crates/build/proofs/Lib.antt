@@ -1,4 +1,5 @@
 pub mod Symbols
+pub mod Reversing
 pub mod Laying
 pub mod Whole
 pub mod Joining

@@ -1,22 +1,30 @@
--- The pattern of the rule at a place: how it is laid from the rule's fields, how many symbols it has, and that each has an entry in a row.
+-- The pattern of the literal rule at a place: how it is laid, how many symbols it has, and that each has an entry in a row.
 -- Assumes nothing.
-use mathlib.Core.Path.{_≡_, sym, ap, _∙_, subst}
+use mathlib.Core.Path.{_≡_, sym, ap, ap₂, _∙_, subst}
 use Prim.Native.Nat.{ℕ, zero, suc, _+_, _-_, _≤_, _<_}
 use native.Mathlib.Omega.{arith}
 use native.Mathlib.Decide.{decLe}
 use mathlib.Core.Bool.{Bool, true, false}
 use mathlib.Core.List.{List, [], _∷_, _++_, reverse, reverseAux, reverse-cons, append-nil, append-assoc}
-use lib.ListN.{length, getD, length-append, length-reverse, List·getD-append}
-use lib.Seq.{getD-at, getD-append-add, paste}
+use lib.ListN.{length, getD, take, drop, length-append, length-reverse, List·getD-append}
+use lib.Seq.{getD-at, getD-append-add, drop-drop, take-all, paste}
 use Rattle.rules.specs.Limits.{maxContext, maxTarget}
-use Rattle.image.specs.Image.{entryAt, valid, countOf}
-use Rattle.image.proofs.Entries.{Shaped, entry-shaped}
+use borrow.Rule.Slice.PartMut.{midOf, putMid}
+use Rattle.rules.specs.Memory.{over, overAt}
+use Rattle.rules.proofs.Memory.{over-tail}
+use Rattle.classes.specs.Classes.{Classes}
+use Rattle.classes.specs.Expansion.{size}
+use Rattle.classes.specs.Ordinal.{choiceAt}
+use Rattle.classes.proofs.Ordinal.{choice-long}
+use Rattle.image.specs.Image.{valid, totalOf}
+use Rattle.image.proofs.Literals.{LiteralShaped, total-is, literals-shaped}
 use Rattle.reading.specs.Fitting.{Str}
 use Rattle.tables.specs.Words.{rowSize}
 use Rattle.side.specs.Patterns.{maxPattern}
 use Rattle.side.specs.Wrote.{Wrote}
 use Rattle.side.proofs.Writing.{both, copied}
-use Rattle.build.specs.Sides.{patternIn}
+use Rattle.literals.specs.Places.{literalEntry}
+use Rattle.build.specs.Sides.{Put, patternIn}
 
 -- ---- strings that are reversed
 
@@ -72,47 +80,66 @@ low-reverse : (s t : Str) → Low s → Low t → Low (reverseAux s t)
 low-reverse [] t a b = b
 low-reverse (c ∷ s) t a b = low-reverse s (c ∷ t) (λ j. a (suc j)) (low-cons c t (a zero) b)
 
--- ---- the pattern of a rule
+-- ---- the pattern of a literal rule
 
-module _ (d : List ℕ) (p : ℕ) (xs : List ℕ) (a : ℕ) (right : Bool) where
-  -- n symbols, which are the pattern's, are laid from a on
-  abbrev pub Put : ℕ → List ℕ → Type 0
-  Put n ys = (n ≡ length (patternIn d right p)) × Wrote xs a n (λ k. getD (patternIn d right p) k 0) ys
+-- s laid over memory
+over-paste : (a : ℕ) (s xs : List ℕ) → overAt a s xs ≡ paste xs a s (length s)
+over-paste a s xs =
+    ap (λ (w : List ℕ). take a xs ++ (s ++ w)) (drop-drop (length s) a xs)
+    ∙ (sym (append-assoc (take a xs) s (drop (a + length s) xs)) ∙ ap (λ (w : List ℕ). take a xs ++ w ++ drop (a + length s) xs) (sym (take-all (length s) s (omega arith))))
 
-  pub put-left : (s ys : List ℕ) → right ≡ false → s ≡ entryAt d p .rule .left → a + length s ≤ length xs → ys ≡ paste xs a s (length s) → Put (length s) ys
-  put-left s ys r e h f =
-      let g : s ≡ patternIn d right p = e ∙ ap (λ (b : Bool). patternIn d b p) (sym r) in
-      (ap length g, subst (λ (x : Str). Wrote xs a (length s) (λ k. getD x k 0) ys) g (copied xs a s h ys f))
+pub put-over : (xs : List ℕ) (a : ℕ) (s : Str) (n : ℕ) → n ≡ length s → a + length s ≤ length xs → (ys : List ℕ) → ys ≡ overAt a s xs → Put xs a s n ys
+put-over xs a s n e h ys f =
+    (e, subst (λ (m : ℕ). Wrote xs a m (λ k. getD s k 0) ys) (sym e) (copied xs a s h ys (f ∙ over-paste a s xs)))
 
-  pub put-right : {ys zs : List ℕ} (s t : List ℕ) → right ≡ true → s ≡ entryAt d p .rule .target → t ≡ entryAt d p .rule .right
-      → Wrote xs a (length t) (λ k. getD (reverse t) k 0) ys → Wrote ys (a + length t) (length s) (λ k. getD (reverse s) k 0) zs → Put (length t + length s) zs
-  put-right {ys} {zs} s t r e f v w =
-      let g : reverse (s ++ t) ≡ patternIn d right p =
-      ap (λ (x : Str). reverse (x ++ t)) e ∙ ap (λ (x : Str). reverse (entryAt d p .rule .target ++ x)) f ∙ ap (λ (b : Bool). patternIn d b p) (sym r) in
-      (sym (joined-length s t) ∙ ap length g, subst (λ (x : Str). Wrote xs a (length t + length s) (λ k. getD x k 0) zs) g (joined s t v w))
+-- the choice of a run that a call has laid over memory from a on
+pub put-choice : (k : Classes) (s : Str) → 1 ≤ size k s → (xs : List ℕ) (a : ℕ) → a + length s ≤ length xs → (q j : ℕ) → q ≡ j
+    → (z : List ℕ) → z ≡ over (choiceAt k s q) (midOf a (length xs - a) xs) → Put xs a (choiceAt k s j) (length s) (putMid a (length xs - a) xs z)
+put-choice k s ok xs a h q j e z f =
+    put-over xs a (choiceAt k s j) (length s) (sym (choice-long k s j ok)) (omega (arith, choice-long k s j ok)) _
+    (over-tail (choiceAt k s j) xs z a (f ∙ ap (λ (n : ℕ). over (choiceAt k s n) (midOf a (length xs - a) xs)) e))
 
-module _ (d : List ℕ) (ok : valid d ≡ true) (p : ℕ) (h : p < countOf d) where
-  shape : Shaped (entryAt d p .rule)
-  shape = entry-shaped d ok p h
+-- t reversed, which has m symbols, then s reversed
+pub put-both : {xs ys zs : List ℕ} {a : ℕ} (s t : Str) (m : ℕ) → m ≡ length t → Wrote xs a m (λ k. getD (reverse t) k 0) ys
+    → Wrote ys (a + m) (length s) (λ k. getD (reverse s) k 0) zs → Put xs a (reverse (s ++ t)) (m + length s) zs
+put-both {xs} {ys} {zs} {a} s t m e v w =
+    let n : m + length s ≡ length t + length s = ap (λ (x : ℕ). x + length s) e in (
+      n ∙ sym (joined-length s t),
+      subst (λ (x : ℕ). Wrote xs a x (λ k. getD (reverse (s ++ t)) k 0) zs) (sym n)
+          (joined s t (subst (λ (x : ℕ). Wrote xs a x (λ k. getD (reverse t) k 0) ys) e v) (subst (λ (x : ℕ). Wrote ys (a + x) (length s) (λ k. getD (reverse s) k 0) zs) e w)),
+    )
 
-  pub left-most : length (entryAt d p .rule .left) ≤ maxContext
+-- what is laid is the pattern of the literal rule at p
+module _ {xs ys : List ℕ} {a n : ℕ} (d : List ℕ) (right : Bool) (p : ℕ) where
+  pub put-left : right ≡ false → (s : Str) → s ≡ literalEntry d p .rule .left → Put xs a s n ys → Put xs a (patternIn d right p) n ys
+  put-left e s f = subst (λ (x : Str). Put xs a x n ys) (f ∙ ap (λ (b : Bool). patternIn d b p) (sym e))
+
+  pub put-right : right ≡ true → (s t : Str) → s ≡ literalEntry d p .rule .target → t ≡ literalEntry d p .rule .right → Put xs a (reverse (s ++ t)) n ys
+      → Put xs a (patternIn d right p) n ys
+  put-right e s t f g = subst (λ (x : Str). Put xs a x n ys) (ap₂ (λ (x y : Str). reverse (x ++ y)) f g ∙ ap (λ (b : Bool). patternIn d b p) (sym e))
+
+module _ (d : List ℕ) (ok : valid d ≡ true) (p : ℕ) (h : p < totalOf d) where
+  shape : LiteralShaped (literalEntry d p .rule)
+  shape = literals-shaped d ok p (omega (arith, total-is d ok))
+
+  pub left-most : length (literalEntry d p .rule .left) ≤ maxContext
   left-most = shape .left-most
 
-  pub target-most : length (entryAt d p .rule .target) ≤ maxTarget
+  pub target-most : length (literalEntry d p .rule .target) ≤ maxTarget
   target-most = shape .target-most
 
-  pub right-most : length (entryAt d p .rule .right) ≤ maxContext
+  pub right-most : length (literalEntry d p .rule .right) ≤ maxContext
   right-most = shape .right-most
 
   -- how many symbols the patterns of both sides have
   pub long : (right : Bool) → length (patternIn d right p) ≤ maxPattern
-  long true = omega (arith, joined-length (entryAt d p .rule .target) (entryAt d p .rule .right), target-most, right-most)
+  long true = omega (arith, joined-length (literalEntry d p .rule .target) (literalEntry d p .rule .right), target-most, right-most)
   long false = omega (arith, left-most)
 
   pub both-long : length (patternIn d false p) + length (patternIn d true p)
-      ≡ length (entryAt d p .rule .left) + length (entryAt d p .rule .target) + length (entryAt d p .rule .right)
-  both-long = omega (arith, joined-length (entryAt d p .rule .target) (entryAt d p .rule .right))
+      ≡ length (literalEntry d p .rule .left) + length (literalEntry d p .rule .target) + length (literalEntry d p .rule .right)
+  both-long = omega (arith, joined-length (literalEntry d p .rule .target) (literalEntry d p .rule .right))
 
   pub small : (right : Bool) → Low (patternIn d right p)
   small false = shape .left-symbols
-  small true = low-reverse (entryAt d p .rule .target ++ entryAt d p .rule .right) [] (low-append (entryAt d p .rule .target) (entryAt d p .rule .right) (shape .target-symbols) (shape .right-symbols)) (λ k. omega arith)
+  small true = low-reverse (literalEntry d p .rule .target ++ literalEntry d p .rule .right) [] (low-append (literalEntry d p .rule .target) (literalEntry d p .rule .right) (shape .target-symbols) (shape .right-symbols)) (λ k. omega arith)

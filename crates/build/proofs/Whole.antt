@@ -11,7 +11,7 @@ use borrow.Author.Tests.{le-leb, lt-leb}
 use Rattle.rules.specs.Memory.{over}
 use Rattle.rules.specs.Shape.{Entry}
 use Rattle.rules.specs.Refusals.{accepted, declined}
-use Rattle.image.specs.Image.{valid, entriesOf, countOf}
+use Rattle.image.specs.Image.{valid, literalsOf, totalOf}
 use Rattle.reading.specs.Fitting.{Str, ends}
 use Rattle.tables.specs.States.{states}
 use Rattle.tables.specs.Tables.{Table, at, tableOf}
@@ -39,9 +39,9 @@ sets-are f rules =
     tab-ext (setSize * length (states (map f rules))) _ _
     (λ k. word-ext (holds (map f rules) (getD (states (map f rules)) (k / setSize) [])) (tableOf f rules .holds (k / setSize)) (k % setSize) (λ b l. at-map (λ x. ends x (getD (states (map f rules)) (k / setSize) [])) f rules (64 * (k % setSize) + b)))
 
--- n is the number of rules, and their patterns are laid
-module _ (d : List ℕ) (right : Bool) (ps ls : List ℕ) (n : ℕ) (e : n ≡ countOf d) (a : Laid d right ps ls) where
-  are-n : patternsOf ps ls n ≡ map (sideOf right) (entriesOf d)
+-- n is the number of literal rules, and their patterns are laid
+module _ (d : List ℕ) (right : Bool) (ps ls : List ℕ) (n : ℕ) (e : n ≡ totalOf d) (a : Laid d right ps ls) where
+  are-n : patternsOf ps ls n ≡ map (sideOf right) (literalsOf d)
   are-n = ap (patternsOf ps ls) e ∙ a .are
 
   pub side-count : stateCount ps ls n ≡ sideTable d right .count
@@ -57,7 +57,7 @@ module _ (d : List ℕ) (right : Bool) (ps ls : List ℕ) (n : ℕ) (e : n ≡ c
   side-rows = ap sideRows are-n
 
   pub side-sets : sideSets (patternsOf ps ls n) ≡ setsOf (sideTable d right)
-  side-sets = ap sideSets are-n ∙ sets-are (sideOf right) (entriesOf d)
+  side-sets = ap sideSets are-n ∙ sets-are (sideOf right) (literalsOf d)
 
 pub rows-length : (t : Table) → length (rowsOf t) ≡ rowSize * t .count
 rows-length t = length-tab (rowSize * t .count) _
@@ -68,36 +68,36 @@ sets-length t = length-tab (setSize * t .count) _
 -- ---- both sides
 
 module _ (d : List ℕ) (l r : ℕ) (el : l ≡ sideTable d false .count) (er : r ≡ sideTable d true .count) where
-  pub words-are : l ∷ r ∷ (rowsOf (sideTable d false) ++ rowsOf (sideTable d true)) ≡ builtWords (entriesOf d)
+  pub words-are : l ∷ r ∷ (rowsOf (sideTable d false) ++ rowsOf (sideTable d true)) ≡ builtWords (literalsOf d)
   unfolding builtWords
   words-are = ap₂ (λ (x y : ℕ). x ∷ y ∷ (rowsOf (sideTable d false) ++ rowsOf (sideTable d true))) el er
 
-  words-needed : neededWords l r ≡ wordsFor (entriesOf d)
+  words-needed : neededWords l r ≡ wordsFor (literalsOf d)
   words-needed = ap₂ neededWords el er
 
-  sets-needed : neededSets l r ≡ setsFor (entriesOf d)
+  sets-needed : neededSets l r ≡ setsFor (literalsOf d)
   sets-needed = ap₂ neededSets el er
 
   module _ (ws ss : List ℕ) where
-    pub few-words : length ws < neededWords l r → building (declined 11 (neededWords l r)) ws ss ≡ builtFrom (entriesOf d) ws ss
+    pub few-words : length ws < neededWords l r → building (declined 11 (neededWords l r)) ws ss ≡ builtFrom (literalsOf d) ws ss
     few-words h =
-        let t : leb (wordsFor (entriesOf d)) (length ws) ≡ false = lt-leb (wordsFor (entriesOf d)) (length ws) (omega (arith, words-needed)) in
+        let t : leb (wordsFor (literalsOf d)) (length ws) ≡ false = lt-leb (wordsFor (literalsOf d)) (length ws) (omega (arith, words-needed)) in
         rw t (ap (λ (n : ℕ). building (declined 11 n) ws ss) words-needed)
 
-    pub few-sets : neededWords l r ≤ length ws → length ss < neededSets l r → building (declined 12 (neededSets l r)) ws ss ≡ builtFrom (entriesOf d) ws ss
+    pub few-sets : neededWords l r ≤ length ws → length ss < neededSets l r → building (declined 12 (neededSets l r)) ws ss ≡ builtFrom (literalsOf d) ws ss
     few-sets h g =
-        let t : leb (wordsFor (entriesOf d)) (length ws) ≡ true = le-leb (wordsFor (entriesOf d)) (length ws) (omega (arith, words-needed)) in
-        let u : leb (setsFor (entriesOf d)) (length ss) ≡ false = lt-leb (setsFor (entriesOf d)) (length ss) (omega (arith, sets-needed)) in
+        let t : leb (wordsFor (literalsOf d)) (length ws) ≡ true = le-leb (wordsFor (literalsOf d)) (length ws) (omega (arith, words-needed)) in
+        let u : leb (setsFor (literalsOf d)) (length ss) ≡ false = lt-leb (setsFor (literalsOf d)) (length ss) (omega (arith, sets-needed)) in
         rw (t, u) (ap (λ (n : ℕ). building (declined 12 n) ws ss) sets-needed)
 
-pub enough : (d ws ss : List ℕ) → wordsFor (entriesOf d) ≤ length ws → setsFor (entriesOf d) ≤ length ss → (ws′ ss′ : List ℕ)
-    → ws′ ≡ over (builtWords (entriesOf d)) ws → ss′ ≡ over (builtSets (entriesOf d)) ss → building accepted ws′ ss′ ≡ builtFrom (entriesOf d) ws ss
+pub enough : (d ws ss : List ℕ) → wordsFor (literalsOf d) ≤ length ws → setsFor (literalsOf d) ≤ length ss → (ws′ ss′ : List ℕ)
+    → ws′ ≡ over (builtWords (literalsOf d)) ws → ss′ ≡ over (builtSets (literalsOf d)) ss → building accepted ws′ ss′ ≡ builtFrom (literalsOf d) ws ss
 enough d ws ss h g ws′ ss′ e f =
-    let t : leb (wordsFor (entriesOf d)) (length ws) ≡ true = le-leb (wordsFor (entriesOf d)) (length ws) h in
-    let u : leb (setsFor (entriesOf d)) (length ss) ≡ true = le-leb (setsFor (entriesOf d)) (length ss) g in
+    let t : leb (wordsFor (literalsOf d)) (length ws) ≡ true = le-leb (wordsFor (literalsOf d)) (length ws) h in
+    let u : leb (setsFor (literalsOf d)) (length ss) ≡ true = le-leb (setsFor (literalsOf d)) (length ss) g in
     rw (t, u) (ap₂ (λ (x y : List ℕ). building accepted x y) e f)
 
-pub sets-built : (d : List ℕ) → setsOf (sideTable d false) ++ setsOf (sideTable d true) ≡ builtSets (entriesOf d)
+pub sets-built : (d : List ℕ) → setsOf (sideTable d false) ++ setsOf (sideTable d true) ≡ builtSets (literalsOf d)
 unfolding builtSets
 sets-built d = refl
 
@@ -106,6 +106,6 @@ pub no-ruleset : (d ws ss : List ℕ) → valid d ≡ false → building (declin
 unfolding built
 no-ruleset d ws ss e = rw e
 
-pub is-ruleset : (d ws ss : List ℕ) → valid d ≡ true → builtFrom (entriesOf d) ws ss ≡ built d ws ss
+pub is-ruleset : (d ws ss : List ℕ) → valid d ≡ true → builtFrom (literalsOf d) ws ss ≡ built d ws ss
 unfolding built
 is-ruleset d ws ss e = rw e

@@ -1,4 +1,4 @@
--- The two sides of a ruleset's tables, and the patterns of one as they are laid out for the row filler.
+-- The two sides of a ruleset's tables, and the patterns of one as they are laid out for the row filler: those of the literal rules.
 -- Assumes nothing.
 use mathlib.Core.Path.{_≡_}
 use Prim.Native.Nat.{ℕ, _*_, _≤_, _<_}
@@ -7,24 +7,30 @@ use mathlib.Core.List.{List, map}
 use lib.ListN.{length, getD}
 use Rattle.rules.specs.Limits.{maxRules}
 use Rattle.rules.specs.Shape.{Entry}
-use Rattle.image.specs.Image.{entriesOf, entryAt, countOf}
+use Rattle.image.specs.Image.{literalsOf, totalOf}
 use Rattle.reading.specs.Fitting.{Str}
 use Rattle.tables.specs.States.{rightStates}
 use Rattle.tables.specs.Words.{rowSize}
 use Rattle.tables.specs.Tables.{Table, tableOf, leftPattern, rightPattern}
 use Rattle.side.specs.Patterns.{maxPattern, patternsOf, Patterns}
+use Rattle.side.specs.Wrote.{Wrote}
+use Rattle.literals.specs.Places.{literalEntry}
 
 -- the right pattern of a rule, or the left
 abbrev pub sideOf : Bool → Entry → Str
 sideOf true = rightPattern
 sideOf false = leftPattern
 
--- the pattern of the rule at a place
+-- the pattern of the literal rule at a place
 abbrev pub patternIn : List ℕ → Bool → ℕ → Str
-patternIn image right place = sideOf right (entryAt image place)
+patternIn image right place = sideOf right (literalEntry image place)
 
 abbrev pub sideTable : List ℕ → Bool → Table
-sideTable image right = tableOf (sideOf right) (entriesOf image)
+sideTable image right = tableOf (sideOf right) (literalsOf image)
+
+-- n symbols, which are s, are laid from a on
+abbrev pub Put : List ℕ → ℕ → Str → ℕ → List ℕ → Type 0
+Put xs a s n ys = (n ≡ length s) × Wrote xs a n (λ k. getD s k 0) ys
 
 -- Scratch memory for the patterns of one side: whatever symbols it holds.
 pub record Scratch (ps ls : List ℕ) : Type 0 where
@@ -35,8 +41,8 @@ pub record Scratch (ps ls : List ℕ) : Type 0 where
 -- the patterns of a side lie in it
 pub record Laid (image : List ℕ) (right : Bool) (ps ls : List ℕ) : Type 0 where
   pub scratch : Scratch ps ls
-  pub ok : Patterns ps ls (countOf image)
-  pub are : patternsOf ps ls (countOf image) ≡ map (sideOf right) (entriesOf image)
+  pub ok : Patterns ps ls (totalOf image)
+  pub are : patternsOf ps ls (totalOf image) ≡ map (sideOf right) (literalsOf image)
 
 -- the states of a side are counted
 pub record Counted (image : List ℕ) (right : Bool) (r : ℕ) (ps ls : List ℕ) : Type 0 where

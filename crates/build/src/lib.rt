@@ -2,18 +2,21 @@
 use rules::Answer;
 use rules::Refusal;
 ghost use mathlib.Core.Path.{_≡_};
-ghost use Prim.Native.Nat.{_+_, _*_, _≤_, _<_};
+ghost use Prim.Native.Nat.{_+_, _*_, _/_, _≤_, _<_};
 ghost use mathlib.Core.Bool.{true, false};
-ghost use mathlib.Core.List.{reverse};
+ghost use mathlib.Core.List.{_++_, reverse};
 ghost use lib.ListN.{length, getD};
 ghost use Rattle.rules.specs.Memory.{over};
 ghost use Rattle.rules.specs.Refusals.{replyOf};
-ghost use Rattle.image.specs.Image.{valid, entriesOf, countOf};
+ghost use Rattle.classes.specs.Expansion.{size};
+ghost use Rattle.classes.specs.Masks.{masksSize, classesIn};
+ghost use Rattle.classes.specs.Ordinal.{choiceAt};
+ghost use Rattle.image.specs.Image.{valid, totalOf, literalsOf};
 ghost use Rattle.tables.specs.States.{leftStates, rightStates};
 ghost use Rattle.tables.specs.Words.{rowSize, setSize, rowsOf, setsOf, builtWords, builtSets, wordsFor, setsFor, building, builtFrom, built};
 ghost use Rattle.side.specs.Patterns.{maxPattern};
 ghost use Rattle.side.specs.Wrote.{Wrote};
-ghost use Rattle.build.specs.Sides.{patternIn, sideTable, Scratch, Laid, Counted};
+ghost use Rattle.build.specs.Sides.{Put, patternIn, sideTable, Scratch, Laid, Counted};
 
 // ---- the patterns of a side
 
@@ -30,27 +33,71 @@ fn put_reversed(pats: &mut [u8], at: usize, s: &[u8])
     }
 }
 
-// The pattern of a rule is stored from `at` on: its left context, or its target and right context from their end on. Gives its length.
-fn put_pattern(pats: &mut [u8], at: usize, image: &[u8], place: usize, right: bool) -> usize
-    requires { ⌜ (valid (now image) ≡ true) × (place < countOf (now image)) × (at + maxPattern ≤ length (now pats)) ⌝ }
-    ensures { λ r. ⌜ (r ≡ length (patternIn (now (image .entry)) right place)) × Wrote (now (pats .entry)) at r (λ k. getD (patternIn (now (image .entry)) right place) k 0) (now (pats .exit)) ⌝ }
+// Choice `j` of a run of symbols is stored from `at` on, the last letter first.
+fn put_choice_reversed(pats: &mut [u8], at: usize, masks: &[u8], run: &[u8], j: usize)
+    requires { ⌜ (masksSize ≤ length (now masks)) × (1 ≤ size (classesIn (now masks)) (now run)) × (at + length (now run) ≤ length (now pats)) ⌝ }
+    ensures { λ _. ⌜ Wrote (now (pats .entry)) at (length (now (run .entry))) (λ k. getD (reverse (choiceAt (classesIn (now (masks .entry))) (now (run .entry)) j)) k 0) (now (pats .exit)) ⌝ }
 {
+    let n = run.len();
+    let mut q = j;
+    let mut k: usize = 0;
+    while k < n {
+        let symbol = run[n - 1 - k];
+        pats[at + k] = classes::symbols::letter_round(masks, symbol, q);
+        q = classes::symbols::rest_after(masks, symbol, q);
+        k += 1;
+    }
+}
+
+// The left context of literal rule `j` of a rule with these contexts is stored from `at` on. Gives its length.
+fn put_left(pats: &mut [u8], at: usize, masks: &[u8], left: &[u8], right: &[u8], j: usize) -> usize
+    requires { ⌜ (masksSize ≤ length (now masks)) × (1 ≤ size (classesIn (now masks)) (now left)) × (1 ≤ size (classesIn (now masks)) (now right)) × (at + length (now left) ≤ length (now pats)) ⌝ }
+    ensures { λ r. ⌜ Put (now (pats .entry)) at (choiceAt (classesIn (now (masks .entry))) (now (left .entry)) (j / size (classesIn (now (masks .entry))) (now (right .entry)))) r (now (pats .exit)) ⌝ }
+{
+    let q = classes::ordinals::rest_of(masks, right, j);
+    classes::ordinals::put_choice(masks, left, q, &mut pats[at..]);
+    left.len()
+}
+
+// The target and the right context of literal rule `j` are stored from `at` on, from their end on. Gives their length.
+fn put_right(
+    pats: &mut [u8],
+    at: usize,
+    masks: &[u8],
+    target: &[u8],
+    right: &[u8],
+    j: usize,
+) -> usize
+    requires { ⌜ (masksSize ≤ length (now masks)) × (1 ≤ size (classesIn (now masks)) (now right)) × (at + length (now right) + length (now target) ≤ length (now pats)) ⌝ }
+    ensures { λ r. ⌜ Put (now (pats .entry)) at (reverse (now (target .entry) ++ choiceAt (classesIn (now (masks .entry))) (now (right .entry)) j)) r (now (pats .exit)) ⌝ }
+{
+    let n = right.len();
+    put_choice_reversed(pats, at, masks, right, j);
+    put_reversed(pats, at + n, target);
+    n + target.len()
+}
+
+// The pattern of a literal rule is stored from `at` on: its left context, or its target and right context from their end on. Gives its
+// length.
+fn put_pattern(pats: &mut [u8], at: usize, image: &[u8], p: usize, right: bool) -> usize
+    requires { ⌜ (valid (now image) ≡ true) × (p < totalOf (now image)) × (at + maxPattern ≤ length (now pats)) ⌝ }
+    ensures { λ r. ⌜ Put (now (pats .entry)) at (patternIn (now (image .entry)) right p) r (now (pats .exit)) ⌝ }
+{
+    let place = image::table::owner_at(image, p);
+    let j = image::table::ordinal_at(image, p);
+    let masks = image::class_bytes::masks(image);
+    let after = image::right_at(image, place);
     if right {
-        let after = image::right_at(image, place);
         let target = image::target_at(image, place);
-        let n = after.len();
-        put_reversed(pats, at, after);
-        put_reversed(pats, at + n, target);
-        return n + target.len();
+        return put_right(pats, at, masks, target, after, j);
     }
     let left = image::left_at(image, place);
-    image::put(pats, at, left);
-    left.len()
+    put_left(pats, at, masks, left, after, j)
 }
 
 // Pattern i is laid from PATTERN i on, and its length is lens[i].
 fn patterns(image: &[u8], n: usize, right: bool, pats: &mut [u8], lens: &mut [u8])
-    requires { ⌜ (valid (now image) ≡ true) × (n ≡ countOf (now image)) × Scratch (now pats) (now lens) ⌝ }
+    requires { ⌜ (valid (now image) ≡ true) × (n ≡ totalOf (now image)) × Scratch (now pats) (now lens) ⌝ }
     ensures { λ _. ⌜ Laid (now (image .entry)) right (now (pats .exit)) (now (lens .exit)) ⌝ }
 {
     let mut i: usize = 0;
@@ -65,7 +112,7 @@ fn patterns(image: &[u8], n: usize, right: bool, pats: &mut [u8], lens: &mut [u8
 
 // How many states a side has.
 fn count_side(image: &[u8], n: usize, right: bool, pats: &mut [u8], lens: &mut [u8]) -> usize
-    requires { ⌜ (valid (now image) ≡ true) × (n ≡ countOf (now image)) × Scratch (now pats) (now lens) ⌝ }
+    requires { ⌜ (valid (now image) ≡ true) × (n ≡ totalOf (now image)) × Scratch (now pats) (now lens) ⌝ }
     ensures { λ r. ⌜ Counted (now (image .entry)) right r (now (pats .exit)) (now (lens .exit)) ⌝ }
 {
     patterns(image, n, right, pats, lens);
@@ -82,7 +129,7 @@ fn fill_part(
     rows: &mut [u16],
     sets: &mut [u64],
 ) -> usize
-    requires { ⌜ (valid (now image) ≡ true) × (n ≡ countOf (now image)) × (rowSize * sideTable (now image) right .count ≤ length (now rows)) × (setSize * sideTable (now image) right .count ≤ length (now sets)) × Scratch (now pats) (now lens) ⌝ }
+    requires { ⌜ (valid (now image) ≡ true) × (n ≡ totalOf (now image)) × (rowSize * sideTable (now image) right .count ≤ length (now rows)) × (setSize * sideTable (now image) right .count ≤ length (now sets)) × Scratch (now pats) (now lens) ⌝ }
     ensures rows { λ _. ⌜ now (rows .exit) ≡ over (rowsOf (sideTable (now (image .entry)) right)) (now (rows .entry)) ⌝ }
     ensures sets { λ _. ⌜ now (sets .exit) ≡ over (setsOf (sideTable (now (image .entry)) right)) (now (sets .entry)) ⌝ }
     ensures count { λ r. ⌜ Counted (now (image .entry)) right r (now (pats .exit)) (now (lens .exit)) ⌝ }
@@ -102,9 +149,9 @@ fn fill(
     words: &mut [u16],
     sets: &mut [u64],
 )
-    requires { ⌜ (valid (now image) ≡ true) × (n ≡ countOf (now image)) × (wordsFor (entriesOf (now image)) ≤ length (now words)) × (setsFor (entriesOf (now image)) ≤ length (now sets)) × Scratch (now pats) (now lens) ⌝ }
-    ensures words { λ _. ⌜ now (words .exit) ≡ over (builtWords (entriesOf (now (image .entry)))) (now (words .entry)) ⌝ }
-    ensures sets { λ _. ⌜ now (sets .exit) ≡ over (builtSets (entriesOf (now (image .entry)))) (now (sets .entry)) ⌝ }
+    requires { ⌜ (valid (now image) ≡ true) × (n ≡ totalOf (now image)) × (wordsFor (literalsOf (now image)) ≤ length (now words)) × (setsFor (literalsOf (now image)) ≤ length (now sets)) × Scratch (now pats) (now lens) ⌝ }
+    ensures words { λ _. ⌜ now (words .exit) ≡ over (builtWords (literalsOf (now (image .entry)))) (now (words .entry)) ⌝ }
+    ensures sets { λ _. ⌜ now (sets .exit) ≡ over (builtSets (literalsOf (now (image .entry)))) (now (sets .entry)) ⌝ }
 {
     let l = fill_part(
         image,
@@ -124,15 +171,16 @@ fn fill(
 
 // No fewer than the states of both sides: each has one for the empty string, and each symbol of a pattern gives one at most.
 fn most_states(image: &[u8], n: usize) -> usize
-    requires { ⌜ (valid (now image) ≡ true) × (n ≡ countOf (now image)) ⌝ }
+    requires { ⌜ (valid (now image) ≡ true) × (n ≡ totalOf (now image)) ⌝ }
     ensures { λ r. ⌜ (sideTable (now (image .entry)) false .count + sideTable (now (image .entry)) true .count ≤ r) × (r ≤ leftStates + rightStates) ⌝ }
 {
     let mut most: usize = 2;
     let mut i: usize = 0;
     while i < n {
-        let left = image::left_at(image, i);
-        let target = image::target_at(image, i);
-        let right = image::right_at(image, i);
+        let place = image::table::owner_at(image, i);
+        let left = image::left_at(image, place);
+        let target = image::target_at(image, place);
+        let right = image::right_at(image, place);
         most += left.len() + target.len() + right.len();
         i += 1;
     }
@@ -148,8 +196,8 @@ fn build_counted(
     words: &mut [u16],
     sets: &mut [u64],
 ) -> Answer
-    requires { ⌜ (valid (now image) ≡ true) × (n ≡ countOf (now image)) × Scratch (now pats) (now lens) ⌝ }
-    ensures { λ r. ⌜ building (replyOf r) (now (words .exit)) (now (sets .exit)) ≡ builtFrom (entriesOf (now (image .entry))) (now (words .entry)) (now (sets .entry)) ⌝ }
+    requires { ⌜ (valid (now image) ≡ true) × (n ≡ totalOf (now image)) × Scratch (now pats) (now lens) ⌝ }
+    ensures { λ r. ⌜ building (replyOf r) (now (words .exit)) (now (sets .exit)) ≡ builtFrom (literalsOf (now (image .entry))) (now (words .entry)) (now (sets .entry)) ⌝ }
 {
     let l = count_side(image, n, false, pats, lens);
     let r = count_side(image, n, true, pats, lens);
@@ -175,9 +223,9 @@ fn build_with(
     sets: &mut [u64],
 ) -> Answer
     requires { ⌜ (valid (now image) ≡ true) × Scratch (now pats) (now lens) ⌝ }
-    ensures { λ r. ⌜ building (replyOf r) (now (words .exit)) (now (sets .exit)) ≡ builtFrom (entriesOf (now (image .entry))) (now (words .entry)) (now (sets .entry)) ⌝ }
+    ensures { λ r. ⌜ building (replyOf r) (now (words .exit)) (now (sets .exit)) ≡ builtFrom (literalsOf (now (image .entry))) (now (words .entry)) (now (sets .entry)) ⌝ }
 {
-    let n = image::rule_count(image);
+    let n = image::table::literal_total(image);
     let most = most_states(image, n);
     if tables::HEAD + tables::ROW * most <= words.len() && tables::SET * most <= sets.len() {
         fill(image, n, pats, lens, words, sets);
@@ -190,7 +238,7 @@ fn build_with(
 // stack, and with the check of a ruleset beside them 17 KB, of the 32 KB that a call may have.
 pub fn build_valid(image: &[u8], words: &mut [u16], sets: &mut [u64]) -> Answer
     requires { ⌜ valid (now image) ≡ true ⌝ }
-    ensures { λ r. ⌜ building (replyOf r) (now (words .exit)) (now (sets .exit)) ≡ builtFrom (entriesOf (now (image .entry))) (now (words .entry)) (now (sets .entry)) ⌝ }
+    ensures { λ r. ⌜ building (replyOf r) (now (words .exit)) (now (sets .exit)) ≡ builtFrom (literalsOf (now (image .entry))) (now (words .entry)) (now (sets .entry)) ⌝ }
 {
     let mut pats = [0u8; side::PATTERN * rules::MAX_RULES];
     let mut lens = [0u8; rules::MAX_RULES];

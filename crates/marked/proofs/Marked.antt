@@ -5,7 +5,7 @@ use mathlib.Core.List.{map}
 use Rattle.rules.specs.Names.{judgedName}
 use Rattle.reading.specs.Reading.{plain}
 use Rattle.reading.specs.Words.{wordsIn}
-use Rattle.image.specs.Bits.{bit}
+use Rattle.numbers.specs.Bits.{bit}
 use Rattle.tables.specs.Words.{pack, builtWords, builtSets}
 use Rattle.tables.specs.Walk.{lowest, howMany, places, walk, usable, stepsIn, walkWord, walkThrough}
 use Rattle.marked.specs.Marked.{answer, questions, answers, severalWords, severalAnswers}

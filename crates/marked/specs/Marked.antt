@@ -6,6 +6,8 @@ use Prim.Native.Nat.{ℕ, _+_, _*_}
 use mathlib.Core.List.{List, [], _∷_, map}
 use lib.ListN.{getD}
 use Rattle.rules.specs.Shape.{Entry}
+use Rattle.classes.specs.Classes.{noClasses}
+use Rattle.classes.specs.Expansion.{expand}
 use Rattle.exceptions.specs.Judging.{noList}
 use Rattle.reading.specs.Fitting.{Str}
 use Rattle.reading.specs.Speech.{Outcome, speaks, declines, stepsOf, answered, judgedFor, phonesOf, numbersOf, contestedOf, plainWords}
@@ -29,9 +31,13 @@ sixRules =
     ∷ numberedRule 6 [] (0x0e ∷ []) [] (0x6e ∷ [])
     ∷ []
 
+-- their literal rules: the six themselves, with no class defined
+abbrev pub literalRules : List Entry
+literalRules = expand noClasses sixRules
+
 -- the compiled ruleset of the words and set words that a build of the six rules writes
 abbrev pub compiled : Compiled
-compiled = compiledFrom (builtWords sixRules) (builtSets sixRules)
+compiled = compiledFrom (builtWords literalRules) (builtSets literalRules)
 
 -- ---- what is asked
 
@@ -61,14 +67,14 @@ resultOf (speaks xs steps) = phones (phonesOf xs) (numbersOf xs) (contestedOf xs
 resultOf (declines n p steps) = refused n p
 
 abbrev byRules : Str → Outcome
-byRules name = judgedFor noList name (λ m. answered (plainWords sixRules name m) 0)
+byRules name = judgedFor noList name (λ m. answered (plainWords noClasses sixRules name m) 0)
 
 abbrev byTables : Str → Outcome
-byTables name = judgedFor noList name (walkThrough compiled sixRules name)
+byTables name = judgedFor noList name (walkThrough compiled literalRules name)
 
 abbrev pub answer : Question → Answer
 answer (spoken name) = said (resultOf (byRules name)) (resultOf (byTables name)) (stepsOf (byTables name))
-answer strings = counted (compiled .«left-states») (compiled .«right-states») (states (map rightPattern sixRules))
+answer strings = counted (compiled .«left-states») (compiled .«right-states») (states (map rightPattern literalRules))
 answer (step q c) = state (rightOf compiled .next q c)
 answer (firstWords qs) = held (map (λ q. getD (compiled .sets) (rightSets (compiled .«left-states») + setSize * q) 0) qs)
 

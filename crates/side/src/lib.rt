@@ -150,7 +150,7 @@ fn put_place(sets: &mut [u64], q: usize, i: usize)
     ensures { λ _. ⌜ Wrote (now (sets .entry)) (setSize * q + i / 64) 1 (λ _. bitOr (getD (now (sets .entry)) (setSize * q + i / 64) 0) (2 ^ (i % 64))) (now (sets .exit)) ⌝ }
 {
     let k = tables::SET * q + i / 64;
-    sets[k] = image::with_bit(sets[k], (i % 64) as u64);
+    sets[k] = numbers::with_bit(sets[k], (i % 64) as u64);
 }
 
 // The set of f goes into the set of q.

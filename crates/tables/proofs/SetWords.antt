@@ -13,7 +13,7 @@ use lib.Count.{trailingZeros, onesIn, ones, ones-step}
 use lib.Dec.{ltb}
 use lib.ListN.{getD}
 use Rattle.rules.proofs.Cases.{byBool}
-use Rattle.image.specs.Bits.{bit}
+use Rattle.numbers.specs.Bits.{bit}
 use Rattle.tables.specs.Words.{tableAt}
 use Rattle.tables.specs.Walk.{lowest, howMany, places}
 use Rattle.tables.specs.SetWords.{lowestIn, lowestFrom, onesFrom, inWords, meetWord}

@@ -13,13 +13,17 @@ use Rattle.rules.proofs.Cases.{byBool}
 use Rattle.rules.specs.Limits.{maxTarget}
 use Rattle.rules.specs.Shape.{Entry}
 use Rattle.image.specs.State.{noEntry}
-use Rattle.image.specs.Image.{entriesOf, valid, entryAt, countOf}
-use Rattle.image.proofs.Entries.{entries-length}
-use Rattle.reading.specs.Fitting.{fits}
+use Rattle.image.specs.Image.{valid, entryAt, countOf, totalOf, literalsOf, originsOf}
+use Rattle.classes.specs.Ordinal.{origin}
+use Rattle.image.proofs.Literals.{total-is}
+use Rattle.literals.specs.Places.{literalEntry}
+use Rattle.literals.proofs.Places.{literal-applied}
+use Rattle.reading.specs.Fitting.{Str, fits}
 use Rattle.reading.specs.Reading.{Application, apply, Choice, chosen, nothing, unusable, past}
 use Rattle.reading.specs.Places.{partOf, applyAt, ReadBy}
 use Rattle.reading.specs.declared.Reached.the-variants.{Rules}
-use Rattle.reading.proofs.Search.{Targets, valid-targets}
+use Rattle.reading.proofs.Search.{Targets}
+use Rattle.reading.proofs.Expansion.{literals-targets}
 use Rattle.reading.proofs.Loop.{Going, going-begin}
 use Rattle.reading.proofs.Plain.{going-part, read-none, read-unusable, read-end}
 use Rattle.tables.specs.Words.{setSize}
@@ -52,26 +56,31 @@ lookup-in t n (r ∷ rs) (suc p) h = lookup-in t n rs p (le-of-suc-le-suc h)
 module _ (image ss : List ℕ) (s t : ℕ) (f : List ℕ) (i : ℕ) where
   pub none-shared : lowestShared ss s t ≡ none → choiceBy image ss s t f i ≡ nothing
   unfolding choiceBy
-  none-shared e = ap (lookup (λ r. fits (r .rule) f i) (countShared ss s t) (entriesOf image)) e
+  none-shared e = ap (lookup (λ r. fits (r .rule) f i) (countShared ss s t) (literalsOf image)) e
 
-  module _ (p : ℕ) (e : lowestShared ss s t ≡ some p) where
-    pub place-past : countOf image ≤ p → choiceBy image ss s t f i ≡ unusable
+  module _ (ok : valid image ≡ true) (p : ℕ) (e : lowestShared ss s t ≡ some p) where
+    pub place-past : totalOf image ≤ p → choiceBy image ss s t f i ≡ unusable
     unfolding choiceBy
     place-past h =
-        ap (lookup (λ r. fits (r .rule) f i) (countShared ss s t) (entriesOf image)) e
-        ∙ lookup-past (λ r. fits (r .rule) f i) (countShared ss s t) (entriesOf image) p (omega (arith, entries-length image))
+        ap (lookup (λ r. fits (r .rule) f i) (countShared ss s t) (literalsOf image)) e
+        ∙ lookup-past (λ r. fits (r .rule) f i) (countShared ss s t) (literalsOf image) p (omega (arith, total-is image ok))
 
-    place-in : p < countOf image → choiceBy image ss s t f i ≡ cond (fits (entryAt image p .rule) f i) (chosen (apply (countShared ss s t) (entryAt image p))) unusable
-    unfolding choiceBy
-    place-in h =
-        ap (lookup (λ r. fits (r .rule) f i) (countShared ss s t) (entriesOf image)) e
-        ∙ lookup-in (λ r. fits (r .rule) f i) (countShared ss s t) (entriesOf image) p (omega (arith, entries-length image))
+    module _ (h : p < totalOf image) where
+      place-in : choiceBy image ss s t f i ≡ cond (fits (literalEntry image p .rule) f i) (chosen (apply (countShared ss s t) (literalEntry image p))) unusable
+      unfolding choiceBy
+      place-in =
+          ap (lookup (λ r. fits (r .rule) f i) (countShared ss s t) (literalsOf image)) e
+          ∙ lookup-in (λ r. fits (r .rule) f i) (countShared ss s t) (literalsOf image) p (omega (arith, total-is image ok))
 
-    pub place-unfit : p < countOf image → fits (entryAt image p .rule) f i ≡ false → choiceBy image ss s t f i ≡ unusable
-    place-unfit h q = place-in h ∙ ap (λ (b : Bool). cond b (chosen (apply (countShared ss s t) (entryAt image p))) unusable) q
+      pub place-unfit : fits (literalEntry image p .rule) f i ≡ false → choiceBy image ss s t f i ≡ unusable
+      place-unfit q = place-in ∙ ap (λ (b : Bool). cond b (chosen (apply (countShared ss s t) (literalEntry image p))) unusable) q
 
-    pub place-fits : p < countOf image → fits (entryAt image p .rule) f i ≡ true → choiceBy image ss s t f i ≡ chosen (apply (countShared ss s t) (entryAt image p))
-    place-fits h q = place-in h ∙ ap (λ (b : Bool). cond b (chosen (apply (countShared ss s t) (entryAt image p))) unusable) q
+      -- the numbered rule at o is applied
+      pub place-fits : fits (literalEntry image p .rule) f i ≡ true → (o : ℕ) → o ≡ getD (originsOf image) p (origin 0 0) .place
+          → choiceBy image ss s t f i ≡ chosen (apply (countShared ss s t) (entryAt image o))
+      place-fits q o u =
+          place-in ∙ (ap (λ (b : Bool). cond b (chosen (apply (countShared ss s t) (literalEntry image p))) unusable) q
+          ∙ ap chosen (literal-applied image ok p h o u (countShared ss s t)))
 
 -- ---- the loop of reading, `Going`, with these choices
 
@@ -81,15 +90,15 @@ lookup-past-target t n rs h none i a e = let z : _≡_ {A = ℕ} 0 1 = cc in abs
 lookup-past-target t n rs h (some p) i a e =
     go (decLe (length rs) p)
   where
-    on : getD rs p noEntry ≡ a .entry → p < length rs → i < past i a
-    on q l = let g : 0 < length (a .entry .rule .target) = subst (λ (y : Entry). 0 < length (y .rule .target)) q (h p l) in omega arith
+    on : getD rs p noEntry .rule .target ≡ a .target → p < length rs → i < past i a
+    on q l = let g : 0 < length (a .target) = subst (λ (y : Str). 0 < length y) q (h p l) in omega arith
 
     go : Dec (length rs ≤ p) → i < past i a
     go (yes y) = let x : unusable ≡ chosen a = sym (lookup-past t n rs p y) ∙ e in let z : _≡_ {A = ℕ} 0 1 = cc in absurd (omega arith)
     go (no y) =
         byBool (t (getD rs p noEntry))
         (λ b. let x : chosen (apply n (getD rs p noEntry)) ≡ chosen a = sym (lookup-in t n rs p (omega arith) ∙ rw b) ∙ e in
-        let q : getD rs p noEntry ≡ a .entry = cc in on q (omega arith))
+        let q : getD rs p noEntry .rule .target ≡ a .target = cc in on q (omega arith))
         (λ b. let x : unusable ≡ chosen a = sym (lookup-in t n rs p (omega arith) ∙ rw b) ∙ e in let z : _≡_ {A = ℕ} 0 1 = cc in absurd (omega arith))
 
 module _ (image ss : List ℕ) (base : ℕ) (left right f : List ℕ) where
@@ -109,7 +118,7 @@ module _ (image ss : List ℕ) (base : ℕ) (left right f : List ℕ) (ok : vali
 
   ahead : (i : ℕ) (a : Application) → made i ≡ chosen a → i < past i a
   unfolding choiceBy
-  ahead i a e = lookup-past-target (λ q. fits (q .rule) f i) _ (entriesOf image) (valid-targets image ok) (lowestShared ss (setSize * getD left i 0) (base + setSize * getD right i 0)) i a e
+  ahead i a e = lookup-past-target (λ q. fits (q .rule) f i) _ (literalsOf image) (literals-targets image ok) (lowestShared ss (setSize * getD left i 0) (base + setSize * getD right i 0)) i a e
 
   pub begin : (parts : List ℕ) → length f - 2 ≤ length parts → Read parts 0 1
   begin = going-begin made (length f - 2) ahead (applyAt image) (countOf image)

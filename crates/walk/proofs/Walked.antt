@@ -13,7 +13,7 @@ use borrow.Author.Tests.{ltb-false, ltb-true, leb-true, le-leb, lt-ltb}
 use Rattle.rules.proofs.Cases.{byBool, and-l, and-r}
 use Rattle.rules.specs.Names.{SoundName}
 use Rattle.exceptions.specs.Judging.{saysOf}
-use Rattle.image.specs.Image.{entriesOf}
+use Rattle.image.specs.Image.{literalsOf}
 use Rattle.reading.specs.Fitting.{Str, frame, fits}
 use Rattle.reading.specs.Reading.{Choice, chosen, nothing, unusable, applied, Reading, cons, past, onward, readFrom}
 use Rattle.reading.specs.Words.{Word, wordsIn, readWords, unlisted, wordAt}
@@ -98,18 +98,18 @@ module _ (ws ss : List ℕ) (l r : ℕ) (f : List ℕ) (n : ℕ) where
   -- the states at position i choose as the walk does
   choice-is : (image left right : List ℕ) (i : ℕ) → getD left i 0 ≡ leftAt (leftRowsOf ws l) (rightRowsOf ws l r) f n i .state
       → getD right i 0 ≡ rightAt (leftRowsOf ws l) (rightRowsOf ws l r) f n i .state
-      → choicesBy image ss (rightSets l) left right f i ≡ walkChoice tl tr f n (entriesOf image) i
+      → choicesBy image ss (rightSets l) left right f i ≡ walkChoice tl tr f n (literalsOf image) i
   unfolding choiceBy
   choice-is image left right i a b =
       let x : getD left i 0 ≡ leftAt tl tr f n i .state = a ∙ ap (λ (s : State). s .state) (left-same i) in
       let y : getD right i 0 ≡ rightAt tl tr f n i .state = b ∙ ap (λ (s : State). s .state) (right-same i) in
       let z : setSize * getD left i 0 ≡ 0 + setSize * getD left i 0 = omega arith in
-      ap (λ (k : ℕ). lookup (λ e. fits (e .rule) f i) (countShared ss k (rightSets l + setSize * getD right i 0)) (entriesOf image) (lowestShared ss k (rightSets l + setSize * getD right i 0))) z
-      ∙ (sym (ap₂ (λ (n : ℕ) (o : Option ℕ). lookup (λ e. fits (e .rule) f i) n (entriesOf image) o)
+      ap (λ (k : ℕ). lookup (λ e. fits (e .rule) f i) (countShared ss k (rightSets l + setSize * getD right i 0)) (literalsOf image) (lowestShared ss k (rightSets l + setSize * getD right i 0))) z
+      ∙ (sym (ap₂ (λ (n : ℕ) (o : Option ℕ). lookup (λ e. fits (e .rule) f i) n (literalsOf image) o)
       (shared-tables ws ws ss headWords 0 l (rightRows l) (rightSets l) r (getD left i 0) (getD right i 0))
       (choice-tables ws ws ss headWords 0 l (rightRows l) (rightSets l) r (getD left i 0) (getD right i 0)))
       ∙ ap₂
-      (λ (q t : ℕ). lookup (λ e. fits (e .rule) f i) (howMany (λ k. tl .holds q k && tr .holds t k) places) (entriesOf image) (lowest (λ k. tl .holds q k && tr .holds t k) places)) x y)
+      (λ (q t : ℕ). lookup (λ e. fits (e .rule) f i) (howMany (λ k. tl .holds q k && tr .holds t k) places) (literalsOf image) (lowest (λ k. tl .holds q k && tr .holds t k) places)) x y)
 
 -- ---- all words
 
@@ -135,17 +135,17 @@ module _ (image ws ss : List ℕ) (l r : ℕ) (fit : Bool) (fits-as : FitsAs ws 
       a .usable
       ∙ all-same (passable ws l r fit) (usable c) (λ w. ap₂ _&&_ (fits-as .is) (usable-same ws ss l r (frame w) (length w))) unsaid
 
-  pub through-unusable : p .usable ≡ false → atOnce 16 0 ≡ walkThrough c (entriesOf image) name (saysOf list)
+  pub through-unusable : p .usable ≡ false → atOnce 16 0 ≡ walkThrough c (literalsOf image) name (saysOf list)
   unfolding walkThrough
   through-unusable e =
-      sym (ap (λ (t : Bool). cond t (answered (readWords (saysOf list) (walkWord c (entriesOf image)) (wordsIn name)) (stepsOver c unsaid)) (atOnce 16 0)) (sym usable-is ∙ e))
+      sym (ap (λ (t : Bool). cond t (answered (readWords (saysOf list) (walkWord c (literalsOf image)) (wordsIn name)) (stepsOver c unsaid)) (atOnce 16 0)) (sym usable-is ∙ e))
 
   module _ (e : p .usable ≡ true) (base : ℕ) (is : base ≡ cond fit (rightSets l) 0) where
     based : fit ≡ true → base ≡ rightSets l
     based t = is ∙ ap (λ (b : Bool). cond b (rightSets l) 0) t
 
     -- the memory after the passes tells of the list and the walk
-    tells : Tells image ss base name (m .found) (m .left) (m .right) list (walkWord c (entriesOf image))
+    tells : Tells image ss base name (m .found) (m .left) (m .right) list (walkWord c (literalsOf image))
     unfolding walkWord walk
     tells = record {
       parts = λ b h s. a .known e b h s .part;
@@ -160,15 +160,15 @@ module _ (image ws ss : List ℕ) (l r : ℕ) (fit : Bool) (fits-as : FitsAs ws 
     }
 
     pub through-read : (ps : List ℕ) (x : Reached) → NameRead image ss base name (m .found) (m .left) (m .right) ps x
-        → answered (partsReading image list ps x) (p .steps) ≡ walkThrough c (entriesOf image) name (saysOf list)
+        → answered (partsReading image list ps x) (p .steps) ≡ walkThrough c (literalsOf image) name (saysOf list)
     unfolding walkThrough stepsIn
     through-read ps x n =
-        ap₂ answered (n list (walkWord c (entriesOf image)) tells .says ∙ after-none (readWords (saysOf list) (walkWord c (entriesOf image)) (wordsIn name)))
+        ap₂ answered (n list (walkWord c (literalsOf image)) tells .says ∙ after-none (readWords (saysOf list) (walkWord c (literalsOf image)) (wordsIn name)))
         (a .steps e ∙ sum-same (stepsOn ws l r) (stepsIn c) (λ w. steps-same ws ss l r (frame w) (length w)) unsaid)
-        ∙ sym (ap (λ (t : Bool). cond t (answered (readWords (saysOf list) (walkWord c (entriesOf image)) (wordsIn name)) (stepsOver c unsaid)) (atOnce 16 0)) (sym usable-is ∙ e))
+        ∙ sym (ap (λ (t : Bool). cond t (answered (readWords (saysOf list) (walkWord c (literalsOf image)) (wordsIn name)) (stepsOver c unsaid)) (atOnce 16 0)) (sym usable-is ∙ e))
 
     pub parts-read : (ps : List ℕ) (x : Reached) → NameRead image ss base name (m .found) (m .left) (m .right) ps x → Parted image list frameSize ps x
-    parts-read ps x n = n list (walkWord c (entriesOf image)) tells .parted
+    parts-read ps x n = n list (walkWord c (literalsOf image)) tells .parted
 
     pub states-held : Held (length ss) base name (m .found) (m .left) (m .right)
     states-held b h s z k low high =

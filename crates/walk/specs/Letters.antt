@@ -6,7 +6,7 @@ use mathlib.Core.List.{List, [], _++_}
 use mathlib.Core.Option.{Option, none, some}
 use lib.ListN.{length, getD, take, drop, set}
 use Rattle.rules.specs.Limits.{maxRules}
-use Rattle.image.specs.Image.{countOf, entriesOf, entryAt}
+use Rattle.image.specs.Image.{countOf, entryAt, literalsOf}
 use Rattle.exceptions.specs.Judging.{saysOf}
 use Rattle.reading.specs.Fitting.{Str, frame, fits}
 use Rattle.reading.specs.Reading.{apply, Choice, chosen, nothing, unusable, Reading, readFrom}
@@ -37,7 +37,7 @@ countShared ss s t = onesFrom (meetWord ss s t) 0 setSize
 
 -- the choice at position i of the frame f by these two sets
 unfoldable pub choiceBy : List ℕ → List ℕ → ℕ → ℕ → List ℕ → ℕ → Choice
-choiceBy image ss s t f i = lookup (λ e. fits (e .rule) f i) (countShared ss s t) (entriesOf image) (lowestShared ss s t)
+choiceBy image ss s t f i = lookup (λ e. fits (e .rule) f i) (countShared ss s t) (literalsOf image) (lowestShared ss s t)
 
 -- what the answer `Chosen` says
 abbrev pub choiceOf : List ℕ → Chosen → Choice

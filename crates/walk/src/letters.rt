@@ -8,7 +8,7 @@ ghost use lib.Count.{onesIn};
 ghost use lib.ListN.{length, getD};
 ghost use Rattle.rules.specs.Limits.{maxRules};
 ghost use Rattle.rules.specs.Names.{SoundName};
-ghost use Rattle.image.specs.Image.{countOf, valid};
+ghost use Rattle.image.specs.Image.{totalOf, valid};
 ghost use Rattle.reading.specs.Words.{frameOf};
 ghost use Rattle.reading.specs.Places.{frameSize, ReadBy};
 ghost use Rattle.tables.specs.Words.{setSize};
@@ -59,37 +59,39 @@ fn count_shared(sets: &[u64], s: usize, t: usize) -> usize
     count
 }
 
-// What is found at a reached letter: the place of the rule to apply and how many places there are, no place, or tables that are unusable.
+// What is found at a reached letter: the place of the numbered rule to apply and how many literal rules fit, none, or tables that are unusable.
 pub enum Chosen {
     Rule(usize, usize),
     Nothing,
     Unusable,
 }
 
-// The choice at position `i`: the rule of lowest place, which must be in the list and fit.
+// The choice at position `i`: the literal rule of lowest place, which must be in the list and fit. It is told by the place of its numbered
+// rule.
 fn choose(
     sets: &[u64],
     s: usize,
     t: usize,
     image: &[u8],
-    rules: usize,
+    total: usize,
     frame: &[u8],
     i: usize,
 ) -> Chosen
-    requires { ⌜ (s + setSize ≤ length (now sets)) × (t + setSize ≤ length (now sets)) × (valid (now image) ≡ true) × («rules» ≡ countOf (now image)) × (i ≤ length (now frame)) ⌝ }
+    requires { ⌜ (s + setSize ≤ length (now sets)) × (t + setSize ≤ length (now sets)) × (valid (now image) ≡ true) × (total ≡ totalOf (now image)) × (i ≤ length (now frame)) ⌝ }
     ensures { λ r. ⌜ Chooses (now (image .entry)) (choiceBy (now (image .entry)) (now (sets .entry)) s t (now (frame .entry)) i) r ⌝ }
 {
     let found = lowest_place(sets, s, t);
     let Found::Place(place) = found else {
         return Chosen::Nothing;
     };
-    if rules <= place {
+    if total <= place {
         return Chosen::Unusable;
     }
-    if !reading::choice::fits_at(image, place, frame, i) {
+    if !literals::place_fits(image, place, frame, i) {
         return Chosen::Unusable;
     }
-    Chosen::Rule(place, count_shared(sets, s, t))
+    let rule = image::table::owner_at(image, place);
+    Chosen::Rule(rule, count_shared(sets, s, t))
 }
 
 // How reading ends where no rule is chosen.
@@ -116,20 +118,20 @@ pub fn read_letters(
     requires { ⌜ (valid (now image) ≡ true) × (2 ≤ length (now frame)) × (length (now frame) ≤ frameSize) × Bounded (length (now sets)) «right_sets» (length (now frame) - 2) (now left) (now right) × (length (now frame) - 2 ≤ length (now parts)) ⌝ }
     ensures { λ r. ⌜ ReadBy (now (image .entry)) (choicesBy (now (image .entry)) (now (sets .entry)) «right_sets» (now (left .entry)) (now (right .entry)) (now (frame .entry))) (length (now (frame .entry)) - 2) (now (parts .exit)) r ⌝ }
 {
-    let rules = image::rule_count(image);
+    let total = image::table::literal_total(image);
     let end = frame.len() - 1;
     let mut count: usize = 0;
     let mut i: usize = 1;
     while i < end {
         let s = tables::SET * numbers::wide16(left[i]);
         let t = right_sets + tables::SET * numbers::wide16(right[i]);
-        let choice = choose(sets, s, t, image, rules, frame, i);
-        let Chosen::Rule(place, fitting) = choice else {
+        let choice = choose(sets, s, t, image, total, frame, i);
+        let Chosen::Rule(rule, fitting) = choice else {
             return ending_at(choice, i);
         };
-        parts[count] = reading::delivery::part_of(place, fitting);
+        parts[count] = reading::delivery::part_of(rule, fitting);
         count += 1;
-        i += reading::choice::target_len_at(image, place);
+        i += reading::choice::target_len_at(image, rule);
     }
     Reached::Rules(count)
 }

@@ -9,7 +9,7 @@ ghost use mathlib.Core.Path.{_≡_};
 ghost use mathlib.Core.Bool.{true, cond};
 ghost use Prim.Native.Nat.{_<_};
 ghost use Rattle.exceptions.specs.Judging.{saysOf};
-ghost use Rattle.image.specs.Image.{valid, entriesOf};
+ghost use Rattle.image.specs.Image.{valid, literalsOf};
 ghost use Rattle.reading.specs.Words.{frameOf};
 ghost use Rattle.reading.specs.Places.{Unsaid};
 ghost use Rattle.tables.specs.Words.{rightSets};
@@ -67,7 +67,7 @@ fn walk_frame<'a>(
     numbers: &mut [u16],
 ) -> WalkAnswer
     requires { ⌜ FitsAs (now words) (now sets) «left_states» «right_states» fit × (valid (now image) ≡ true) × Unsaid (now list) (now name) × (now frame ≡ frameOf (now name)) ⌝ }
-    ensures { λ r. ⌜ walkedOf r (now (phones .exit)) (now (numbers .exit)) ≡ walkedAs (walkThrough (compiledWith (now (words .entry)) (now (sets .entry)) «left_states» «right_states») (entriesOf (now (image .entry))) (now (name .entry)) (saysOf (now (list .entry)))) (now (phones .entry)) (now (numbers .entry)) ⌝ }
+    ensures { λ r. ⌜ walkedOf r (now (phones .exit)) (now (numbers .exit)) ≡ walkedAs (walkThrough (compiledWith (now (words .entry)) (now (sets .entry)) «left_states» «right_states») (literalsOf (now (image .entry))) (now (name .entry)) (saysOf (now (list .entry)))) (now (phones .entry)) (now (numbers .entry)) ⌝ }
 {
     let mut found = [0u16; reading::MAX_FRAME];
     let mut left = [0u16; reading::MAX_FRAME];
@@ -136,7 +136,7 @@ fn walk_sound<'a>(
     numbers: &mut [u16],
 ) -> WalkAnswer
     requires { ⌜ FitsAs (now words) (now sets) «left_states» «right_states» fit × (valid (now image) ≡ true) × Unsaid (now list) (now name) ⌝ }
-    ensures { λ r. ⌜ walkedOf r (now (phones .exit)) (now (numbers .exit)) ≡ walkedAs (walkThrough (compiledWith (now (words .entry)) (now (sets .entry)) «left_states» «right_states») (entriesOf (now (image .entry))) (now (name .entry)) (saysOf (now (list .entry)))) (now (phones .entry)) (now (numbers .entry)) ⌝ }
+    ensures { λ r. ⌜ walkedOf r (now (phones .exit)) (now (numbers .exit)) ≡ walkedAs (walkThrough (compiledWith (now (words .entry)) (now (sets .entry)) «left_states» «right_states») (literalsOf (now (image .entry))) (now (name .entry)) (saysOf (now (list .entry)))) (now (phones .entry)) (now (numbers .entry)) ⌝ }
 {
     let mut frame = [0u8; reading::MAX_FRAME];
     reading::words::lay_frame(name, &mut frame);
@@ -205,7 +205,7 @@ pub fn walk_tables<'a>(
     numbers: &mut [u16],
 ) -> WalkAnswer
     requires { ⌜ (valid (now image) ≡ true) × Unsaid (now list) (now name) ⌝ }
-    ensures { λ r. ⌜ walkedOf r (now (phones .exit)) (now (numbers .exit)) ≡ walkedAs (walkThrough (compiledWith (now (words .entry)) (now (sets .entry)) «left_states» «right_states») (entriesOf (now (image .entry))) (now (name .entry)) (saysOf (now (list .entry)))) (now (phones .entry)) (now (numbers .entry)) ⌝ }
+    ensures { λ r. ⌜ walkedOf r (now (phones .exit)) (now (numbers .exit)) ≡ walkedAs (walkThrough (compiledWith (now (words .entry)) (now (sets .entry)) «left_states» «right_states») (literalsOf (now (image .entry))) (now (name .entry)) (saysOf (now (list .entry)))) (now (phones .entry)) (now (numbers .entry)) ⌝ }
 {
     let fit = lengths_fit(words, sets, left_states, right_states);
     walk_sound(

@@ -11,8 +11,8 @@ use Rattle.build.proofs.Whole.{enough}
 use Rattle.build.proofs.build_with.Statement.{statement}
 use Rattle.build.proofs.build_with.Tie as tie
 
-rule-count-requires : tie.Need-rule-count-requires
-rule-count-requires c κs = valid-long _ (c .before .before .before .before .before .pre .0)
+literal-total-requires : tie.Need-literal-total-requires
+literal-total-requires c κs = valid-long _ (c .before .before .before .before .before .pre .0)
 
 most-states-requires : tie.Need-most-states-requires
 most-states-requires c κs = search needs
@@ -30,7 +30,7 @@ fill-requires : tie.Need-fill-requires
 fill-requires c κs =
     let st = c .before .before .before .before .before .before .before .before .before .before .before .before .before in
     let m = c .before .before .before .before .before .before .most-states .ensures .0 in
-    (st .pre .0, c .before .before .before .before .before .before .before .rule-count .ensures .0, omega (arith, m, c .before .before .before .before .before .if1 .taken), omega (arith, m, leb-true (setSize * c .before .before .before .before .before .before .most-states .result) (length (st .args .sets .now)) (c .before .before .before .before .if2 .taken)), st .pre .1)
+    (st .pre .0, c .before .before .before .before .before .before .before .literal-total .ensures .0, omega (arith, m, c .before .before .before .before .before .if1 .taken), omega (arith, m, leb-true (setSize * c .before .before .before .before .before .before .most-states .result) (length (st .args .sets .now)) (c .before .before .before .before .if2 .taken)), st .pre .1)
 
 same-length : tie.Need-same-length
 same-length c = search needs
@@ -73,7 +73,7 @@ pub build-with-spec : {M : Type 1} → statement M
 build-with-spec =
     tie.close
     (tie.spec
-    rule-count-requires
+    literal-total-requires
     most-states-requires
     mul-if1
     add-if1

@@ -1,11 +1,12 @@
--- `build::most_states` meets its contract: the lengths of the fields are summed rule by rule.
+-- `build::most_states` meets its contract: the lengths of the fields are summed over the literal rules.
 -- Assumes nothing.
 use Prim.Native.Nat.{_+_, _-_}
-use mathlib.Core.Path.{ap}
+use mathlib.Core.Path.{refl, sym, ap, _∙_}
 use lib.ListN.{length}
 use native.Mathlib.Omega.{arith}
 use borrow.Author.Needs.{needs}
-use Rattle.image.proofs.Tests.{valid-count}
+use Rattle.image.proofs.Literals.{total-is, literals-few}
+use Rattle.literals.proofs.Places.{left-long, target-long, right-long}
 use Rattle.build.proofs.Bounding as B
 use Rattle.build.proofs.most_states.Statement.{statement}
 use Rattle.build.proofs.most_states.Tie as tie
@@ -19,31 +20,37 @@ abbrev μ-loop : tie.MeasureT-loop
 loop-holds : tie.Need-loop-holds Inv-loop μ-loop
 loop-holds c = B.begin _
 
+owner-at-requires : tie.Need-owner-at-requires Inv-loop μ-loop
+owner-at-requires c κs = (c .before .before .before .pre .0, omega (arith, c .before .before .before .pre .1, c .loop-test .taken))
+
 left-at-requires : tie.Need-left-at-requires Inv-loop μ-loop
-left-at-requires c κs = (c .before .before .before .pre .0, omega (arith, c .before .before .before .pre .1, c .loop-test .taken))
+left-at-requires c κs = search needs
 
 target-at-requires : tie.Need-target-at-requires Inv-loop μ-loop
-target-at-requires c κs = (c .before .before .before .before .pre .0, omega (arith, c .before .before .before .before .pre .1, c .before .loop-test .taken))
+target-at-requires c κs = search needs
 
 right-at-requires : tie.Need-right-at-requires Inv-loop μ-loop
-right-at-requires c κs = (c .before .before .before .before .before .pre .0, omega (arith, c .before .before .before .before .before .pre .1, c .before .before .loop-test .taken))
+right-at-requires c κs = search needs
 
--- one rule more
-another : (c : tie.After-right-at Inv-loop μ-loop) → B.Bounding (c .before .before .before .before .before .before .args .image .now)
-    (c .before .before .before .before .loop .most + (length (c .before .before .left-at .result .now) + length (c .before .target-at .result .now) + length (c .right-at .result .now))) (c .before .before .before .before .loop .i + 1)
+-- one literal rule more
+another : (c : tie.After-right-at Inv-loop μ-loop) → B.Bounding (c .before .before .before .before .before .before .before .args .image .now)
+    (c .before .before .before .before .before .loop .most + (length (c .before .before .left-at .result .now) + length (c .before .target-at .result .now) + length (c .right-at .result .now))) (c .before .before .before .before .before .loop .i + 1)
 another c =
-    let st = c .before .before .before .before .before .before in
-    B.next _ (st .pre .0) _ _ (c .before .before .before .before .loop .inv) (omega (arith, st .pre .1, c .before .before .before .loop-test .taken)) _ _ _
-    (ap length (c .before .before .left-at .ensures)) (ap length (c .before .target-at .ensures)) (ap length (c .right-at .ensures))
+    let st = c .before .before .before .before .before .before .before in
+    let at = c .before .before .before .before .before in
+    B.next _ (st .pre .0) _ _ (at .loop .inv) (omega (arith, st .pre .1, c .before .before .before .before .loop-test .taken)) _ _ _
+    (ap length (c .before .before .left-at .ensures) ∙ sym (left-long (st .args .image .now) (st .pre .0) (at .loop .i) (omega (arith, st .pre .1, c .before .before .before .before .loop-test .taken)) _ (c .before .before .before .owner-at .ensures .0) _ refl))
+    (ap length (c .before .target-at .ensures) ∙ sym (target-long (st .args .image .now) (st .pre .0) (at .loop .i) (omega (arith, st .pre .1, c .before .before .before .before .loop-test .taken)) _ (c .before .before .before .owner-at .ensures .0) _ refl))
+    (ap length (c .right-at .ensures) ∙ sym (right-long (st .args .image .now) (st .pre .0) (at .loop .i) (omega (arith, st .pre .1, c .before .before .before .before .loop-test .taken)) _ (c .before .before .before .owner-at .ensures .0) _ refl))
 
 add-most : tie.Need-add-most Inv-loop μ-loop
-add-most c = omega (arith, another c .few, another c .reached, valid-count _ (c .before .before .before .before .before .before .pre .0))
+add-most c = omega (arith, another c .few, another c .reached, total-is _ (c .before .before .before .before .before .before .before .pre .0), literals-few _ (c .before .before .before .before .before .before .before .pre .0))
 
 add-most-2 : tie.Need-add-most-2 Inv-loop μ-loop
-add-most-2 c = omega (arith, another c .few, another c .reached, valid-count _ (c .before .before .before .before .before .before .pre .0))
+add-most-2 c = omega (arith, another c .few, another c .reached, total-is _ (c .before .before .before .before .before .before .before .pre .0), literals-few _ (c .before .before .before .before .before .before .before .pre .0))
 
 add-most-3 : tie.Need-add-most-3 Inv-loop μ-loop
-add-most-3 c = omega (arith, another c .few, another c .reached, valid-count _ (c .before .before .before .before .before .before .pre .0))
+add-most-3 c = omega (arith, another c .few, another c .reached, total-is _ (c .before .before .before .before .before .before .before .pre .0), literals-few _ (c .before .before .before .before .before .before .before .pre .0))
 
 add-i : tie.Need-add-i Inv-loop μ-loop
 add-i c = search needs
@@ -64,6 +71,7 @@ most-states-spec =
     Inv-loop
     μ-loop
     loop-holds
+    owner-at-requires
     left-at-requires
     target-at-requires
     right-at-requires

@@ -3,8 +3,8 @@
 use Prim.Native.Nat.{_-_, _<_}
 use native.Mathlib.Omega.{arith}
 use borrow.Author.Needs.{needs}
-use Rattle.image.specs.Image.{countOf}
-use Rattle.image.proofs.Tests.{valid-count}
+use Rattle.image.specs.Image.{totalOf}
+use Rattle.image.proofs.Literals.{total-is, literals-few}
 use Rattle.build.proofs.Laying.{Laying, begin, fits, lens-room, next, finished, laid-at}
 use Rattle.build.proofs.Symbols.{long}
 use Rattle.build.proofs.patterns.Statement.{statement}
@@ -22,24 +22,24 @@ loop-holds c =
     begin _ _ (st .pre .0) _ _ (st .pre .2)
 
 mul-put-pattern : tie.Need-mul-put-pattern Inv-loop μ-loop
-mul-put-pattern c = omega (arith, c .before .before .before .before .before .before .pre .1, valid-count _ (c .before .before .before .before .before .before .pre .0))
+mul-put-pattern c = omega (arith, c .before .before .before .before .before .before .pre .1, total-is _ (c .before .before .before .before .before .before .pre .0), literals-few _ (c .before .before .before .before .before .before .pre .0))
 
 put-pattern-requires : tie.Need-put-pattern-requires Inv-loop μ-loop
 put-pattern-requires c κs =
     let st = c .before .before .before .before .before .before in
-    let h : c .before .before .loop .i < countOf (st .args .image .now) = omega (arith, st .pre .1, c .before .loop-test .taken) in
+    let h : c .before .before .loop .i < totalOf (st .args .image .now) = omega (arith, st .pre .1, c .before .loop-test .taken) in
     (st .pre .0, h, fits _ _ (st .pre .0) _ _ (st .pre .2) _ _ _ (c .before .before .loop .inv) h)
 
 cast-lens : tie.Need-cast-lens Inv-loop μ-loop
 cast-lens c =
     let st = c .before .before .before .before .before .before .before .before .before in
-    let h : c .before .before .before .before .before .loop .i < countOf (st .args .image .now) = omega (arith, st .pre .1, c .before .before .before .before .loop-test .taken) in
+    let h : c .before .before .before .before .before .loop .i < totalOf (st .args .image .now) = omega (arith, st .pre .1, c .before .before .before .before .loop-test .taken) in
     record { fits = omega (arith, c .before .before .put-pattern .ensures .0, long _ (st .pre .0) _ h (st .args .right)) }
 
 slice-write-lens : tie.Need-slice-write-lens Inv-loop μ-loop
 slice-write-lens c =
     let st = c .before .before .before .before .before .before .before .before .before in
-    let h : c .before .before .before .before .before .loop .i < countOf (st .args .image .now) = omega (arith, st .pre .1, c .before .before .before .before .loop-test .taken) in
+    let h : c .before .before .before .before .before .loop .i < totalOf (st .args .image .now) = omega (arith, st .pre .1, c .before .before .before .before .loop-test .taken) in
     lens-room _ _ (st .pre .0) _ _ (st .pre .2) _ _ _ (c .before .before .before .before .before .loop .inv) h
 
 add-i : tie.Need-add-i Inv-loop μ-loop
@@ -51,7 +51,7 @@ loop-less c = search needs
 loop-again : tie.Need-loop-again Inv-loop μ-loop
 loop-again c =
     let st = c .before .before .before .before .before .before .before .before .before in
-    let h : c .before .before .before .before .before .loop .i < countOf (st .args .image .now) = omega (arith, st .pre .1, c .before .before .before .before .loop-test .taken) in
+    let h : c .before .before .before .before .before .loop .i < totalOf (st .args .image .now) = omega (arith, st .pre .1, c .before .before .before .before .loop-test .taken) in
     let e = c .before .before .put-pattern .ensures in
     next _ _ (st .pre .0) _ _ (st .pre .2) _ _ _ (c .before .before .before .before .before .loop .inv) h _ (e .0) _ (e .1)
 

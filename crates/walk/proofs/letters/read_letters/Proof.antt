@@ -30,8 +30,8 @@ not-rule x k p n e =
     let z : tagOf the-type x ≡ 0 = ap (tagOf the-type) e in
     ⊎-elim (λ w. omega arith) (λ w. omega arith) k
 
-rule-count-requires : tie.Need-rule-count-requires Inv-loop μ-loop
-rule-count-requires c κs = valid-long (c .before .before .before .before .before .before .args .image .now) (c .before .before .before .before .before .before .pre .0)
+literal-total-requires : tie.Need-literal-total-requires Inv-loop μ-loop
+literal-total-requires c κs = valid-long (c .before .before .before .before .before .before .args .image .now) (c .before .before .before .before .before .before .pre .0)
 
 sub-end : tie.Need-sub-end Inv-loop μ-loop
 sub-end c = omega arith
@@ -72,7 +72,7 @@ choose-requires : tie.Need-choose-requires Inv-loop μ-loop
 choose-requires c κs =
     let l = c .before .before .before .before .before .before .before .before .before .before .before .before .before .pre .3 .lefts (c .before .before .before .before .before .loop .i) (omega (arith, c .before .before .before .before .before .loop .inv .0 .behind)) (omega arith) in
     let r = c .before .before .before .before .before .before .before .before .before .before .before .before .before .pre .3 .rights (c .before .before .before .before .before .loop .i) (omega (arith, c .before .before .before .before .before .loop .inv .0 .behind)) (omega arith) in
-    (omega (arith, c .before .before .wide16 .ensures .0), omega (arith, c .wide162 .ensures .0), c .before .before .before .before .before .before .before .before .before .before .before .before .before .pre .0, c .before .before .before .before .before .before .rule-count .ensures .0, omega arith)
+    (omega (arith, c .before .before .wide16 .ensures .0), omega (arith, c .wide162 .ensures .0), c .before .before .before .before .before .before .before .before .before .before .before .before .before .pre .0, c .before .before .before .before .before .before .literal-total .ensures .0, omega arith)
 
 enum-known-choice : tie.Need-enum-known-choice Inv-loop μ-loop
 enum-known-choice c = search needs
@@ -142,7 +142,7 @@ read-letters-spec =
     (tie.spec
     Inv-loop
     μ-loop
-    rule-count-requires
+    literal-total-requires
     sub-end
     loop-holds
     mul-wide16
