@@ -1,108 +1,23 @@
 -- Lists of edits: what the edit functions give, one after the other, is what the ledger gives; no number is issued twice.
 -- Assumes nothing.
-use Prim.Native.Nat.{ℕ, zero, suc, _+_, _≤_, _<_}
+use Prim.Native.Nat.{ℕ, zero, suc, _+_, _<_}
 use mathlib.Core.Path.{_≡_, refl, sym, ap, ap₂, _∙_}
 use mathlib.Core.List.{List, [], _∷_}
-use mathlib.Core.Bool.{Bool, true, false, cond}
+use mathlib.Core.Bool.{true, false}
 use native.Mathlib.Omega.{arith}
-use borrow.Author.Tests.{le-leb, leb-true, ltb-true}
-use lib.ListN.{length, getD, length-map}
-use lib.Dec.{leb, ltb}
-use Rattle.rules.proofs.Cases.{and-i}
-use Rattle.image.proofs.Laid.{length-insertAt, length-removeAt}
-use Rattle.rules.specs.Shape.{shape, view, entryOf}
-use Rattle.rules.specs.declared.Numbered.{Numbered}
-use Rattle.image.specs.State.{Ledger, rulesOf, entries, distinct, noNumbered, noEntry, insertAt, removeAt}
-use Rattle.edits.specs.Ledger.{Edit, placeOf, applied, judged, after, afterBy, afterAll, answersAll, issuedBy, issued}
-use Rattle.edits.specs.Ledger.Edit.{Add, Drop, Move}
-use Rattle.image.specs.Image.{ledgerOf, valid, Edited, Filled}
-use Rattle.edits.specs.Edits.{outcomeBy, edited, FilledEdit, outAll, imageAll, issuedIn}
+use lib.ListN.{length, getD}
 use Rattle.rules.specs.Refusals.{Reply, accepted, declined}
-use Rattle.image.proofs.Stored.{Each, none, more, Fine, laid-state, laid-valid, valid-fine}
-use Rattle.edits.proofs.Kept.{entries-more, entries-insert, entries-remove, entries-at, fresh, distinct-insert, distinct-remove, taken-new, map-insert, map-remove, map-at}
-
-each-insert : (p : ℕ) (x : Numbered) {l : List Numbered} → Filled (x .rule) → Each l → Each (insertAt p x l)
-each-insert zero x f h = more f h
-each-insert (suc p) x f none = more f none
-each-insert (suc p) x f (more g h) = more g (each-insert p x f h)
-
-each-remove : (k : ℕ) {l : List Numbered} → Each l → Each (removeAt k l)
-each-remove k none = none
-each-remove zero (more g h) = h
-each-remove (suc k) (more g h) = more g (each-remove k h)
-
-each-at : (k : ℕ) {l : List Numbered} → k < length l → Each l → Filled (getD l k noNumbered .rule)
-each-at k u none = absurd (omega arith)
-each-at zero u (more g h) = g
-each-at (suc k) u (more g h) = each-at k (omega arith) h
-
-acc-l : (b : Bool) (a : Reply) (x y : ℕ) → cond b a (declined x y) ≡ accepted → b ≡ true
-acc-l true a x y h = refl
-acc-l false a x y h = let z : _≡_ {A = ℕ} 0 1 = cc in absurd (omega arith)
-
-acc-r : (b : Bool) (a : Reply) (x y : ℕ) → cond b a (declined x y) ≡ accepted → a ≡ accepted
-acc-r true a x y h = h
-acc-r false a x y h = let z : _≡_ {A = ℕ} 0 1 = cc in absurd (omega arith)
-
--- an accepted edit keeps it
-applied-fine : (g : Ledger) (e : Edit) → FilledEdit e → Fine g → judged g e ≡ accepted → Fine (applied g e)
-unfolding judged
-applied-fine g (Add r p) full f j =
-    let h1 = acc-l (shape (view r)) _ _ _ j in
-    let j1 = acc-r (shape (view r)) _ _ _ j in
-    let h2 : p ≤ length (g .list) = leb-true _ _ (acc-l (leb p (length (g .list))) _ _ _ j1) in
-    let j2 = acc-r (leb p (length (g .list))) _ _ _ j1 in
-    let h3 : length (g .list) < 512 = ltb-true _ _ (acc-l (ltb (length (g .list)) 512) _ _ _ j2) in
-    let x : Numbered = record { number = g .last + 1; rule = r } in
-    record {
-      held = omega (arith, length-insertAt p x (g .list) h2);
-      each =
-          ap (entries (g .last + 1)) (map-insert p x (g .list))
-          ∙ entries-insert (g .last + 1) p (entryOf x) (rulesOf g)
-          (and-i h1 (and-i (le-leb 1 (g .last + 1) (omega arith)) (le-leb (g .last + 1) (g .last + 1) (omega arith))))
-          (entries-more (g .last) (g .last + 1) (rulesOf g) (omega arith) (f .each));
-      apart =
-          ap distinct (map-insert p x (g .list))
-          ∙ distinct-insert p (entryOf x) (rulesOf g) (fresh (g .last) (g .last + 1) (rulesOf g) (omega arith) (f .each)) (f .apart);
-      filled = each-insert p x full (f .filled);
-    }
-applied-fine g (Drop n) full f j =
-    let k : placeOf n (g .list) < length (g .list) = ltb-true _ _ (acc-l (ltb (placeOf n (g .list)) (length (g .list))) _ _ _ j) in
-    record {
-      held = omega (arith, f .held, length-removeAt (placeOf n (g .list)) (g .list) k);
-      each =
-          ap (entries (g .last)) (map-remove (placeOf n (g .list)) (g .list))
-          ∙ entries-remove (g .last) (placeOf n (g .list)) (rulesOf g) (f .each);
-      apart = ap distinct (map-remove (placeOf n (g .list)) (g .list)) ∙ distinct-remove (placeOf n (g .list)) (rulesOf g) (f .apart);
-      filled = each-remove (placeOf n (g .list)) (f .filled);
-    }
-applied-fine g (Move n p) full f j =
-    let i : ℕ = placeOf n (g .list) in
-    let k : i < length (g .list) = ltb-true _ _ (acc-l (ltb (placeOf n (g .list)) (length (g .list))) _ _ _ j) in
-    let j1 = acc-r (ltb (placeOf n (g .list)) (length (g .list))) _ _ _ j in
-    let q : p ≤ length (removeAt i (g .list)) = leb-true _ _ (acc-l (leb p (length (removeAt i (g .list)))) _ _ _ j1) in
-    let kept : rulesOf (applied g (Move n p)) ≡ insertAt p (getD (rulesOf g) i noEntry) (removeAt i (rulesOf g)) =
-    map-insert p (getD (g .list) i noNumbered) (removeAt i (g .list))
-    ∙ ap₂ (insertAt p) (sym (map-at i (g .list) k)) (map-remove i (g .list)) in
-    let k′ : i < length (rulesOf g) = omega (arith, length-map (g .list) entryOf) in
-    record {
-      held =
-          omega (
-            arith,
-            f .held,
-            length-removeAt i (g .list) k,
-            length-insertAt p (getD (g .list) i noNumbered) (removeAt i (g .list)) q,
-          );
-      each =
-          ap (entries (g .last)) kept
-          ∙ entries-insert (g .last) p (getD (rulesOf g) i noEntry) (removeAt i (rulesOf g)) (entries-at (g .last) i (rulesOf g) k′ (f .each))
-          (entries-remove (g .last) i (rulesOf g) (f .each));
-      apart =
-          ap distinct kept
-          ∙ distinct-insert p (getD (rulesOf g) i noEntry) (removeAt i (rulesOf g)) (taken-new i (rulesOf g) k′ (f .apart))
-          (distinct-remove i (rulesOf g) (f .apart));
-      filled = each-insert p (getD (g .list) i noNumbered) (each-at i k (f .filled)) (each-remove i (f .filled));
-    }
+use Rattle.rules.specs.declared.Numbered.{Numbered}
+use Rattle.classes.specs.Setting.{listUses}
+use Rattle.image.specs.State.{Ledger, rulesOf, relist, insertAt, removeAt, relocated}
+use Rattle.image.specs.Image.{ledgerOf, entriesOf, lastOf, laid, settled, valid, Edited, outcome}
+use Rattle.image.proofs.Stored.{Fine, valid-fine}
+use Rattle.image.proofs.Tests.{valid-long}
+use Rattle.image.proofs.Whole.{relisted-ledger, relisted-valid, class-ledger, class-valid}
+use Rattle.edits.specs.Ledger.{Edit, placeOf, applied, judged, after, afterBy, afterAll, answersAll, issuedBy, issued}
+use Rattle.edits.specs.Ledger.Edit.{Add, Drop, Move, SetClass}
+use Rattle.edits.specs.Edits.{outcomeBy, edited, FilledEdit, outAll, imageAll, issuedIn}
+use Rattle.edits.proofs.Applied.{can-set, add-fine, drop-fine, move-fine, set-ruled}
 
 -- what one edit gives for an image, in the ledger's terms
 pub record Stepped (d : List ℕ) (e : Edit) (o : Edited) : Type 0 where
@@ -111,13 +26,30 @@ pub record Stepped (d : List ℕ) (e : Edit) (o : Edited) : Type 0 where
   pub kept : valid (o .image) ≡ true
 
 module _ (d : List ℕ) (ok : valid d ≡ true) where
+  fine : Fine (ledgerOf d)
+  fine = valid-fine d ok
+
+  unused : (c : ℕ) → listUses c (rulesOf (ledgerOf d)) ≡ false → listUses c (entriesOf d) ≡ false
+  unfolding entriesOf
+  unused c h = h
+
+  relisted : (e : Edit) (l : List Numbered) (n : ℕ) → judged (ledgerOf d) e ≡ accepted → applied (ledgerOf d) e ≡ relist (ledgerOf d) l n
+      → Fine (relist (ledgerOf d) l n) → Stepped d e (outcome accepted (settled (laid (relist (ledgerOf d) l n) d)))
+  relisted e l n j a f = record { reply = sym j; state = rw (j, a) (relisted-ledger d (valid-long d ok) l n f); kept = relisted-valid d (valid-long d ok) l n f }
+
   stepped-by : (e : Edit) → FilledEdit e → (a : Reply) → judged (ledgerOf d) e ≡ a → Stepped d e (outcomeBy a d e)
-  stepped-by e w accepted j =
-      let f : Fine (applied (ledgerOf d) e) = applied-fine (ledgerOf d) e w (valid-fine d ok) j in
+  stepped-by (Add r p) w accepted j =
+      relisted (Add r p) (insertAt p (record { number = lastOf d + 1; rule = r }) (ledgerOf d .list)) (lastOf d + 1) j refl (add-fine (ledgerOf d) fine r p w j)
+  stepped-by (Drop n) w accepted j =
+      relisted (Drop n) (removeAt (placeOf n (ledgerOf d .list)) (ledgerOf d .list)) (lastOf d) j refl (drop-fine (ledgerOf d) fine n j)
+  stepped-by (Move n p) w accepted j =
+      relisted (Move n p) (relocated (placeOf n (ledgerOf d .list)) p (ledgerOf d .list)) (lastOf d) j refl (move-fine (ledgerOf d) fine n p j)
+  stepped-by (SetClass c l) w accepted j =
+      let s = can-set (ledgerOf d) c l j in
       record {
         reply = sym j;
-        state = rw j (laid-state d ok (applied (ledgerOf d) e) (f .filled));
-        kept = laid-valid d ok (applied (ledgerOf d) e) f;
+        state = rw j (class-ledger d ok c (s .symbol) l (s .letters));
+        kept = class-valid d ok c (s .symbol) l (s .letters) (set-ruled (ledgerOf d) fine c l s) (unused c (s .unused));
       }
   stepped-by e w (declined x y) j = record { reply = sym j; state = rw j; kept = ok }
 
@@ -158,6 +90,7 @@ issuedBy-above g (Add r p) accepted l h zero u = omega arith
 issuedBy-above g (Add r p) accepted l h (suc k) u = omega (arith, h k (omega arith))
 issuedBy-above g (Drop n) accepted l h k u = h k u
 issuedBy-above g (Move n p) accepted l h k u = h k u
+issuedBy-above g (SetClass c m) accepted l h k u = h k u
 issuedBy-above g e (declined x y) l h k u = h k u
 
 issued-above : (es : List Edit) (g : Ledger) (k : ℕ) → k < length (issued g es) → g .last < getD (issued g es) k 0
@@ -173,6 +106,7 @@ issuedBy-apart g (Add r p) accepted l h q zero (suc j) u v = omega (arith, h j (
 issuedBy-apart g (Add r p) accepted l h q (suc i) (suc j) u v = q i j (omega arith) (omega arith)
 issuedBy-apart g (Drop n) accepted l h q i j u v = q i j u v
 issuedBy-apart g (Move n p) accepted l h q i j u v = q i j u v
+issuedBy-apart g (SetClass c m) accepted l h q i j u v = q i j u v
 issuedBy-apart g e (declined x y) l h q i j u v = q i j u v
 
 -- the numbers that accepted additions get rise, so no two are the same

@@ -1,7 +1,7 @@
 -- An edit of a valid ruleset leaves a valid one: what it keeps, over the rules as entries.
 -- Assumes nothing.
-use Prim.Native.Nat.{ℕ, zero, suc, _≤_, _<_}
-use mathlib.Core.Path.{_≡_, refl, sym, ap}
+use Prim.Native.Nat.{ℕ, zero, suc, _+_, _≤_, _<_}
+use mathlib.Core.Path.{_≡_, refl, sym, ap, _∙_}
 use mathlib.Core.List.{List, [], _∷_, map}
 use mathlib.Core.Bool.{true, false}
 use native.Mathlib.Omega.{arith}
@@ -11,7 +11,12 @@ use lib.Dec.{leb, eqb}
 use Rattle.rules.proofs.Cases.{and-l, and-r, and-i, or-l, or-r, or-i, new-l, new-r, new-i}
 use Rattle.rules.specs.Shape.{shape, Entry, entryOf}
 use Rattle.rules.specs.declared.Numbered.{Numbered}
-use Rattle.image.specs.State.{noEntry, noNumbered, entry, entries, member, distinct, insertAt, removeAt}
+use Rattle.classes.specs.Classes.{Classes, defined}
+use Rattle.classes.specs.Expansion.{literalCount, literalTotal}
+use Rattle.classes.specs.Setting.{withClass, ruleUses, listUses}
+use Rattle.classes.proofs.Counts.{count-pos}
+use Rattle.classes.proofs.Setting.{defined-kept}
+use Rattle.image.specs.State.{noEntry, noNumbered, entry, entries, member, distinct, allDefined, insertAt, removeAt}
 
 eqb-turn : (m n : ℕ) → eqb m n ≡ false → eqb n m ≡ false
 eqb-turn m n h = ne-eqb n m (λ (e : n ≡ m). eqb-false m n h (sym e))
@@ -88,6 +93,58 @@ taken-new (suc k) (y ∷ l) h e =
     or-i
     (eqb-turn (getD l k noEntry .number) (y .number) (member-at (y .number) k l (omega arith) (new-l (member (y .number) l) _ e)))
     (taken-new k l (omega arith) (new-r (member (y .number) l) _ e))
+
+-- literal rules
+
+exchange : (a b c : ℕ) → a + (b + c) ≡ b + (a + c)
+exchange a b c = omega arith
+
+one-more : (a b n : ℕ) → n ≤ b → 1 ≤ a → suc n ≤ a + b
+one-more a b n h k = omega arith
+
+module _ (k : Classes) where
+  pub defined-insert : (p : ℕ) (x : Entry) (l : List Entry) → defined k (x .rule) ≡ true → allDefined k l ≡ true → allDefined k (insertAt p x l) ≡ true
+  defined-insert zero x l h e = and-i h e
+  defined-insert (suc p) x [] h e = and-i h refl
+  defined-insert (suc p) x (y ∷ l) h e = and-i (and-l (defined k (y .rule)) _ e) (defined-insert p x l h (and-r (defined k (y .rule)) _ e))
+
+  pub defined-remove : (i : ℕ) (l : List Entry) → allDefined k l ≡ true → allDefined k (removeAt i l) ≡ true
+  defined-remove i [] e = refl
+  defined-remove zero (y ∷ l) e = and-r (defined k (y .rule)) _ e
+  defined-remove (suc i) (y ∷ l) e = and-i (and-l (defined k (y .rule)) _ e) (defined-remove i l (and-r (defined k (y .rule)) _ e))
+
+  pub defined-at : (i : ℕ) (l : List Entry) → i < length l → allDefined k l ≡ true → defined k (getD l i noEntry .rule) ≡ true
+  defined-at i [] h e = absurd (omega arith)
+  defined-at zero (y ∷ l) h e = and-l (defined k (y .rule)) _ e
+  defined-at (suc i) (y ∷ l) h e = defined-at i l (omega arith) (and-r (defined k (y .rule)) _ e)
+
+  pub total-insert : (p : ℕ) (x : Entry) (l : List Entry) → literalTotal k (insertAt p x l) ≡ literalCount k (x .rule) + literalTotal k l
+  total-insert zero x l = refl
+  total-insert (suc p) x [] = refl
+  total-insert (suc p) x (y ∷ l) =
+      ap (λ (n : ℕ). literalCount k (y .rule) + n) (total-insert p x l) ∙ exchange (literalCount k (y .rule)) (literalCount k (x .rule)) (literalTotal k l)
+
+  pub total-remove : (i : ℕ) (l : List Entry) → i < length l → literalCount k (getD l i noEntry .rule) + literalTotal k (removeAt i l) ≡ literalTotal k l
+  total-remove i [] h = absurd (omega arith)
+  total-remove zero (y ∷ l) h = refl
+  total-remove (suc i) (y ∷ l) h =
+      exchange (literalCount k (getD l i noEntry .rule)) (literalCount k (y .rule)) (literalTotal k (removeAt i l))
+      ∙ ap (λ (n : ℕ). literalCount k (y .rule) + n) (total-remove i l (omega arith))
+
+  -- each rule has a literal rule, so there are at least as many literal rules
+  pub total-long : (l : List Entry) → allDefined k l ≡ true → length l ≤ literalTotal k l
+  total-long [] e = omega arith
+  total-long (y ∷ l) e =
+      one-more (literalCount k (y .rule)) (literalTotal k l) (length l) (total-long l (and-r (defined k (y .rule)) _ e))
+      (count-pos k (y .rule) (and-l (defined k (y .rule)) _ e))
+
+-- a class set that no rule uses
+module _ (k : Classes) (c : ℕ) (m : List ℕ) where
+  pub defined-still : (l : List Entry) → listUses c l ≡ false → allDefined k l ≡ true → allDefined (withClass k c m) l ≡ true
+  defined-still [] u e = refl
+  defined-still (y ∷ l) u e =
+      and-i (defined-kept k c m (y .rule) (or-l (ruleUses c (y .rule)) _ u) ∙ and-l (defined k (y .rule)) _ e)
+      (defined-still l (or-r (ruleUses c (y .rule)) _ u) (and-r (defined k (y .rule)) _ e))
 
 -- ---- a list of rules as they were handed in, and the same as entries
 

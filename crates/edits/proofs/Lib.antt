@@ -1,3 +1,5 @@
-pub mod Answers
 pub mod Kept
+pub mod Applied
+pub mod Judging
+pub mod Answers
 pub mod History

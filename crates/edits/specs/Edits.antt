@@ -5,12 +5,19 @@ use Prim.Native.Nat.{ℕ}
 use mathlib.Core.Path.{_≡_}
 use mathlib.Core.List.{List, [], _∷_}
 use Rattle.rules.specs.Refusals.{Reply, accepted, declined}
-use Rattle.image.specs.Image.{lastOf, ledgerOf, laid, valid, Edited, outcome, Filled}
+use Rattle.image.specs.Image.{lastOf, ledgerOf, laid, withClassAt, settled, valid, Edited, outcome, Filled}
 use Rattle.edits.specs.Ledger.{Edit, judged, applied, issuedBy}
-use Rattle.edits.specs.Ledger.Edit.{Add, Drop, Move}
+use Rattle.edits.specs.Ledger.Edit.{Add, Drop, Move, SetClass}
+
+-- the image after an accepted edit: the list is laid anew with the table of its literal rules; of a class its own bytes change, and no others
+abbrev pub changed : List ℕ → Edit → List ℕ
+changed image (Add r p) = settled (laid (applied (ledgerOf image) (Add r p)) image)
+changed image (Drop n) = settled (laid (applied (ledgerOf image) (Drop n)) image)
+changed image (Move n p) = settled (laid (applied (ledgerOf image) (Move n p)) image)
+changed image (SetClass c l) = withClassAt c l image
 
 abbrev pub outcomeBy : Reply → List ℕ → Edit → Edited
-outcomeBy accepted image e = outcome accepted (laid (applied (ledgerOf image) e) image)
+outcomeBy accepted image e = outcome accepted (changed image e)
 outcomeBy (declined n p) image e = outcome (declined n p) image
 
 -- refusal 0 for memory that is no ruleset, else the ledger's answer and state; a refusal changes no byte
@@ -22,6 +29,7 @@ abbrev pub FilledEdit : Edit → Type 0
 FilledEdit (Add r p) = Filled r
 FilledEdit (Drop n) = _≡_ {A = ℕ} 0 0
 FilledEdit (Move n p) = _≡_ {A = ℕ} 0 0
+FilledEdit (SetClass c l) = _≡_ {A = ℕ} 0 0
 
 -- the answers and the image of a list of edits, each given the image that the one before left
 abbrev pub outAll : List ℕ → List Edit → List Reply

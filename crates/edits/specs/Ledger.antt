@@ -1,4 +1,4 @@
--- The edits of document 01's ledger: their refusals in order, and the state after them. Places count from 0.
+-- The edits of document 01's ledger and of document 02's request 5: their refusals in order, and the state after them. Places count from 0.
 -- Assumes nothing.
 use mathlib.Core.Bool.{cond}
 use Prim.Native.Nat.{ℕ, suc, _+_}
@@ -10,37 +10,49 @@ use Rattle.rules.specs.Shape.{shape, view}
 use Rattle.rules.specs.Refusals.{Reply, accepted, declined}
 use Rattle.rules.specs.declared.Rule.{Rule}
 use Rattle.rules.specs.declared.Numbered.{Numbered}
-use Rattle.image.specs.State.{Ledger, insertAt, removeAt, relocated}
+use Rattle.classes.specs.Classes.{defined}
+use Rattle.classes.specs.Expansion.{literalCount, literalTotal}
+use Rattle.classes.specs.Setting.{withClass, settable}
+use Rattle.image.specs.State.{Ledger, rulesOf, relist, insertAt, removeAt, relocated}
 
 pub data Edit : Type 0 where
   Add : Rule → ℕ → Edit
   Drop : ℕ → Edit
   Move : ℕ → ℕ → Edit
+  -- a class symbol and its letters
+  SetClass : ℕ → List ℕ → Edit
 
 -- the place of the rule numbered n, or the length where there is none
 abbrev pub placeOf : ℕ → List Numbered → ℕ
 placeOf n [] = 0
 placeOf n (x ∷ l) = cond (eqb (x .number) n) 0 (suc (placeOf n l))
 
--- the answer of an edit: Add 6, 7, 9, 10; Drop 8; Move 8, 7 (against the remaining list)
+-- the answer of an edit: Add 6, 20 (a class that it uses is undefined), 7, 21 (more than 512 literal rules after it), 10; Drop 8; Move 8, 7
+-- (against the remaining list); SetClass 20
 unfoldable pub judged : Ledger → Edit → Reply
 judged g (Add r p) =
     cond (shape (view r))
+    (cond (defined (g .classes) (view r))
     (cond (leb p (length (g .list)))
-    (cond (ltb (length (g .list)) maxRules) (cond (ltb (g .last) maxNumber) accepted (declined 10 0)) (declined 9 0))
+    (cond (leb (literalCount (g .classes) (view r) + literalTotal (g .classes) (rulesOf g)) maxRules)
+    (cond (ltb (g .last) maxNumber) accepted (declined 10 0))
+    (declined 21 0))
     (declined 7 0))
+    (declined 20 0))
     (declined 6 0)
 judged g (Drop n) = cond (ltb (placeOf n (g .list)) (length (g .list))) accepted (declined 8 0)
 judged g (Move n p) =
     cond (ltb (placeOf n (g .list)) (length (g .list)))
     (cond (leb p (length (removeAt (placeOf n (g .list)) (g .list)))) accepted (declined 7 0))
     (declined 8 0)
+judged g (SetClass c l) = cond (settable (rulesOf g) c l) accepted (declined 20 0)
 
 -- the state after an accepted edit
 abbrev pub applied : Ledger → Edit → Ledger
-applied g (Add r p) = record { list = insertAt p (record { number = g .last + 1; rule = r }) (g .list); last = g .last + 1 }
-applied g (Drop n) = record { list = removeAt (placeOf n (g .list)) (g .list); last = g .last }
-applied g (Move n p) = record { list = relocated (placeOf n (g .list)) p (g .list); last = g .last }
+applied g (Add r p) = relist g (insertAt p (record { number = g .last + 1; rule = r }) (g .list)) (g .last + 1)
+applied g (Drop n) = relist g (removeAt (placeOf n (g .list)) (g .list)) (g .last)
+applied g (Move n p) = relist g (relocated (placeOf n (g .list)) p (g .list)) (g .last)
+applied g (SetClass c l) = record { list = g .list; last = g .last; classes = withClass (g .classes) c l }
 
 -- the state after an edit that was answered so: a refused one changes nothing
 abbrev pub afterBy : Reply → Ledger → Edit → Ledger
@@ -64,6 +76,7 @@ abbrev pub issuedBy : Reply → Edit → ℕ → List ℕ → List ℕ
 issuedBy accepted (Add r p) n l = n ∷ l
 issuedBy accepted (Drop m) n l = l
 issuedBy accepted (Move m p) n l = l
+issuedBy accepted (SetClass c m) n l = l
 issuedBy (declined x y) e n l = l
 
 abbrev pub issued : Ledger → List Edit → List ℕ

@@ -12,10 +12,10 @@ use lib.Seq.{take-at}
 use Rattle.rules.specs.Memory.{over}
 use Rattle.rules.proofs.Cases.{byBool}
 use Rattle.rules.specs.Refusals.{accepted}
+use Rattle.classes.specs.Expansion.{expand}
 use Rattle.exceptions.specs.Judging.{Listing, listingOf}
-use Rattle.image.specs.State.{Ledger, start, rulesOf}
-use Rattle.image.specs.Image.{ledgerOf, valid, entriesOf}
-use Rattle.edits.specs.Ledger.{afterAll}
+use Rattle.image.specs.State.{Ledger, rulesOf}
+use Rattle.image.specs.Image.{ledgerOf, valid, entriesOf, literalsOf}
 use Rattle.history.specs.Replay.{Replay, FromEmpty, Replayed}
 use Rattle.history.proofs.EveryList.{replay-accepted}
 use Rattle.reading.specs.Fitting.{Str}
@@ -25,7 +25,7 @@ use Rattle.tables.specs.Words.{wordsFor, setsFor, Built, built}
 use Rattle.tables.specs.Walk.{Walked, walkSaid}
 use Rattle.tables.proofs.Theorem.{table-theorem, steps-theorem, steps-whole}
 use Rattle.tables.proofs.Steps.{listed-walked}
-use Rattle.endtoend.specs.EndToEnd.{result, fromList, Lent, Given, takenEdits, rulesAfter, Enough, Claim, EndToEnd}
+use Rattle.endtoend.specs.EndToEnd.{result, fromList, Lent, Given, takenEdits, ledgerAfter, literalsAfter, Enough, Claim, EndToEnd}
 
 -- ---- what a call tells does not depend on what the lent memory held, but for its length
 
@@ -53,32 +53,32 @@ listed-result p ps ns = byBool (leb (length p) (length ps)) (λ a. rw (a, take-o
 
 -- ---- a build of a ruleset in memory that is long enough is accepted
 
-enough-built : (image ws ss : List ℕ) → valid image ≡ true → wordsFor (entriesOf image) ≤ length ws → setsFor (entriesOf image) ≤ length ss
+enough-built : (image ws ss : List ℕ) → valid image ≡ true → wordsFor (literalsOf image) ≤ length ws → setsFor (literalsOf image) ≤ length ss
     → built image ws ss .reply ≡ accepted
 unfolding built
 enough-built image ws ss v w s = rw (v, le-leb _ _ w, le-leb _ _ s)
 
--- the rules of the image are those of the ledger after the edits
-state-rules : (image : List ℕ) (g : Ledger) → ledgerOf image ≡ g → entriesOf image ≡ rulesOf g
-unfolding entriesOf
-state-rules image g e = ap rulesOf e
+-- the literal rules of the image are those of the ledger after the edits
+state-literals : (image : List ℕ) (g : Ledger) → ledgerOf image ≡ g → literalsOf image ≡ expand (g .classes) (rulesOf g)
+unfolding literalsOf entriesOf
+state-literals image g e = ap (λ (x : Ledger). expand (x .classes) (rulesOf x)) e
 
 module _ (m : Lent) (g : Given)
-    (r : Replayed (m .image) (m .code) (m .answers) (m .places) (g .replay))
+    (r : Replayed (m .image) (m .code) (m .letters) (m .answers) (m .places) (g .replay))
     (b : g .build ≡ built (g .replay .image) (m .words) (m .sets))
     (p : g .plain ≡ plainSaid (g .replay .image) (listingOf (m .list)) (m .name) (m .«plain-phones») (m .«plain-numbers»))
     (w : g .walk ≡ walkSaid (g .replay .image) (listingOf (m .list)) (g .build .words) (g .build .sets) (m .name) (m .«walk-phones») (m .«walk-numbers»)) where
   module _ (e : Enough m) where
     done : FromEmpty (takenEdits m) (m .image) (m .answers) (m .places) (g .replay)
-    done = r .claim (ap (λ (x : Replay). x .reply) (r .whole) ∙ replay-accepted (m .image) (m .code) (m .answers) (m .places) (e .image))
+    done = r .claim (ap (λ (x : Replay). x .reply) (r .whole) ∙ replay-accepted (m .image) (m .code) (m .letters) (m .answers) (m .places) (e .image))
 
-    rules-are : entriesOf (g .replay .image) ≡ rulesAfter m
-    rules-are = state-rules (g .replay .image) (afterAll start (takenEdits m)) (done .state)
+    literals-are : literalsOf (g .replay .image) ≡ literalsAfter m
+    literals-are = state-literals (g .replay .image) (ledgerAfter m) (done .state)
 
     ready : built (g .replay .image) (m .words) (m .sets) .reply ≡ accepted
     ready =
-        let x : wordsFor (entriesOf (g .replay .image)) ≤ length (m .words) = rw rules-are (e .words) in
-        let y : setsFor (entriesOf (g .replay .image)) ≤ length (m .sets) = rw rules-are (e .sets) in
+        let x : wordsFor (literalsOf (g .replay .image)) ≤ length (m .words) = rw literals-are (e .words) in
+        let y : setsFor (literalsOf (g .replay .image)) ≤ length (m .sets) = rw literals-are (e .sets) in
         enough-built (g .replay .image) (m .words) (m .sets) (done .kept) x y
 
     walk-is : g .walk

@@ -1,6 +1,6 @@
 -- Demand 3 of document 01, as one claim: a list of edits from the empty ruleset, the tables built after it in memory that held anything,
--- and a name of any number of words, read plainly and walked through those tables, with a lent exceptions list (document 02, requests 1, 3
--- and 4).
+-- and a name of any number of words, read plainly and walked through those tables, with a lent exceptions list (document 02, requests 1, 3, 4
+-- and 5). The tables are those of the literal rules, the plain reading reads the rules and their classes.
 -- Assumes nothing.
 use Prim.Native.Nat.{ℕ, _+_, _*_, _≤_}
 use mathlib.Core.Path.{_≡_}
@@ -11,8 +11,9 @@ use lib.ListN.{length, take}
 use Rattle.rules.specs.Names.{SoundName}
 use Rattle.rules.specs.Shape.{Entry}
 use Rattle.rules.specs.Refusals.{accepted}
+use Rattle.classes.specs.Expansion.{expand}
 use Rattle.exceptions.specs.Judging.{listingOf}
-use Rattle.image.specs.State.{start, rulesOf}
+use Rattle.image.specs.State.{Ledger, start, rulesOf}
 use Rattle.image.specs.Image.{imageSize}
 use Rattle.edits.specs.Ledger.{Edit, afterAll}
 use Rattle.history.specs.Replay.{taken, Replay, FromEmpty, Replayed}
@@ -43,6 +44,7 @@ pub record Lent : Type 0 where
   pub image : List ℕ
   pub list : List ℕ
   pub code : List ℕ
+  pub letters : List ℕ
   pub answers : List ℕ
   pub places : List ℕ
   pub words : List ℕ
@@ -53,12 +55,13 @@ pub record Lent : Type 0 where
   pub «walk-phones» : List ℕ
   pub «walk-numbers» : List ℕ
 
-abbrev pub lent : List ℕ → List ℕ → List ℕ → List ℕ → List ℕ → List ℕ → List ℕ → Str → List ℕ → List ℕ → List ℕ → List ℕ → Lent
-lent image list code answers places words sets name pp pn wp wn =
+abbrev pub lent : List ℕ → List ℕ → List ℕ → List ℕ → List ℕ → List ℕ → List ℕ → List ℕ → Str → List ℕ → List ℕ → List ℕ → List ℕ → Lent
+lent image list code letters answers places words sets name pp pn wp wn =
     record {
       image = image;
       list = list;
       code = code;
+      letters = letters;
       answers = answers;
       places = places;
       words = words;
@@ -80,22 +83,25 @@ pub record Given : Type 0 where
 abbrev pub given : Replay → Built → Said → Walked → Given
 given r b p w = record { replay = r; build = b; plain = p; walk = w }
 
--- the edits taken, and the rules that the ledger holds after them
+-- the edits taken, the state that the ledger has after them, and its literal rules
 abbrev pub takenEdits : Lent → List Edit
-takenEdits m = taken (m .code) (m .answers) (m .places)
+takenEdits m = taken (m .code) (m .letters) (m .answers) (m .places)
 
-abbrev pub rulesAfter : Lent → List Entry
-rulesAfter m = rulesOf (afterAll start (takenEdits m))
+abbrev pub ledgerAfter : Lent → Ledger
+ledgerAfter m = afterAll start (takenEdits m)
+
+abbrev pub literalsAfter : Lent → List Entry
+literalsAfter m = expand (ledgerAfter m .classes) (rulesOf (ledgerAfter m))
 
 -- the words of the name that the lent list does not say
 abbrev pub unlistedWords : Lent → List Word
 unlistedWords m = unlisted (saidOf (listingOf (m .list))) (wordsIn (m .name))
 
--- the memory is long enough for a ruleset and for the tables of the rules after the edits, and both readings are lent as much
+-- the memory is long enough for a ruleset and for the tables of the literal rules after the edits, and both readings are lent as much
 pub record Enough (m : Lent) : Type 0 where
   pub image : imageSize ≤ length (m .image)
-  pub words : wordsFor (rulesAfter m) ≤ length (m .words)
-  pub sets : setsFor (rulesAfter m) ≤ length (m .sets)
+  pub words : wordsFor (literalsAfter m) ≤ length (m .words)
+  pub sets : setsFor (literalsAfter m) ≤ length (m .sets)
   pub phones : length (m .«walk-phones») ≡ length (m .«plain-phones»)
   pub numbers : length (m .«walk-numbers») ≡ length (m .«plain-numbers»)
 
@@ -116,7 +122,7 @@ pub record Claim (m : Lent) (g : Given) : Type 0 where
 
 pub record EndToEnd (m : Lent) (g : Given) : Type 0 where
   -- each call got the ruleset, and the walk the tables, as the calls before left them
-  pub replayed : Replayed (m .image) (m .code) (m .answers) (m .places) (g .replay)
+  pub replayed : Replayed (m .image) (m .code) (m .letters) (m .answers) (m .places) (g .replay)
   pub built-after : g .build ≡ built (g .replay .image) (m .words) (m .sets)
   pub read : g .plain ≡ plainSaid (g .replay .image) (listingOf (m .list)) (m .name) (m .«plain-phones») (m .«plain-numbers»)
   pub walked : g .walk ≡ walkSaid (g .replay .image) (listingOf (m .list)) (g .build .words) (g .build .sets) (m .name) (m .«walk-phones») (m .«walk-numbers»)

@@ -23,6 +23,7 @@ pub fn run<'a>(
     image: &mut [u8],
     list: &[u32],
     code: &[usize],
+    letters: &[u8],
     answers: &mut [u8],
     places: &mut [usize],
     words: &'a mut [u16],
@@ -33,9 +34,9 @@ pub fn run<'a>(
     walk_phones: &mut [u8],
     walk_numbers: &mut [u16],
 ) -> Answers
-    ensures { λ r. ⌜ EndToEnd (lent (now (image .entry)) (now (list .entry)) (now (code .entry)) (now (answers .entry)) (now (places .entry)) (now (words .entry)) (now (sets .entry)) (now (name .entry)) (now («plain_phones» .entry)) (now («plain_numbers» .entry)) (now («walk_phones» .entry)) (now («walk_numbers» .entry))) (given (replaying (replyOf (r .replay)) (now (image .exit)) (now (answers .exit)) (now (places .exit))) (building (replyOf (r .build)) (now (words .exit)) (now (sets .exit))) (saying (toldOf (r .plain)) (now («plain_phones» .exit)) (now («plain_numbers» .exit))) (walkedOf (r .walk) (now («walk_phones» .exit)) (now («walk_numbers» .exit)))) ⌝ }
+    ensures { λ r. ⌜ EndToEnd (lent (now (image .entry)) (now (list .entry)) (now (code .entry)) (now (letters .entry)) (now (answers .entry)) (now (places .entry)) (now (words .entry)) (now (sets .entry)) (now (name .entry)) (now («plain_phones» .entry)) (now («plain_numbers» .entry)) (now («walk_phones» .entry)) (now («walk_numbers» .entry))) (given (replaying (replyOf (r .replay)) (now (image .exit)) (now (answers .exit)) (now (places .exit))) (building (replyOf (r .build)) (now (words .exit)) (now (sets .exit))) (saying (toldOf (r .plain)) (now («plain_phones» .exit)) (now («plain_numbers» .exit))) (walkedOf (r .walk) (now («walk_phones» .exit)) (now («walk_numbers» .exit)))) ⌝ }
 {
-    let replay = history::replay(image, code, answers, places);
+    let replay = history::replay(image, code, letters, answers, places);
     let build = build::build(image, words, sets);
     let plain = reading::read_name(image, list, name, plain_phones, plain_numbers);
     let walk = compiled::speak_compiled(image, list, words, sets, name, walk_phones, walk_numbers);

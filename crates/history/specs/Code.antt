@@ -1,17 +1,18 @@
--- Lists of edits as lists of words, 27 words an edit: kind (0 add, 1 drop, else move), number, place, four lengths, then the left, target,
--- right and phone bytes. A missing word reads as 0.
+-- Lists of edits as lists of words, 27 words an edit, and a pool of letters. The words: kind (0 add, 1 drop, 2 move, else set a class), number,
+-- place, four lengths, then the left, target, right and phone bytes. Of a class: kind, symbol, and where in the pool its letters start and how
+-- many they are, so that any list of letters can be said. A missing word reads as 0.
 -- Assumes nothing.
 use mathlib.Core.Bool.{cond}
 use Prim.Native.Nat.{ℕ, zero, suc, _+_, _<_, _%_}
 use mathlib.Core.Path.{_≡_}
 use mathlib.Core.List.{List, [], _∷_, _++_}
-use lib.ListN.{length, getD, drop, replicate}
+use lib.ListN.{length, getD, take, drop, replicate}
 use lib.Dec.{eqb}
 use Rattle.rules.specs.Memory.{Below, wordBound}
 use Rattle.rules.specs.Limits.{maxContext, maxTarget, maxPhones}
 use Rattle.rules.specs.declared.Rule.{Rule}
 use Rattle.edits.specs.Ledger.{Edit}
-use Rattle.edits.specs.Ledger.Edit.{Add, Drop, Move}
+use Rattle.edits.specs.Ledger.Edit.{Add, Drop, Move, SetClass}
 
 -- words of an edit
 abbrev pub editWords : ℕ
@@ -38,32 +39,54 @@ codedRule ws = record {
   phones = fourAt ws 23;
 }
 
+-- the letters that a class edit names
+abbrev pub codedLetters : List ℕ → List ℕ → List ℕ
+codedLetters pool ws = take (getD ws 3 0) (drop (getD ws 2 0) pool)
+
 -- the edit that the first 27 words say
-abbrev pub codedEdit : List ℕ → Edit
-codedEdit ws =
+abbrev pub codedEdit : List ℕ → List ℕ → Edit
+codedEdit pool ws =
     cond (eqb (getD ws 0 0) 0) (Add (codedRule ws) (getD ws 2 0))
-    (cond (eqb (getD ws 0 0) 1) (Drop (getD ws 1 0 % 65536)) (Move (getD ws 1 0 % 65536) (getD ws 2 0)))
+    (cond (eqb (getD ws 0 0) 1) (Drop (getD ws 1 0 % 65536))
+    (cond (eqb (getD ws 0 0) 2) (Move (getD ws 1 0 % 65536) (getD ws 2 0)) (SetClass (byteAt ws 1) (codedLetters pool ws))))
 
 -- the first n edits that the words say
-abbrev pub codedEdits : ℕ → List ℕ → List Edit
-codedEdits zero ws = []
-codedEdits (suc n) ws = codedEdit ws ∷ codedEdits n (drop editWords ws)
+abbrev pub codedEdits : ℕ → List ℕ → List ℕ → List Edit
+codedEdits zero pool ws = []
+codedEdits (suc n) pool ws = codedEdit pool ws ∷ codedEdits n pool (drop editWords ws)
 
--- the words that say an edit, before ws
-abbrev pub wordsOf : Edit → List ℕ → List ℕ
-wordsOf (Add r p) ws =
+-- the words that say an edit whose letters start at `at` of the pool, before ws
+abbrev pub wordsOf : ℕ → Edit → List ℕ → List ℕ
+wordsOf at (Add r p) ws =
     0 ∷ 0 ∷ p ∷ r .«left_len» ∷ r .«target_len» ∷ r .«right_len» ∷ r .«phone_len»
     ∷ getD (r .left) 0 0 ∷ getD (r .left) 1 0 ∷ getD (r .left) 2 0 ∷ getD (r .left) 3 0 ∷ getD (r .left) 4 0 ∷ getD (r .left) 5 0
     ∷ getD (r .target) 0 0 ∷ getD (r .target) 1 0 ∷ getD (r .target) 2 0 ∷ getD (r .target) 3 0
     ∷ getD (r .right) 0 0 ∷ getD (r .right) 1 0 ∷ getD (r .right) 2 0 ∷ getD (r .right) 3 0 ∷ getD (r .right) 4 0 ∷ getD (r .right) 5 0
     ∷ getD (r .phones) 0 0 ∷ getD (r .phones) 1 0 ∷ getD (r .phones) 2 0 ∷ getD (r .phones) 3 0 ∷ ws
-wordsOf (Drop n) ws = 1 ∷ n ∷ replicate 25 0 ++ ws
-wordsOf (Move n p) ws = 2 ∷ n ∷ p ∷ replicate 24 0 ++ ws
+wordsOf at (Drop n) ws = 1 ∷ n ∷ replicate 25 0 ++ ws
+wordsOf at (Move n p) ws = 2 ∷ n ∷ p ∷ replicate 24 0 ++ ws
+wordsOf at (SetClass c l) ws = 3 ∷ c ∷ at ∷ length l ∷ replicate 23 0 ++ ws
+
+-- the letters that an edit has
+abbrev pub lettersOf : Edit → List ℕ
+lettersOf (Add r p) = []
+lettersOf (Drop n) = []
+lettersOf (Move n p) = []
+lettersOf (SetClass c l) = l
+
+-- the pool of a list of edits: their letters, one after the other
+abbrev pub poolOf : List Edit → List ℕ
+poolOf [] = []
+poolOf (e ∷ es) = lettersOf e ++ poolOf es
+
+-- the code of a list of edits whose letters start at `at` of the pool
+abbrev pub wordsFrom : ℕ → List Edit → List ℕ
+wordsFrom at [] = []
+wordsFrom at (e ∷ es) = wordsOf at e (wordsFrom (at + length (lettersOf e)) es)
 
 -- the code of a list of edits
 abbrev pub wordsAll : List Edit → List ℕ
-wordsAll [] = []
-wordsAll (e ∷ es) = wordsOf e (wordsAll es)
+wordsAll es = wordsFrom 0 es
 
 -- n bytes
 abbrev pub Bytes : ℕ → List ℕ → Type 0
@@ -85,6 +108,7 @@ abbrev pub Typed : Edit → Type 0
 Typed (Add r p) = TypedRule r × (p < wordBound)
 Typed (Drop n) = n < 65536
 Typed (Move n p) = (n < 65536) × (p < wordBound)
+Typed (SetClass c l) = (c < 256) × Below 256 l
 
 abbrev pub TypedAll : List Edit → Type 0
 TypedAll [] = Unit

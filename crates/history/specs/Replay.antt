@@ -11,14 +11,15 @@ use Rattle.image.specs.State.{start}
 use Rattle.image.specs.Image.{ledgerOf, valid, cleared}
 use Rattle.edits.specs.Ledger.{Edit, afterAll, answersAll, issued}
 use Rattle.edits.specs.Edits.{outAll, imageAll, issuedIn}
-use Rattle.history.specs.Code.{editWords, codedEdits, wordsAll}
+use Rattle.history.specs.Code.{editWords, codedEdits, poolOf, wordsAll}
 
 -- how many edits are taken: as many as are coded and have room for the code and the place of their answer
 abbrev pub turns : ℕ → ℕ → ℕ → ℕ
 turns code answers places = min (code / editWords) (min answers places)
 
-abbrev pub taken : List ℕ → List ℕ → List ℕ → List Edit
-taken code answers places = codedEdits (turns (length code) (length answers) (length places)) code
+-- they, of a code and its pool of letters
+abbrev pub taken : List ℕ → List ℕ → List ℕ → List ℕ → List Edit
+taken code letters answers places = codedEdits (turns (length code) (length answers) (length places)) letters code
 
 -- the answer of the call, the image, and the codes and the places of the edits' answers
 pub record Replay : Type 0 where
@@ -41,9 +42,9 @@ throughBy accepted es image answers places = through es image answers places
 throughBy (declined n p) es image answers places = replaying (declined n p) image answers places
 
 -- from the empty ruleset, in memory that held anything; memory too short for a ruleset is refused and kept
-unfoldable pub replayed : List ℕ → List ℕ → List ℕ → List ℕ → Replay
-replayed image code answers places =
-    throughBy (cleared image .reply) (taken code answers places) (cleared image .image) answers places
+unfoldable pub replayed : List ℕ → List ℕ → List ℕ → List ℕ → List ℕ → Replay
+replayed image code letters answers places =
+    throughBy (cleared image .reply) (taken code letters answers places) (cleared image .image) answers places
 
 -- the numbers that the accepted additions among the edits got, from the empty ruleset in memory that held anything
 abbrev pub issuedFromEmpty : List ℕ → List Edit → List ℕ
@@ -51,7 +52,7 @@ issuedFromEmpty image es = issuedIn (cleared image .image) es
 
 -- The claim over the edits es from the empty ruleset, in memory that held image₀, answers₀ and places₀: what is held and what was answered.
 pub record FromEmpty (es : List Edit) (image₀ answers₀ places₀ : List ℕ) (r : Replay) : Type 0 where
-  -- the memory holds a ruleset, whose rules and last are the ledger's
+  -- the memory holds a ruleset, whose rules, last and classes are the ledger's
   pub kept : valid (r .image) ≡ true
   pub state : ledgerOf (r .image) ≡ afterAll start es
   -- each answer is the ledger's: a refusal's number with its place; what lies past them keeps its contents
@@ -64,16 +65,17 @@ pub record FromEmpty (es : List Edit) (image₀ answers₀ places₀ : List ℕ)
       → getD (issuedFromEmpty image₀ es) i 0 ≡ getD (issuedFromEmpty image₀ es) j 0 → ⊥
 
 -- what a call of replay gives
-pub record Replayed (image code answers places : List ℕ) (r : Replay) : Type 0 where
-  pub whole : r ≡ replayed image code answers places
-  pub claim : r .reply ≡ accepted → FromEmpty (taken code answers places) image answers places r
+pub record Replayed (image code letters answers places : List ℕ) (r : Replay) : Type 0 where
+  pub whole : r ≡ replayed image code letters answers places
+  pub claim : r .reply ≡ accepted → FromEmpty (taken code letters answers places) image answers places r
 
 -- The list es, coded and replayed.
 pub record ReplayedList (es : List Edit) (image answers places : List ℕ) : Type 0 where
-  -- its code is a slice of words, so a call can be lent it
+  -- its code is a slice of words and its letters are one of bytes, so a call can be lent them
   pub size : length (wordsAll es) ≡ length es * editWords
   pub words : Below wordBound (wordsAll es)
+  pub letters : Below 256 (poolOf es)
   -- the edits taken are the list, the call is accepted, and the claim holds of what it gives
-  pub whole : taken (wordsAll es) answers places ≡ es
-  pub reply : replayed image (wordsAll es) answers places .reply ≡ accepted
-  pub claim : FromEmpty es image answers places (replayed image (wordsAll es) answers places)
+  pub whole : taken (wordsAll es) (poolOf es) answers places ≡ es
+  pub reply : replayed image (wordsAll es) (poolOf es) answers places .reply ≡ accepted
+  pub claim : FromEmpty es image answers places (replayed image (wordsAll es) (poolOf es) answers places)

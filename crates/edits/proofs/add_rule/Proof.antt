@@ -1,12 +1,13 @@
 -- `edits::add_rule` meets its contract.
 -- Assumes nothing.
-use mathlib.Core.Path.{refl, sym, _∙_}
+use mathlib.Core.Path.{sym, ap, _∙_}
 use native.Mathlib.Omega.{arith}
 use borrow.Author.Needs.{needs}
 use borrow.Author.Tests.{not-true, not-false}
-use Rattle.image.specs.Image.{countOf}
+use Rattle.rules.specs.Refusals.{replyOf}
 use Rattle.image.proofs.Tests.{valid-long}
-use Rattle.edits.proofs.Answers.{invalid, add-shape, add-place, add-full, add-last, add-yes}
+use Rattle.image.specs.Image.{Filled}
+use Rattle.edits.proofs.Answers.{invalid, add-no, add-below, add-room, add-sound, add-yes}
 use Rattle.edits.proofs.add_rule.Statement.{statement}
 use Rattle.edits.proofs.add_rule.Tie as tie
 
@@ -19,50 +20,38 @@ same-length c = search needs
 returns : tie.Need-returns
 returns c = invalid (c .before .before .before .before .args .image .now) _ (sym (c .before .is-ruleset .ensures) ∙ not-true _ (c .if1 .taken))
 
-well-shaped-requires : tie.Need-well-shaped-requires
-well-shaped-requires c κs = search needs
+judge-add-requires : tie.Need-judge-add-requires
+judge-add-requires c κs = sym (c .before .before .is-ruleset .ensures) ∙ not-false _ (c .before .if1 .left)
+
+enum-known-answer : tie.Need-enum-known-answer
+enum-known-answer c = search needs
 
 same-length-2 : tie.Need-same-length-2
 same-length-2 c = search needs
 
 returns-2 : tie.Need-returns-2
-returns-2 c = add-shape (c .before .before .before .before .before .before .args .image .now) (sym (c .before .before .before .is-ruleset .ensures) ∙ not-false _ (c .before .before .if1 .left)) (countOf (c .before .before .before .before .before .before .args .image .now)) refl (c .before .before .before .before .before .before .args .rule) (c .before .before .before .before .before .before .args .p) (sym (c .before .well-shaped .ensures) ∙ not-true _ (c .if2 .taken))
+returns-2 c = add-no (c .before .before .before .before .before .before .before .before .before .args .image .now) (sym (c .before .before .before .before .before .before .is-ruleset .ensures) ∙ not-false _ (c .before .before .before .before .before .if1 .left)) (c .before .before .before .before .before .before .before .before .before .args .rule) (c .before .before .before .before .before .before .before .before .before .args .p) _ (c .before .before .before .judge-add .ensures) _ _ (ap replyOf (c .before .answer .given .1))
 
-rule-count-requires : tie.Need-rule-count-requires
-rule-count-requires c κs = valid-long (c .before .before .before .before .before .before .before .args .image .now) (sym (c .before .before .before .before .is-ruleset .ensures) ∙ not-false _ (c .before .before .before .if1 .left))
+enum-told : tie.Need-enum-told
+enum-told c = search needs
+
+last-issued-requires : tie.Need-last-issued-requires
+last-issued-requires c κs = valid-long (c .before .before .before .before .before .before .before .before .before .args .image .now) (sym (c .before .before .before .before .before .before .is-ruleset .ensures) ∙ not-false _ (c .before .before .before .before .before .if1 .left))
+
+add-number : tie.Need-add-number
+add-number c = omega (arith, add-below (c .before .before .before .before .before .before .before .before .before .before .args .image .now) (sym (c .before .before .before .before .before .before .before .is-ruleset .ensures) ∙ not-false _ (c .before .before .before .before .before .before .if1 .left)) (c .before .before .before .before .before .before .before .before .before .before .args .rule) (c .before .before .before .before .before .before .before .before .before .before .args .p) _ (c .before .before .before .before .judge-add .ensures) (ap replyOf (c .before .before .enum-told .given .1)), c .last-issued .ensures)
+
+insert-requires : tie.Need-insert-requires
+insert-requires c κs = (valid-long (c .before .before .before .before .before .before .before .before .before .before .before .args .image .now) (sym (c .before .before .before .before .before .before .before .before .is-ruleset .ensures) ∙ not-false _ (c .before .before .before .before .before .before .before .if1 .left)), add-room (c .before .before .before .before .before .before .before .before .before .before .before .args .image .now) (sym (c .before .before .before .before .before .before .before .before .is-ruleset .ensures) ∙ not-false _ (c .before .before .before .before .before .before .before .if1 .left)) (c .before .before .before .before .before .before .before .before .before .before .before .args .rule) (c .before .before .before .before .before .before .before .before .before .before .before .args .p) _ (c .before .before .before .before .before .judge-add .ensures) (ap replyOf (c .before .before .before .enum-told .given .1)))
+
+settle-requires : tie.Need-settle-requires
+settle-requires c κs = (let full : Filled (c .before .before .before .before .before .before .before .before .before .before .before .before .before .before .before .args .rule) = (search needs, (search needs, (search needs, search needs))) in add-sound (c .before .before .before .before .before .before .before .before .before .before .before .before .before .before .before .args .image .now) (sym (c .before .before .before .before .before .before .before .before .before .before .before .before .is-ruleset .ensures) ∙ not-false _ (c .before .before .before .before .before .before .before .before .before .before .before .if1 .left)) (c .before .before .before .before .before .before .before .before .before .before .before .before .before .before .before .args .rule) (c .before .before .before .before .before .before .before .before .before .before .before .before .before .before .before .args .p) _ (c .before .before .before .before .before .before .before .before .before .judge-add .ensures) (ap replyOf (c .before .before .before .before .before .before .before .enum-told .given .1)) full _ (c .before .before .before .before .before .last-issued .ensures) _ (c .before .before .before .insert .ensures))
 
 same-length-3 : tie.Need-same-length-3
 same-length-3 c = search needs
 
 returns-3 : tie.Need-returns-3
-returns-3 c = add-place (c .before .before .before .before .before .before .before .before .before .args .image .now) (sym (c .before .before .before .before .before .before .is-ruleset .ensures) ∙ not-false _ (c .before .before .before .before .before .if1 .left)) _ (c .before .rule-count .ensures .0) (c .before .before .before .before .before .before .before .before .before .args .rule) (c .before .before .before .before .before .before .before .before .before .args .p) (sym (c .before .before .before .before .well-shaped .ensures) ∙ not-false _ (c .before .before .before .if2 .left)) (c .if3 .taken)
-
-same-length-4 : tie.Need-same-length-4
-same-length-4 c = search needs
-
-returns-4 : tie.Need-returns-4
-returns-4 c = add-full (c .before .before .before .before .before .before .before .before .before .before .args .image .now) (sym (c .before .before .before .before .before .before .before .is-ruleset .ensures) ∙ not-false _ (c .before .before .before .before .before .before .if1 .left)) _ (c .before .before .rule-count .ensures .0) (c .before .before .before .before .before .before .before .before .before .before .args .rule) (c .before .before .before .before .before .before .before .before .before .before .args .p) (sym (c .before .before .before .before .before .well-shaped .ensures) ∙ not-false _ (c .before .before .before .before .if2 .left)) (c .before .if3 .left) (c .if4 .taken)
-
-last-issued-requires : tie.Need-last-issued-requires
-last-issued-requires c κs = valid-long (c .before .before .before .before .before .before .before .before .before .before .before .args .image .now) (sym (c .before .before .before .before .before .before .before .before .is-ruleset .ensures) ∙ not-false _ (c .before .before .before .before .before .before .before .if1 .left))
-
-same-length-5 : tie.Need-same-length-5
-same-length-5 c = search needs
-
-returns-5 : tie.Need-returns-5
-returns-5 c = add-last (c .before .before .before .before .before .before .before .before .before .before .before .before .before .args .image .now) (sym (c .before .before .before .before .before .before .before .before .before .before .is-ruleset .ensures) ∙ not-false _ (c .before .before .before .before .before .before .before .before .before .if1 .left)) _ (c .before .before .before .before .before .rule-count .ensures .0) (c .before .before .before .before .before .before .before .before .before .before .before .before .before .args .rule) (c .before .before .before .before .before .before .before .before .before .before .before .before .before .args .p) (sym (c .before .before .before .before .before .before .before .before .well-shaped .ensures) ∙ not-false _ (c .before .before .before .before .before .before .before .if2 .left)) (c .before .before .before .before .if3 .left) (c .before .before .before .if4 .left) _ (c .before .last-issued .ensures) (c .if5 .taken)
-
-add-number : tie.Need-add-number
-add-number c = search needs
-
-insert-requires : tie.Need-insert-requires
-insert-requires c κs = (valid-long (c .before .before .before .before .before .before .before .before .before .before .before .before .before .before .args .image .now) (sym (c .before .before .before .before .before .before .before .before .before .before .before .is-ruleset .ensures) ∙ not-false _ (c .before .before .before .before .before .before .before .before .before .before .if1 .left)), (omega (arith, c .before .before .before .before .before .before .rule-count .ensures .0, c .before .before .before .before .before .if3 .left), omega (arith, c .before .before .before .before .before .before .rule-count .ensures .0, c .before .before .before .before .if4 .left)))
-
-same-length-6 : tie.Need-same-length-6
-same-length-6 c = search needs
-
-returns-6 : tie.Need-returns-6
-returns-6 c = add-yes (c .before .before .before .before .before .before .before .before .before .before .before .before .before .before .before .before .before .args .image .now) (sym (c .before .before .before .before .before .before .before .before .before .before .before .before .before .before .is-ruleset .ensures) ∙ not-false _ (c .before .before .before .before .before .before .before .before .before .before .before .before .before .if1 .left)) _ (c .before .before .before .before .before .before .before .before .before .rule-count .ensures .0) (c .before .before .before .before .before .before .before .before .before .before .before .before .before .before .before .before .before .args .rule) (c .before .before .before .before .before .before .before .before .before .before .before .before .before .before .before .before .before .args .p) (sym (c .before .before .before .before .before .before .before .before .before .before .before .before .well-shaped .ensures) ∙ not-false _ (c .before .before .before .before .before .before .before .before .before .before .before .if2 .left)) (c .before .before .before .before .before .before .before .before .if3 .left) (c .before .before .before .before .before .before .before .if4 .left) _ (c .before .before .before .before .before .last-issued .ensures) (c .before .before .before .before .if5 .left) _ (c .before .before .insert .ensures)
+returns-3 c = let full : Filled (c .before .before .before .before .before .before .before .before .before .before .before .before .before .before .before .before .before .before .args .rule) = (search needs, (search needs, (search needs, search needs))) in add-yes (c .before .before .before .before .before .before .before .before .before .before .before .before .before .before .before .before .before .before .args .image .now) (sym (c .before .before .before .before .before .before .before .before .before .before .before .before .before .before .before .is-ruleset .ensures) ∙ not-false _ (c .before .before .before .before .before .before .before .before .before .before .before .before .before .before .if1 .left)) (c .before .before .before .before .before .before .before .before .before .before .before .before .before .before .before .before .before .before .args .rule) (c .before .before .before .before .before .before .before .before .before .before .before .before .before .before .before .before .before .before .args .p) _ (c .before .before .before .before .before .before .before .before .before .before .before .before .judge-add .ensures) (ap replyOf (c .before .before .before .before .before .before .before .before .before .before .enum-told .given .1)) full _ (c .before .before .before .before .before .before .before .before .last-issued .ensures) _ (c .before .before .before .before .before .before .insert .ensures) _ (c .before .before .settle .ensures)
 
 pub add-rule-spec : {M : Type 1} → statement M
 add-rule-spec =
@@ -71,18 +60,14 @@ add-rule-spec =
     is-ruleset-requires
     same-length
     returns
-    well-shaped-requires
+    judge-add-requires
+    enum-known-answer
     same-length-2
     returns-2
-    rule-count-requires
-    same-length-3
-    returns-3
-    same-length-4
-    returns-4
+    enum-told
     last-issued-requires
-    same-length-5
-    returns-5
     add-number
     insert-requires
-    same-length-6
-    returns-6)
+    settle-requires
+    same-length-3
+    returns-3)

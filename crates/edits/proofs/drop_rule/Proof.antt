@@ -5,7 +5,7 @@ use native.Mathlib.Omega.{arith}
 use borrow.Author.Needs.{needs}
 use borrow.Author.Tests.{not-true, not-false}
 use Rattle.image.proofs.Tests.{valid-long, valid-count}
-use Rattle.edits.proofs.Answers.{invalid, drop-none, drop-yes}
+use Rattle.edits.proofs.Answers.{invalid, drop-none, drop-sound, drop-yes}
 use Rattle.edits.proofs.drop_rule.Statement.{statement}
 use Rattle.edits.proofs.drop_rule.Tie as tie
 
@@ -33,11 +33,14 @@ returns-2 c = drop-none (c .before .before .before .before .before .before .befo
 remove-requires : tie.Need-remove-requires
 remove-requires c κs = (valid-long (c .before .before .before .before .before .before .before .before .before .before .args .image .now) (sym (c .before .before .before .before .before .before .before .is-ruleset .ensures) ∙ not-false _ (c .before .before .before .before .before .before .if1 .left)), (omega (arith, c .before .before .before .before .rule-count .ensures .0, c .before .if2 .left), valid-count (c .before .before .before .before .before .before .before .before .before .before .args .image .now) (sym (c .before .before .before .before .before .before .before .is-ruleset .ensures) ∙ not-false _ (c .before .before .before .before .before .before .if1 .left))))
 
+settle-requires : tie.Need-settle-requires
+settle-requires c κs = drop-sound (c .before .before .before .before .before .before .before .before .before .before .before .before .before .before .args .image .now) (sym (c .before .before .before .before .before .before .before .before .before .before .before .is-ruleset .ensures) ∙ not-false _ (c .before .before .before .before .before .before .before .before .before .before .if1 .left)) _ (c .before .before .before .before .before .before .before .before .rule-count .ensures .0) (c .before .before .before .before .before .before .before .before .before .before .before .before .before .before .args .number) _ (c .before .before .before .before .before .before .place-of .ensures) (c .before .before .before .before .before .if2 .left) _ (c .before .before .before .remove .ensures)
+
 same-length-3 : tie.Need-same-length-3
 same-length-3 c = search needs
 
 returns-3 : tie.Need-returns-3
-returns-3 c = drop-yes (c .before .before .before .before .before .before .before .before .before .before .before .before .before .args .image .now) (sym (c .before .before .before .before .before .before .before .before .before .before .is-ruleset .ensures) ∙ not-false _ (c .before .before .before .before .before .before .before .before .before .if1 .left)) _ (c .before .before .before .before .before .before .before .rule-count .ensures .0) (c .before .before .before .before .before .before .before .before .before .before .before .before .before .args .number) _ (c .before .before .before .before .before .place-of .ensures) (c .before .before .before .before .if2 .left) _ (c .before .before .remove .ensures)
+returns-3 c = drop-yes (c .before .before .before .before .before .before .before .before .before .before .before .before .before .before .before .before .before .args .image .now) (sym (c .before .before .before .before .before .before .before .before .before .before .before .before .before .before .is-ruleset .ensures) ∙ not-false _ (c .before .before .before .before .before .before .before .before .before .before .before .before .before .if1 .left)) _ (c .before .before .before .before .before .before .before .before .before .before .before .rule-count .ensures .0) (c .before .before .before .before .before .before .before .before .before .before .before .before .before .before .before .before .before .args .number) _ (c .before .before .before .before .before .before .before .before .before .place-of .ensures) (c .before .before .before .before .before .before .before .before .if2 .left) _ (c .before .before .before .before .before .before .remove .ensures) _ (c .before .before .settle .ensures)
 
 pub drop-rule-spec : {M : Type 1} → statement M
 drop-rule-spec =
@@ -51,5 +54,6 @@ drop-rule-spec =
     same-length-2
     returns-2
     remove-requires
+    settle-requires
     same-length-3
     returns-3)

@@ -5,7 +5,7 @@ use native.Mathlib.Omega.{arith}
 use borrow.Author.Needs.{needs}
 use borrow.Author.Tests.{not-true, not-false}
 use Rattle.image.proofs.Tests.{valid-long, valid-count}
-use Rattle.edits.proofs.Answers.{invalid, move-none, move-place, move-yes}
+use Rattle.edits.proofs.Answers.{invalid, move-none, move-place, move-sound, move-yes}
 use Rattle.edits.proofs.move_rule.Statement.{statement}
 use Rattle.edits.proofs.move_rule.Tie as tie
 
@@ -39,11 +39,14 @@ returns-3 c = move-place (c .before .before .before .before .before .before .bef
 relocate-requires : tie.Need-relocate-requires
 relocate-requires c κs = (valid-long (c .before .before .before .before .before .before .before .before .before .before .before .args .image .now) (sym (c .before .before .before .before .before .before .before .before .is-ruleset .ensures) ∙ not-false _ (c .before .before .before .before .before .before .before .if1 .left)), (omega (arith, c .before .before .before .before .before .rule-count .ensures .0, c .before .before .if2 .left), (omega (arith, c .before .before .before .before .before .rule-count .ensures .0, c .before .if3 .left), valid-count (c .before .before .before .before .before .before .before .before .before .before .before .args .image .now) (sym (c .before .before .before .before .before .before .before .before .is-ruleset .ensures) ∙ not-false _ (c .before .before .before .before .before .before .before .if1 .left)))))
 
+settle-requires : tie.Need-settle-requires
+settle-requires c κs = move-sound (c .before .before .before .before .before .before .before .before .before .before .before .before .before .before .before .args .image .now) (sym (c .before .before .before .before .before .before .before .before .before .before .before .before .is-ruleset .ensures) ∙ not-false _ (c .before .before .before .before .before .before .before .before .before .before .before .if1 .left)) _ (c .before .before .before .before .before .before .before .before .before .rule-count .ensures .0) (c .before .before .before .before .before .before .before .before .before .before .before .before .before .before .before .args .number) _ (c .before .before .before .before .before .before .before .place-of .ensures) (c .before .before .before .before .before .before .before .before .before .before .before .before .before .before .before .args .p) (c .before .before .before .before .before .before .if2 .left) (c .before .before .before .before .before .if3 .left) _ (c .before .before .before .relocate .ensures)
+
 same-length-4 : tie.Need-same-length-4
 same-length-4 c = search needs
 
 returns-4 : tie.Need-returns-4
-returns-4 c = move-yes (c .before .before .before .before .before .before .before .before .before .before .before .before .before .before .args .image .now) (sym (c .before .before .before .before .before .before .before .before .before .before .before .is-ruleset .ensures) ∙ not-false _ (c .before .before .before .before .before .before .before .before .before .before .if1 .left)) _ (c .before .before .before .before .before .before .before .before .rule-count .ensures .0) (c .before .before .before .before .before .before .before .before .before .before .before .before .before .before .args .number) _ (c .before .before .before .before .before .before .place-of .ensures) (c .before .before .before .before .before .before .before .before .before .before .before .before .before .before .args .p) (c .before .before .before .before .before .if2 .left) (c .before .before .before .before .if3 .left) _ (c .before .before .relocate .ensures)
+returns-4 c = move-yes (c .before .before .before .before .before .before .before .before .before .before .before .before .before .before .before .before .before .before .args .image .now) (sym (c .before .before .before .before .before .before .before .before .before .before .before .before .before .before .before .is-ruleset .ensures) ∙ not-false _ (c .before .before .before .before .before .before .before .before .before .before .before .before .before .before .if1 .left)) _ (c .before .before .before .before .before .before .before .before .before .before .before .before .rule-count .ensures .0) (c .before .before .before .before .before .before .before .before .before .before .before .before .before .before .before .before .before .before .args .number) _ (c .before .before .before .before .before .before .before .before .before .before .place-of .ensures) (c .before .before .before .before .before .before .before .before .before .before .before .before .before .before .before .before .before .before .args .p) (c .before .before .before .before .before .before .before .before .before .if2 .left) (c .before .before .before .before .before .before .before .before .if3 .left) _ (c .before .before .before .before .before .before .relocate .ensures) _ (c .before .before .settle .ensures)
 
 pub move-rule-spec : {M : Type 1} → statement M
 move-rule-spec =
@@ -59,5 +62,6 @@ move-rule-spec =
     same-length-3
     returns-3
     relocate-requires
+    settle-requires
     same-length-4
     returns-4)

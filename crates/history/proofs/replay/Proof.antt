@@ -21,8 +21,8 @@ same-length c = search needs
 
 returns : tie.Need-returns
 returns c =
-    let a = c .before .before .before .before .before .before .before .before .before .before .before .args in
-    short-kept (a .image .now) (a .code .now) (a .answers .now) (a .places .now) _ _ _ _ (ap replyOf (c .before .answer .given .1)) (c .before .before .before .before .before .clear .ensures)
+    let a = c .before .before .before .before .before .before .before .before .before .before .before .before .args in
+    short-kept (a .image .now) (a .code .now) (a .letters .now) (a .answers .now) (a .places .now) _ _ _ _ (ap replyOf (c .before .answer .given .1)) (c .before .before .before .before .before .clear .ensures)
 
 enum-told : tie.Need-enum-told
 enum-told c = search needs
@@ -47,9 +47,9 @@ same-length-4 c = search needs
 
 returns-2 : tie.Need-returns-2
 returns-2 c =
-    let a = c .before .before .before .before .before .before .before .before .before .before .before .before .before .before .before .before .before .before .before .before .before .before .args in
+    let a = c .before .before .before .before .before .before .before .before .before .before .before .before .before .before .before .before .before .before .before .before .before .before .before .args in
     let n = c .before .before .before .before .before .before .before .before .before .before .smaller2 .ensures ∙ ap (min (length (a .code .now) / editWords)) (c .before .before .before .before .before .before .before .before .before .before .before .smaller .ensures) in
-    long-enough (a .image .now) (a .code .now) (a .answers .now) (a .places .now) _ _ (ap replyOf (c .before .before .before .before .before .before .before .before .before .before .before .before .enum-told .given .1)) (c .before .before .before .before .before .before .before .before .before .before .before .before .before .before .before .before .clear .ensures)
+    long-enough (a .image .now) (a .code .now) (a .letters .now) (a .answers .now) (a .places .now) _ _ (ap replyOf (c .before .before .before .before .before .before .before .before .before .before .before .before .enum-told .given .1)) (c .before .before .before .before .before .before .before .before .before .before .before .before .before .before .before .before .clear .ensures)
     _ n _ _ _ (c .before .before .before .before .before .before .replay-all .ensures)
 
 pub replay-spec : {M : Type 1} → statement M

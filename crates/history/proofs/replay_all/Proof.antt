@@ -9,15 +9,15 @@ use Rattle.history.proofs.replay_all.Statement.{statement}
 use Rattle.history.proofs.replay_all.Tie as tie
 
 abbrev Inv-loop : tie.InvT-loop
-Inv-loop image₀ code answers₀ places₀ n i₀ at₀ image answers places i at = Going code image₀ answers₀ places₀ n image answers places i at
+Inv-loop image₀ code letters answers₀ places₀ n i₀ at₀ image answers places i at = Going letters code image₀ answers₀ places₀ n image answers places i at
 
 abbrev μ-loop : tie.MeasureT-loop
-μ-loop image₀ code answers₀ places₀ n i₀ at₀ image answers places i at = n - i
+μ-loop image₀ code letters answers₀ places₀ n i₀ at₀ image answers places i at = n - i
 
 loop-holds : tie.Need-loop-holds Inv-loop μ-loop
 loop-holds c =
-    let a = c .before .before .before .before .args in
-    going-start (a .code .now) (a .image .now) (a .answers .now) (a .places .now) (a .n)
+    let a = c .before .before .before .before .before .args in
+    going-start (a .letters .now) (a .code .now) (a .image .now) (a .answers .now) (a .places .now) (a .n)
 
 mul-edit : tie.Need-mul-edit Inv-loop μ-loop
 mul-edit c = search needs
@@ -60,10 +60,10 @@ loop-less c = search needs
 
 loop-again : tie.Need-loop-again Inv-loop μ-loop
 loop-again c =
-    let a = c .before .before .before .before .before .before .before .before .before .before .before .before .before .args in
+    let a = c .before .before .before .before .before .before .before .before .before .before .before .before .before .before .args in
     let l = c .before .before .before .before .before .before .before .before .loop in
-    going-on (a .code .now) (a .image .now) (a .answers .now) (a .places .now) (a .n) (l .image) (l .answers) (l .places) (l .i) (l .at) (l .inv)
-    (replyOf (c .before .before .before .before .edit .result)) _ (c .before .answer-code .result) (c .answer-place .result) (omega arith) (c .before .before .before .before .before .before .before .before .before .before .before .before .before .pre) (search needs) (c .before .before .before .before .edit .ensures)
+    going-on (a .letters .now) (a .code .now) (a .image .now) (a .answers .now) (a .places .now) (a .n) (l .image) (l .answers) (l .places) (l .i) (l .at) (l .inv)
+    (replyOf (c .before .before .before .before .edit .result)) _ (c .before .answer-code .result) (c .answer-place .result) (omega arith) (c .before .before .before .before .before .before .before .before .before .before .before .before .before .before .pre) (search needs) (c .before .before .before .before .edit .ensures)
     (c .before .answer-code .ensures) (c .answer-place .ensures)
 
 same-length : tie.Need-same-length Inv-loop μ-loop
@@ -77,9 +77,9 @@ same-length-3 c = c .before .loop .inv .«places-long»
 
 returns : tie.Need-returns Inv-loop μ-loop
 returns c =
-    let a = c .before .before .before .before .before .before .args in
+    let a = c .before .before .before .before .before .before .before .args in
     let l = c .before .loop in
-    going-end (a .code .now) (a .image .now) (a .answers .now) (a .places .now) (a .n) (l .image) (l .answers) (l .places) (l .i) (l .at) (l .inv)
+    going-end (a .letters .now) (a .code .now) (a .image .now) (a .answers .now) (a .places .now) (a .n) (l .image) (l .answers) (l .places) (l .i) (l .at) (l .inv)
     (c .loop-test .left)
 
 pub replay-all-spec : {M : Type 1} → statement M
