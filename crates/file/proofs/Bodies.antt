@@ -40,9 +40,9 @@ below hi (x ∷ s) h f = let u = f 0 in (omega arith, below hi s h (λ k. f (suc
 shape-bytes : (r : Production) → shape r ≡ true → Bytes (r .left ++ (r .target ++ (r .right ++ r .phones)))
 shape-bytes r e =
     let s = shaped r e in
-    bytes-append (r .left) _ (below 64 (r .left) (omega arith) (s .left-symbols))
+    bytes-append (r .left) _ (below 256 (r .left) (omega arith) (λ k. omega (arith, s .left-symbols k)))
     (bytes-append (r .target) _ (below 64 (r .target) (omega arith) (s .target-symbols))
-    (bytes-append (r .right) _ (below 64 (r .right) (omega arith) (s .right-symbols)) (below 256 (r .phones) (omega arith) (s .phones-bytes))))
+    (bytes-append (r .right) _ (below 256 (r .right) (omega arith) (λ k. omega (arith, s .right-symbols k))) (below 256 (r .phones) (omega arith) (s .phones-bytes))))
 
 pub record InRange (last : ℕ) (e : Entry) : Type 0 where
   pub shaped : shape (e .rule) ≡ true
@@ -102,7 +102,7 @@ rule-is e =
     eq-eqb (length (framed (ruleBody e))) (bodySize (framed (ruleBody e)) + 1)
     (omega (arith, length-append (l ++ (t ++ (r ++ p))) s, length-append l (t ++ (r ++ p)), length-append t (r ++ p), length-append r p))
 
-one : (k : List ℕ) → length k ≡ 1 → k ≡ getD k 0 0 ∷ []
+pub one : (k : List ℕ) → length k ≡ 1 → k ≡ getD k 0 0 ∷ []
 one [] h = absurd (omega arith)
 one (x ∷ []) h = refl
 one (x ∷ y ∷ k) h = absurd (omega arith)

@@ -1,14 +1,17 @@
--- Document 01's six rules and their file.
+-- Document 01's six rules and their file; a file with a letter class, and what its faults are.
 -- Assumes nothing.
 use Prim.Native.Nat.{ℕ}
 use mathlib.Core.Path.{_≡_, refl, ap, _∙_, sym}
-use mathlib.Core.List.{List, [], _∷_}
+use mathlib.Core.List.{List, [], _∷_, _++_}
 use mathlib.Core.Bool.{true}
 use Rattle.rules.specs.Shape.{Entry, shape}
-use Rattle.frames.specs.Lines.{digit, sumByte}
-use Rattle.image.specs.State.{Ruleset, isRuleset}
-use Rattle.file.specs.File.{wellFormed, encode, readFile}
-use Rattle.file.specs.File.Read.{Accepted}
+use Rattle.frames.specs.Lines.{digit, value, sumByte, soundLine}
+use Rattle.classes.specs.Classes.{noClasses, classShape, defined, OnlyClasses}
+use Rattle.classes.specs.Masks.{classesShaped}
+use Rattle.classes.specs.Setting.{withClass}
+use Rattle.image.specs.State.{Ruleset, expandable, isRuleset}
+use Rattle.file.specs.File.{wellFormed, classLines, encode, readClasses, readFile}
+use Rattle.file.specs.File.Read.{Accepted, Malformed, Broken}
 use Rattle.file.proofs.Accepts.{accepts}
 
 abbrev rule : ℕ → List ℕ → List ℕ → List ℕ → List ℕ → Entry
@@ -25,6 +28,7 @@ six = record {
       ∷ rule 6 ([]) (14 ∷ []) ([]) (110 ∷ [])
       ∷ [];
   last = 6;
+  classes = noClasses;
 }
 
 pub sixFile : List ℕ
@@ -38,12 +42,57 @@ sixFile =
     48 ∷ 50 ∷ 48 ∷ 48 ∷ 48 ∷ 54 ∷ 48 ∷ 48 ∷ 48 ∷ 49 ∷ 48 ∷ 48 ∷ 48 ∷ 49 ∷ 48 ∷ 69 ∷ 54 ∷ 69 ∷ 55 ∷ 65 ∷ 10 ∷ []
 
 pub six-file : encode six ≡ sixFile
-unfolding six sixFile encode digit sumByte
+unfolding six sixFile encode classLines digit sumByte
 six-file = refl
 
 six-formed : wellFormed six ≡ true
-unfolding six wellFormed isRuleset shape
+unfolding six wellFormed isRuleset shape classesShaped expandable defined
 six-formed = refl
 
+six-only : OnlyClasses (six .classes)
+unfolding six
+six-only c h = refl
+
 pub six-read : readFile sixFile ≡ Accepted six
-six-read = ap readFile (sym six-file) ∙ accepts six six-formed
+six-read = ap readFile (sym six-file) ∙ accepts six six-formed six-only
+
+-- ---- a letter class: 40 stands for 01 and 05, and a rule has it as its right context
+
+pub withVowels : Ruleset
+withVowels = record { rules = rule 1 ([]) (11 ∷ []) (64 ∷ []) (107 ∷ []) ∷ []; last = 1; classes = withClass noClasses 64 (1 ∷ 5 ∷ []) }
+
+abbrev head : List ℕ
+head = 48 ∷ 49 ∷ 48 ∷ 49 ∷ 48 ∷ 48 ∷ 48 ∷ 49 ∷ 48 ∷ 48 ∷ 48 ∷ 49 ∷ 70 ∷ 67 ∷ 10 ∷ []
+
+abbrev vowels : List ℕ
+vowels = 48 ∷ 55 ∷ 52 ∷ 48 ∷ 48 ∷ 50 ∷ 48 ∷ 49 ∷ 48 ∷ 53 ∷ 66 ∷ 49 ∷ 10 ∷ []
+
+abbrev vowelRule : List ℕ
+vowelRule = 48 ∷ 50 ∷ 48 ∷ 48 ∷ 48 ∷ 49 ∷ 48 ∷ 48 ∷ 48 ∷ 49 ∷ 48 ∷ 49 ∷ 48 ∷ 49 ∷ 48 ∷ 66 ∷ 52 ∷ 48 ∷ 54 ∷ 66 ∷ 52 ∷ 52 ∷ 10 ∷ []
+
+pub vowels-file : encode withVowels ≡ head ++ (vowels ++ vowelRule)
+unfolding withVowels encode classLines digit sumByte
+vowels-file = refl
+
+pub vowels-read : readFile (head ++ (vowels ++ vowelRule)) ≡ Accepted withVowels
+unfolding withVowels readFile readClasses soundLine value classShape shape defined
+vowels-read = refl
+
+-- a class defined twice is refused at its later line
+pub vowels-twice : readFile (head ++ (vowels ++ (vowels ++ vowelRule))) ≡ Broken 28
+unfolding readFile readClasses soundLine value classShape
+vowels-twice = refl
+
+-- a rule with a class that is not defined, at its line
+pub vowels-none : readFile (head ++ vowelRule) ≡ Broken 15
+unfolding readFile readClasses soundLine value shape defined
+vowels-none = refl
+
+-- where a rule is to come, a line that is not sound is 13; after the last rule it is 14
+pub vowels-unsound : readFile (head ++ (vowels ++ (48 ∷ 10 ∷ []))) ≡ Malformed 28
+unfolding readFile readClasses soundLine value classShape
+vowels-unsound = refl
+
+pub vowels-over : readFile (head ++ (vowels ++ (vowelRule ++ (48 ∷ 10 ∷ [])))) ≡ Broken 51
+unfolding readFile readClasses soundLine value classShape shape defined
+vowels-over = refl

@@ -2,7 +2,7 @@
 -- Assumes nothing.
 use Prim.Native.Nat.{ℕ, _≤_, _<_}
 use mathlib.Core.Path.{_≡_, refl, sym, ap, ap₂, _∙_}
-use mathlib.Core.List.{List, []}
+use mathlib.Core.List.{List}
 use mathlib.Core.Bool.{true, false}
 use native.Mathlib.Omega.{arith}
 use lib.ListN.{length, take, drop}
@@ -17,7 +17,7 @@ use Rattle.frames.proofs.Report.{Found, found, not-found, frame-held}
 use Rattle.file.specs.declared.heading.Head.{Head}
 use Rattle.file.specs.declared.heading.HeadLine.{HeadLine}
 use Rattle.file.specs.Layout.{headCount, headLast, headFrameSize}
-use Rattle.file.specs.File.{isHead, readRules, readFile}
+use Rattle.file.specs.File.{isHead, readDefined, afterClasses, readFile}
 use Rattle.file.specs.Loading.{verdict, noHead, headIn, headAt}
 use Rattle.file.proofs.Bodies.{clash}
 use Rattle.file.proofs.Accepts.{read-head, head-limit}
@@ -103,10 +103,10 @@ module _ (file : List ℕ) (line : HeadLine) (e : line ≡ headAt (length file) 
       pub head-within : line .next ≤ length file
       head-within = rw told-next (first .within)
 
-      pub head-on : readRules (length file) (line .head .last) (line .head .count) [] (drop (line .next) file) ≡ readFile file
+      pub head-on : afterClasses (length file) (line .head .last) (line .head .count) (readDefined (drop (line .next) file)) ≡ readFile file
       head-on =
-          ap (λ (h : Head). readRules (length file) (h .last) (h .count) [] (drop (line .next) file)) fields
-          ∙ (ap (readRules (length file) (headLast (first .f)) (headCount (first .f)) []) (ap (λ (n : ℕ). drop n file) told-next ∙ first .onward)
+          ap (λ (h : Head). afterClasses (length file) (h .last) (h .count) (readDefined (drop (line .next) file))) fields
+          ∙ (ap (λ (t : List ℕ). afterClasses (length file) (headLast (first .f)) (headCount (first .f)) (readDefined t)) (ap (λ (n : ℕ). drop n file) told-next ∙ first .onward)
           ∙ sym (read-head file (first .f) (first .rest) (first .is) headed))
 
   -- of a file that is accepted the head is one

@@ -5,35 +5,32 @@
 --     formed               a valid image holds a well-formed ruleset
 --     kept                 the image that a well-formed ruleset is laid in holds that ruleset, and is valid
 -- Assumes nothing.
-use Prim.Native.Nat.{ℕ, zero, suc, _+_, _*_, _/_, _%_, _≤_, _<_}
-use mathlib.Core.Path.{_≡_, refl, sym, ap, ap₂, _∙_}
-use mathlib.Core.List.{List, [], _∷_, map}
+use Prim.Native.Nat.{ℕ, zero, suc, _≤_, _<_}
+use mathlib.Core.Path.{_≡_, refl, sym, ap, _∙_}
+use mathlib.Core.List.{List, [], _∷_}
 use mathlib.Core.Bool.{true}
 use native.Mathlib.Omega.{arith}
 use borrow.Author.Tests.{le-leb, leb-true}
-use lib.ListN.{length, getD, take, drop, length-append, length-drop, length-map}
+use lib.ListN.{length, getD, take, drop}
 use lib.Seq.{take-append-seam}
 use lib.Dec.{leb}
+use Rattle.classes.specs.Classes.{OnlyClasses}
 use Rattle.rules.specs.Limits.{maxNumber}
 use Rattle.rules.specs.Memory.{over}
-use Rattle.rules.proofs.Cases.{byBool, and-r, and-i}
-use Rattle.rules.specs.Shape.{Entry, entryOf}
-use Rattle.rules.specs.Refusals.{accepted}
-use Rattle.image.specs.State.{Ruleset, rulesetOf, entry, entries, distinct}
-use Rattle.image.specs.Image.{imageSize, flat, slotStart, ledgerOf, lastOf, laid, valid, Edited, outcome}
-use Rattle.image.proofs.Stored.{Fine, valid-by, listed-flat, length-flat}
-use Rattle.image.proofs.Entries.{shaped}
+use Rattle.rules.proofs.Cases.{byBool, and-i}
+use Rattle.rules.specs.Refusals.{accepted, wrote, refused}
+use Rattle.classes.proofs.Bytes.{outside-in}
+use Rattle.image.specs.State.{Ruleset, rulesetOf}
+use Rattle.image.specs.Image.{imageSize, lastOf, masksIn, classesOf, whole, valid, Edited, outcome}
+use Rattle.image.proofs.Stored.{valid-fine}
+use Rattle.image.proofs.Whole.{whole-ledger, whole-valid}
 use Rattle.frames.proofs.Lines.{Bytes}
-use Rattle.file.specs.Layout.{numberedOf}
 use Rattle.file.specs.File.{wellFormed, encode, Read, readFile}
 use Rattle.file.specs.File.Read.{Accepted, Malformed, Broken}
 use Rattle.file.specs.Loading.{ledgerFor, verdict, loaded, rulesetIn, filing, filed}
-use Rattle.rules.specs.Refusals.{wrote, refused}
-use Rattle.file.proofs.Bodies.{both, in-range}
-use Rattle.file.proofs.Accepts.{formed-is, accepts, accepted as accepted-was}
-use Rattle.file.proofs.Parts.{view-struct}
+use Rattle.file.proofs.Accepts.{accepts, accepted as accepted-was}
 use Rattle.file.proofs.FirstLine.{no-decline}
-use Rattle.file.proofs.Storing.{each-numbered}
+use Rattle.file.proofs.Storing.{formed-ruleset, formed-fine}
 
 -- ---- an image and its ruleset
 
@@ -44,61 +41,26 @@ byte-at (b ∷ d) zero h = h .0
 byte-at (b ∷ d) (suc k) h = byte-at d k (h .1)
 
 pub formed : (d : List ℕ) → Bytes d → valid d ≡ true → wellFormed (rulesetIn d) ≡ true
-unfolding wellFormed valid
+unfolding wellFormed
 formed d h ok =
     let u : lastOf d ≤ maxNumber = omega (arith, byte-at d 2 h, byte-at d 3 h) in
-    and-i (le-leb (lastOf d) maxNumber u) (and-r (leb imageSize (length d)) _ ok)
+    and-i (le-leb (lastOf d) maxNumber u) (valid-fine d ok .ruled)
 
--- rules in structs are those rules
-entries-kept : (last : ℕ) (l : List Entry) → entries last l ≡ true → map entryOf (map numberedOf l) ≡ l
-entries-kept last [] h = refl
-entries-kept last (e ∷ l) h =
-    let a = both (entry last e) _ h in
-    let b = shaped (e .rule) (in-range last e (a .0) .shaped) in
-    let k : entryOf (numberedOf e) ≡ e = rw (view-struct (e .rule) (b .left-most) (b .target-most) (b .right-most) (b .phones-most)) in
-    ap₂ (λ (x : Entry) (m : List Entry). x ∷ m) k (entries-kept last l (a .1))
+-- and the classes of class symbols only
+only-classes : (d : List ℕ) → OnlyClasses (rulesetIn d .classes)
+unfolding classesOf
+only-classes d = outside-in (masksIn d)
 
-module _ (b : Ruleset) (v : wellFormed b ≡ true) (xs : List ℕ) (long : imageSize ≤ length xs) where
-  rules : map entryOf (map numberedOf (b .rules)) ≡ b .rules
-  rules = entries-kept (b .last) (b .rules) (formed-is b v .all)
+module _ (b : Ruleset) (v : wellFormed b ≡ true) (only : OnlyClasses (b .classes)) (xs : List ℕ) (long : imageSize ≤ length xs) where
+  pub kept-valid : valid (whole (ledgerFor b) xs) ≡ true
+  kept-valid = whole-valid xs long (ledgerFor b) (formed-fine b v) only
 
-  state : ledgerOf (laid (ledgerFor b) xs) ≡ ledgerFor b
-  state =
-      let g = ledgerFor b in
-      let c : 256 * (length (g .list) / 256) + length (g .list) % 256 ≡ length (g .list) = omega arith in
-      let l : 256 * (g .last / 256) + g .last % 256 ≡ g .last = omega arith in
-      rw (c, l, listed-flat (drop (slotStart (length (g .list))) xs) (each-numbered (b .rules)))
-
-  fine : Fine (ledgerFor b)
-  fine =
-      let f = formed-is b v in
-      record {
-        held = omega (arith, f .few, length-map (b .rules) numberedOf);
-        each = ap (entries (b .last)) rules ∙ f .all;
-        apart = ap distinct rules ∙ f .differ;
-        filled = each-numbered (b .rules);
-      }
-
-  room : imageSize ≤ length (laid (ledgerFor b) xs)
-  room =
-      let g = ledgerFor b in
-      omega (
-        arith,
-        fine .held,
-        length-flat (each-numbered (b .rules)),
-        length-append (flat (g .list)) (drop (slotStart (length (g .list))) xs),
-        length-drop (slotStart (length (g .list))) xs,
-      )
-
-  pub kept-valid : valid (laid (ledgerFor b) xs) ≡ true
-  kept-valid = valid-by (laid (ledgerFor b) xs) (ledgerFor b) state room fine
-
-  pub kept : rulesetIn (laid (ledgerFor b) xs) ≡ b
-  kept = ap rulesetOf state ∙ ap (λ (l : List Entry). record { rules = l; last = b .last }) rules
+  pub kept : rulesetIn (whole (ledgerFor b) xs) ≡ b
+  kept = ap rulesetOf (whole-ledger xs long (ledgerFor b) (formed-fine b v) only) ∙ formed-ruleset b v
 
 -- ---- a file read
 
-loaded-accepted : (file : List ℕ) (b : Ruleset) (xs : List ℕ) → imageSize ≤ length xs → readFile file ≡ Accepted b → loaded file xs ≡ outcome accepted (laid (ledgerFor b) xs)
+loaded-accepted : (file : List ℕ) (b : Ruleset) (xs : List ℕ) → imageSize ≤ length xs → readFile file ≡ Accepted b → loaded file xs ≡ outcome accepted (whole (ledgerFor b) xs)
 unfolding loaded
 loaded-accepted file b xs h e = rw (le-leb _ _ h, e)
 
@@ -124,7 +86,7 @@ pub read-valid : (file xs : List ℕ) → loaded file xs .reply ≡ accepted →
 read-valid file xs e =
     let t = taken file xs e in
     let w = accepted-was file (t .b) (t .is) in
-    ap (λ (q : Edited). valid (q .image)) (loaded-accepted file (t .b) xs (t .long) (t .is)) ∙ kept-valid (t .b) (w .1) xs (t .long)
+    ap (λ (q : Edited). valid (q .image)) (loaded-accepted file (t .b) xs (t .long) (t .is)) ∙ kept-valid (t .b) (w .formed) (w .only) xs (t .long)
 
 -- ---- a file written
 
@@ -138,10 +100,10 @@ pub read-written : (file xs out : List ℕ) → loaded file xs .reply ≡ accept
 read-written file xs out e h =
     let t = taken file xs e in
     let w = accepted-was file (t .b) (t .is) in
-    let z = laid (ledgerFor (t .b)) xs in
-    let f : encode (rulesetIn z) ≡ file = ap encode (kept (t .b) (w .1) xs (t .long)) ∙ sym (w .0) in
+    let z = whole (ledgerFor (t .b)) xs in
+    let f : encode (rulesetIn z) ≡ file = ap encode (kept (t .b) (w .formed) (w .only) xs (t .long)) ∙ sym (w .was) in
     ap (λ (q : Edited). filed (q .image) out) (loaded-accepted file (t .b) xs (t .long) (t .is))
-    ∙ (filed-is z out (kept-valid (t .b) (w .1) xs (t .long)) (omega (arith, ap length f))
+    ∙ (filed-is z out (kept-valid (t .b) (w .formed) (w .only) xs (t .long)) (omega (arith, ap length f))
     ∙ ap (λ (l : List ℕ). filing (wrote (length l)) (over l out)) f)
 
 -- ---- a file written and read
@@ -180,6 +142,7 @@ written-reads-back image out memory n h long e =
     let p = put image out n e in
     let b = rulesetIn image in
     let v = formed image h (p .ok) in
-    let l : loaded (take n (filed image out .bytes)) memory ≡ outcome accepted (laid (ledgerFor b) memory) =
-    ap (λ (f : List ℕ). loaded f memory) (p .front) ∙ loaded-accepted (encode b) b memory long (accepts b v) in
-    (ap (λ (q : Edited). q .reply) l, ap (λ (q : Edited). rulesetIn (q .image)) l ∙ kept b v memory long)
+    let only = only-classes image in
+    let l : loaded (take n (filed image out .bytes)) memory ≡ outcome accepted (whole (ledgerFor b) memory) =
+    ap (λ (f : List ℕ). loaded f memory) (p .front) ∙ loaded-accepted (encode b) b memory long (accepts b v only) in
+    (ap (λ (q : Edited). q .reply) l, ap (λ (q : Edited). rulesetIn (q .image)) l ∙ kept b v only memory long)

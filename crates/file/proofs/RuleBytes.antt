@@ -15,7 +15,7 @@ use Rattle.frames.proofs.Lines.{length-line}
 use Rattle.file.specs.Layout.{lineSize, frontSize, longestFrame}
 use Rattle.file.specs.File.{ruleBody, ruleLine}
 use Rattle.file.specs.Loading.{fieldBytes, bodyBytes}
-use Rattle.file.proofs.Accepts.{length-rule}
+use Rattle.file.proofs.Lengths.{length-rule}
 
 -- four fields sent one after the other
 pub fields-are : (l t r p : List ℕ) → ((l ++ t) ++ r) ++ p ≡ fieldBytes l t r p

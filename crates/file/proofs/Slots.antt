@@ -7,6 +7,7 @@ use native.Mathlib.Omega.{arith}
 use lib.ListN.{length, take, drop, length-append, length-drop, take-append-drop}
 use lib.Seq.{take-at, drop-append-add, drop-drop, length-take-le}
 use Rattle.rules.specs.declared.Numbered.{Numbered}
+use Rattle.classes.specs.Classes.{Classes}
 use Rattle.image.specs.Image.{headSize, slotSize, slotStart, bytesOf, flat, headOf, laid, withHead, withRule, Filled}
 use Rattle.image.proofs.Stored.{Each, slot-length, length-flat}
 use Rattle.image.proofs.Stored.Each.{none, more}
@@ -78,9 +79,9 @@ rules-length {l} p d m h =
     )
 
 -- the head, then the rules: the state is laid
-pub rules-laid : {l : List Numbered} (d : List ℕ) (last : ℕ) → Each l → slotStart (length l) ≤ length d
-    → withRules 0 l (withHead (length l) last d) ≡ laid (record { list = l; last = last }) d
-rules-laid {l} d last m h =
+pub rules-laid : {l : List Numbered} (d : List ℕ) (last : ℕ) (k : Classes) → Each l → slotStart (length l) ≤ length d
+    → withRules 0 l (withHead (length l) last d) ≡ laid (record { list = l; last = last; classes = k }) d
+rules-laid {l} d last k m h =
     let w = withHead (length l) last d in
     let e : slotStart (0 + length l) ≡ headSize + slotSize * length l = omega arith in
     rules-are 0 w m (omega (arith, length-append (headOf (length l) last) (drop headSize d), length-drop headSize d))

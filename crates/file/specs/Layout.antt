@@ -1,12 +1,13 @@
--- The two frames of the rule file, and where their parts lie. Two-byte fields are high byte first.
+-- The three frames of the rule file, and where their parts lie. Two-byte fields are high byte first.
 -- Head: type 01, edition 01, rule count (2), last (2), checksum.
+-- Class (document 02, request 5): type 07, symbol, letter count, letters ascending, checksum.
 -- Rule: type 02, number (2), four lengths (1 each: left, target, right, phones), their bytes in that order, checksum.
 -- Assumes nothing.
 use Prim.Native.Nat.{ℕ, _+_, _*_}
 use mathlib.Core.List.{List}
 use lib.ListN.{length, getD, take, drop}
 use Rattle.numbers.specs.Numbers.{two}
-use Rattle.rules.specs.Limits.{maxContext, maxTarget, maxPhones}
+use Rattle.rules.specs.Limits.{maxRules, maxContext, maxTarget, maxPhones, classCount, maxClass}
 use Rattle.rules.specs.Shape.{first, Production, Entry}
 use Rattle.rules.specs.declared.Rule.{Rule}
 use Rattle.rules.specs.declared.Numbered.{Numbered}
@@ -40,6 +41,28 @@ headFrameSize = 7
 
 abbrev pub headLineSize : ℕ
 headLineSize = lineSize headFrameSize
+
+-- ---- a class
+
+abbrev pub classType : ℕ
+classType = 7
+
+abbrev pub classSymbol : List ℕ → ℕ
+classSymbol f = getD f 1 0
+
+abbrev pub letterCount : List ℕ → ℕ
+letterCount f = getD f 2 0
+
+-- bytes before the letters
+abbrev pub classFrontSize : ℕ
+classFrontSize = 3
+
+abbrev pub lettersOf : List ℕ → List ℕ
+lettersOf f = take (letterCount f) (drop classFrontSize f)
+
+-- bytes of the longest frame of a class
+abbrev pub longestClassFrame : ℕ
+longestClassFrame = classFrontSize + maxClass + 1
 
 -- ---- a rule
 
@@ -85,6 +108,11 @@ ruleIn f = record {
 -- the same with its number
 abbrev pub entryIn : List ℕ → Entry
 entryIn f = record { number = frameNumber f; rule = ruleIn f }
+
+-- ---- the longest file: a head, all classes and 512 rules, each line as long as it can be
+
+abbrev pub longestFile : ℕ
+longestFile = headLineSize + lineSize longestClassFrame * classCount + lineSize longestFrame * maxRules
 
 -- ---- a rule in a struct
 

@@ -1,32 +1,39 @@
 -- What reading a file into lent memory, and writing a ruleset to lent bytes, give: the answer with document 01's number and place, and
 -- the memory after it.
 -- Assumes nothing.
-use Prim.Native.Nat.{ℕ, suc, _-_, _/_, _%_}
+use Prim.Native.Nat.{ℕ, suc, _+_, _-_, _/_, _%_}
+use mathlib.Core.Path.{_≡_}
 use mathlib.Core.List.{List, [], _∷_, _++_, map}
 use mathlib.Core.Bool.{Bool, true, false, cond, _&&_}
-use lib.ListN.{length}
-use lib.Dec.{leb}
+use lib.ListN.{length, drop}
+use lib.Dec.{leb, eqb}
+use Rattle.rules.specs.Limits.{maxRules}
 use Rattle.rules.specs.Memory.{over}
-use Rattle.rules.specs.Shape.{shape}
+use Rattle.rules.specs.Shape.{Production, shape}
 use Rattle.rules.specs.Refusals.{Reply, accepted, declined, Report, wrote, refused}
 use Rattle.rules.specs.declared.Numbered.{Numbered}
+use Rattle.classes.specs.Classes.{Classes, noClasses, defined}
+use Rattle.classes.specs.Expansion.{literalCount}
+use Rattle.classes.specs.Masks.{maskOf}
 use Rattle.image.specs.State.{Ruleset, Ledger, rulesetOf, entry, noEntry}
-use Rattle.image.specs.Image.{imageSize, ledgerOf, laid, withRule, valid, Edited, outcome}
+use Rattle.image.specs.Image.{imageSize, ledgerOf, whole, withRule, valid, Edited, outcome}
 use Rattle.frames.specs.Lines.{Parsed}
 use Rattle.frames.specs.Lines.Parsed.{Bad, Good}
 use Rattle.file.specs.declared.heading.Head.{Head}
 use Rattle.file.specs.declared.heading.HeadLine.{HeadLine}
+use Rattle.file.specs.declared.defining.ClassLine.{ClassLine}
+use Rattle.file.specs.declared.defining.ClassesEnd.{ClassesEnd}
 use Rattle.file.specs.declared.parsing.Ruled.{Ruled}
 use Rattle.file.specs.declared.parsing.RuleLine.{RuleLine}
-use Rattle.file.specs.Layout.{headCount, headLast, ruleType, entryIn, numberedOf}
-use Rattle.file.specs.File.{encode, Read, isHead, isRule, readFile}
+use Rattle.file.specs.Layout.{frameType, headCount, headLast, classType, classSymbol, lettersOf, ruleType, entryIn, numberedOf}
+use Rattle.file.specs.File.{encode, Read, isHead, classFits, Defined, isRule, readRules, readFile}
 use Rattle.file.specs.File.Read.{Accepted, Malformed, Broken}
 
 -- ---- reading
 
 -- the state that a file describes
 abbrev pub ledgerFor : Ruleset → Ledger
-ledgerFor b = record { list = map numberedOf (b .rules); last = b .last }
+ledgerFor b = record { list = map numberedOf (b .rules); last = b .last; classes = b .classes }
 
 abbrev pub verdict : Read → Reply
 verdict (Accepted b) = accepted
@@ -36,12 +43,12 @@ verdict (Broken p) = declined 14 p
 -- what an accepted file describes
 abbrev pub described : Read → Ruleset
 described (Accepted b) = b
-described (Malformed p) = record { rules = []; last = 0 }
-described (Broken p) = record { rules = []; last = 0 }
+described (Malformed p) = record { rules = []; last = 0; classes = noClasses }
+described (Broken p) = record { rules = []; last = 0; classes = noClasses }
 
 -- the image after the reading: a refusal keeps it
 abbrev pub stored : Read → List ℕ → List ℕ
-stored (Accepted b) image = laid (ledgerFor b) image
+stored (Accepted b) image = whole (ledgerFor b) image
 stored (Malformed p) image = image
 stored (Broken p) image = image
 
@@ -86,6 +93,27 @@ abbrev pub headAt : ℕ → Parsed → HeadLine
 headAt len Bad = record { sound = false; next = 0; head = noHead }
 headAt len (Good f rest) = record { sound = true; next = len - length rest; head = headIn f }
 
+abbrev pub noClassLine : ClassLine
+noClassLine = record { defines = false; next = 0; symbol = 0; mask = 0 }
+
+-- the mask of the class that a frame defines with a symbol from `low` on; 0 where it defines none
+abbrev pub classMask : ℕ → List ℕ → ℕ
+classMask low f = cond (classFits low f) (maskOf (lettersOf f)) 0
+
+-- the class of a line, in a file of len bytes
+abbrev pub classAt : ℕ → ℕ → Parsed → ClassLine
+classAt low len Bad = noClassLine
+classAt low len (Good f rest) =
+    cond (eqb (frameType f) classType) (record { defines = true; next = len - length rest; symbol = classSymbol f; mask = classMask low f }) noClassLine
+
+-- where class lines end, in a file of len bytes
+abbrev pub classesEnd : ℕ → Defined → ClassesEnd
+classesEnd len d = record { ok = d .ok; at = len - length (d .rest) }
+
+-- `before` literal rules with those of a rule more; 0 where a class that it uses is undefined, or where they are more than 512
+abbrev pub totalWith : ℕ → Classes → Production → ℕ
+totalWith before k r = cond (defined k r && leb (before + literalCount k r) maxRules) (before + literalCount k r) 0
+
 abbrev pub noneRuled : Ruled
 noneRuled = record { ok = false; entry = numberedOf noEntry }
 
@@ -101,6 +129,11 @@ ruleAt last len (Good f rest) = record { sound = true; next = len - length rest;
 -- a frame is that of a rule of the shape
 abbrev pub ruleFrame : List ℕ → Bool
 ruleFrame f = isRule f && shape (entryIn f .rule)
+
+-- the rule lines of an accepted file start at `from`
+abbrev pub RulesFrom : List ℕ → ℕ → ℕ → ℕ → Type 0
+RulesFrom file last count from =
+    readRules (length file) last (described (readFile file) .classes) count [] (drop from file) ≡ readFile file
 
 -- rules put into the slots from a place on
 abbrev pub withRules : ℕ → List Numbered → List ℕ → List ℕ

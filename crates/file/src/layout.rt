@@ -1,4 +1,4 @@
-// The two frames of the rule file: where their parts lie, and the rule that a frame holds. Its bytes may also be those of another frame
+// The three frames of the rule file: where their parts lie, and the rule that a frame holds. Its bytes may also be those of another frame
 // that has four lengths and four fields at the same places.
 use rules::Rule;
 ghost use mathlib.Core.Path.{_≡_};
@@ -22,6 +22,17 @@ pub const LAST: usize = 4;
 
 pub const HEAD: usize = 7;
 
+// A class: type, symbol, letter count, letters, checksum.
+pub const CLASS_TYPE: u8 = 7;
+
+pub const SYMBOL: usize = 1;
+
+pub const LETTER_COUNT: usize = 2;
+
+pub const LETTERS: usize = 3;
+
+pub const LONGEST_CLASS: usize = LETTERS + rules::MAX_CLASS + 1;
+
 // A rule: type, number (2), four lengths (1 each: left, target, right, phones), their bytes, checksum.
 pub const RULE_TYPE: u8 = 2;
 
@@ -43,6 +54,12 @@ pub const LONGEST: usize = FRONT
     + rules::MAX_CONTEXT
     + rules::MAX_PHONES
     + 1;
+
+// The longest file: a head, all classes and 512 rules, each line as long as it can be.
+pub const LONGEST_FILE: usize = 2 * HEAD
+    + 1
+    + (2 * LONGEST_CLASS + 1) * rules::CLASSES
+    + (2 * LONGEST + 1) * rules::MAX_RULES;
 
 // The bytes of a rule's frame without its checksum, by its lengths.
 pub fn body_size(f: &[u8]) -> usize

@@ -1,4 +1,5 @@
 // A rule file judged whole, then stored in lent memory.
+use crate::defining;
 use crate::heading;
 use crate::layout;
 use crate::parsing;
@@ -12,12 +13,13 @@ ghost use lib.ListN.{length, getD, drop, set, replicate};
 ghost use lib.Bits.{bitOr};
 ghost use Rattle.rules.specs.Limits.{maxRules};
 ghost use Rattle.rules.specs.Refusals.{replyOf, accepted};
-ghost use Rattle.image.specs.Bits.{held};
-ghost use Rattle.image.specs.Image.{imageSize, withRule, laid};
+ghost use Rattle.classes.specs.Masks.{masksSize, classesIn};
+ghost use Rattle.numbers.specs.Bits.{held};
+ghost use Rattle.image.specs.Image.{imageSize, withRule, whole};
 ghost use Rattle.frames.specs.Lines.{decoded};
 ghost use Rattle.file.specs.Layout.{lineSize, entryIn, numberedOf};
 ghost use Rattle.file.specs.File.{readRules, readFile};
-ghost use Rattle.file.specs.Loading.{ledgerFor, verdict, described, ruleFrame, withRules};
+ghost use Rattle.file.specs.Loading.{ledgerFor, verdict, described, RulesFrom, ruleFrame, withRules};
 
 // Whether a set of numbers, a bit for each, holds n; then it does.
 fn mark(seen: &mut [u64], n: u16) -> bool
@@ -28,16 +30,24 @@ fn mark(seen: &mut [u64], n: u16) -> bool
     let w = (n / 64) as usize;
     let k = (n % 64) as u64;
     let word = seen[w];
-    seen[w] = image::with_bit(word, k);
-    image::has_bit(word, k)
+    seen[w] = numbers::with_bit(word, k);
+    numbers::has_bit(word, k)
 }
 
 // The rule lines from a place on, judged.
-fn judge_rules(file: &[u8], from: usize, count: usize, last: u16, seen: &mut [u64]) -> Answer
-    requires { ⌜ (from ≤ length (now file)) × (now seen ≡ replicate 1024 0) ⌝ }
-    ensures { λ r. ⌜ replyOf r ≡ verdict (readRules (length (now (file .entry))) last count [] (drop from (now (file .entry)))) ⌝ }
+fn judge_rules(
+    file: &[u8],
+    from: usize,
+    count: usize,
+    last: u16,
+    masks: &[u8],
+    seen: &mut [u64],
+) -> Answer
+    requires { ⌜ (from ≤ length (now file)) × ((masksSize ≤ length (now masks)) × (now seen ≡ replicate 1024 0)) ⌝ }
+    ensures { λ r. ⌜ replyOf r ≡ verdict (readRules (length (now (file .entry))) last (classesIn (now (masks .entry))) count [] (drop from (now (file .entry)))) ⌝ }
 {
     let mut at = from;
+    let mut total: usize = 0;
     let mut i: usize = 0;
     while i < count {
         let line = parsing::read_rule(file, at, last);
@@ -51,6 +61,10 @@ fn judge_rules(file: &[u8], from: usize, count: usize, last: u16, seen: &mut [u6
         let entry = ruled.entry;
         if mark(&mut *seen, entry.number) {
             return Answer::Refused(Refusal::BadText(at)); // its later line
+        }
+        total = parsing::total_with(total, masks, entry.rule);
+        if total == 0 {
+            return Answer::Refused(Refusal::BadText(at)); // its literal rules
         }
         at = line.next;
         i += 1;
@@ -73,9 +87,13 @@ pub fn judge(file: &[u8]) -> Answer
     if !head.ok {
         return Answer::Refused(Refusal::BadText(0));
     }
-    let from = line.next;
+    let mut masks = [0u8; classes::MASKS_SIZE];
+    let defined = defining::read_classes(file, line.next, &mut masks);
+    if !defined.ok {
+        return Answer::Refused(Refusal::BadText(defined.at));
+    }
     let mut seen = [0u64; 1024];
-    judge_rules(file, from, head.count, head.last, &mut seen)
+    judge_rules(file, defined.at, head.count, head.last, &masks, &mut seen)
 }
 
 // The rule of a line that was judged, put into its slot without judging it again, and where the next line starts.
@@ -92,10 +110,10 @@ fn store_rule(file: &[u8], at: usize, place: usize, image: &mut [u8]) -> usize
     at + (2 * n + 1)
 }
 
-// The rules of lines that were judged, put into their slots.
+// The rules of a file that was judged, put into their slots. Its rule lines start at `from`.
 fn store_rules(file: &[u8], from: usize, count: usize, last: u16, image: &mut [u8])
-    requires { ⌜ (count ≤ maxRules) × ((from ≤ length (now file)) × ((imageSize ≤ length (now image)) × (verdict (readRules (length (now file)) last count [] (drop from (now file))) ≡ accepted))) ⌝ }
-    ensures { λ _. ⌜ now (image .exit) ≡ withRules 0 (map numberedOf (described (readRules (length (now (file .entry))) last count [] (drop from (now (file .entry)))) .rules)) (now (image .entry)) ⌝ }
+    requires { ⌜ (count ≤ maxRules) × ((from ≤ length (now file)) × ((imageSize ≤ length (now image)) × ((verdict (readFile (now file)) ≡ accepted) × RulesFrom (now file) last count from))) ⌝ }
+    ensures { λ _. ⌜ now (image .exit) ≡ withRules 0 (map numberedOf (described (readFile (now (file .entry))) .rules)) (now (image .entry)) ⌝ }
 {
     let mut at = from;
     let mut i: usize = 0;
@@ -108,11 +126,14 @@ fn store_rules(file: &[u8], from: usize, count: usize, last: u16, image: &mut [u
 // A file that was judged, put into an image.
 pub fn store_file(file: &[u8], image: &mut [u8])
     requires { ⌜ (imageSize ≤ length (now image)) × (verdict (readFile (now file)) ≡ accepted) ⌝ }
-    ensures { λ _. ⌜ now (image .exit) ≡ laid (ledgerFor (described (readFile (now (file .entry))))) (now (image .entry)) ⌝ }
+    ensures { λ _. ⌜ now (image .exit) ≡ whole (ledgerFor (described (readFile (now (file .entry))))) (now (image .entry)) ⌝ }
 {
     let line = heading::read_head(file);
     let head = line.head;
-    let from = line.next;
+    let mut masks = [0u8; classes::MASKS_SIZE];
+    let defined = defining::read_classes(file, line.next, &mut masks);
     image::put_head(&mut *image, head.count, head.last);
-    store_rules(file, from, head.count, head.last, image);
+    store_rules(file, defined.at, head.count, head.last, &mut *image);
+    image::class_bytes::put_classes(&mut *image, &masks);
+    image::table::settle(image);
 }

@@ -1,4 +1,4 @@
-// The lines of a rule file after the first: a rule in each.
+// The lines of a rule file after its classes: a rule in each.
 use crate::layout;
 use rules::Numbered;
 use rules::Rule;
@@ -6,10 +6,13 @@ ghost use mathlib.Core.Path.{_≡_};
 ghost use mathlib.Core.Bool.{true};
 ghost use Prim.Native.Nat.{_≤_};
 ghost use lib.ListN.{length, drop};
+ghost use Rattle.rules.specs.Limits.{maxRules};
+ghost use Rattle.rules.specs.Shape.{view, shape};
+ghost use Rattle.classes.specs.Masks.{masksSize, classesIn};
 ghost use Rattle.frames.specs.Lines.{soundLine, decoded};
 ghost use Rattle.file.specs.Layout.{longestFrame, entryIn, numberedOf};
 ghost use Rattle.file.specs.File.{isRule};
-ghost use Rattle.file.specs.Loading.{noneRuled, ruleFrame, ruledIn, ruleAt};
+ghost use Rattle.file.specs.Loading.{noneRuled, ruleFrame, ruledIn, ruleAt, totalWith};
 
 // A rule that was read from a frame.
 pub struct Ruled {
@@ -125,4 +128,23 @@ pub fn read_rule(file: &[u8], at: usize, last: u16) -> RuleLine
         next: line.next,
         ruled,
     }
+}
+
+// `before` literal rules with those of a rule more: 0 where a class that it uses is undefined, or where they are more than 512.
+pub fn total_with(before: usize, masks: &[u8], rule: Rule) -> usize
+    requires { ⌜ (before ≤ maxRules) × ((masksSize ≤ length (now masks)) × (shape (view rule) ≡ true)) ⌝ }
+    ensures { λ r. ⌜ (r ≡ totalWith before (classesIn (now (masks .entry))) (view rule)) × (r ≤ maxRules) ⌝ }
+{
+    let left = rule.left;
+    let right = rule.right;
+    let l = numbers::wide(rule.left_len);
+    let r = numbers::wide(rule.right_len);
+    let count = classes::runs::literal_count(masks, &left[..l], &right[..r]);
+    if count < 1 {
+        return 0;
+    }
+    if rules::MAX_RULES < before + count {
+        return 0;
+    }
+    before + count
 }

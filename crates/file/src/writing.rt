@@ -1,4 +1,5 @@
 // A ruleset written line after line, and the bytes that its file needs.
+use crate::class_writing;
 use crate::layout;
 use frames::writer;
 use frames::writer::Writer;
@@ -129,17 +130,16 @@ fn write_head(out: &mut [u8], count: usize, last: u16)
     writer::end(out, body);
 }
 
-// The lines of a ruleset's rules, after the head's.
-fn write_rules(image: &[u8], out: &mut [u8])
-    requires { ⌜ (valid (now image) ≡ true) × (headLineSize + length (ruleLines (entriesOf (now image))) ≤ length (now out)) ⌝ }
-    ensures { λ _. ⌜ now (out .exit) ≡ overAt headLineSize (ruleLines (entriesOf (now (image .entry)))) (now (out .entry)) ⌝ }
+// The lines of a ruleset's rules from `from` on.
+fn write_rules(image: &[u8], pairs: &[u8], out: &mut [u8], from: usize)
+    requires { ⌜ (valid (now image) ≡ true) × ((now pairs ≡ digitPairs) × (from + length (ruleLines (entriesOf (now image))) ≤ length (now out))) ⌝ }
+    ensures { λ _. ⌜ now (out .exit) ≡ overAt from (ruleLines (entriesOf (now (image .entry)))) (now (out .entry)) ⌝ }
 {
     let count = image::rule_count(image);
-    let pairs = writer::digit_pairs();
-    let mut at: usize = HEAD_LINE;
+    let mut at = from;
     let mut i: usize = 0;
     while i < count {
-        at = write_rule(image, i, &pairs, &mut *out, at);
+        at = write_rule(image, i, pairs, &mut *out, at);
         i += 1;
     }
 }
@@ -152,7 +152,9 @@ pub fn write_ruleset(image: &[u8], out: &mut [u8])
     let count = image::rule_count(image);
     let last = image::last_issued(image);
     write_head(&mut *out, count, last);
-    write_rules(image, out);
+    let pairs = writer::digit_pairs();
+    let at = class_writing::write_classes(image::class_bytes::masks(image), &pairs, &mut *out);
+    write_rules(image, &pairs, out, at);
 }
 
 // The bytes of the line of the rule at a place.
@@ -173,7 +175,7 @@ pub fn file_size(image: &[u8]) -> usize
     ensures { λ r. ⌜ r ≡ length (encode (rulesetIn (now (image .entry)))) ⌝ }
 {
     let count = image::rule_count(image);
-    let mut n: usize = HEAD_LINE;
+    let mut n: usize = HEAD_LINE + class_writing::classes_size(image::class_bytes::masks(image));
     let mut i: usize = 0;
     while i < count {
         n += rule_size(image, i);

@@ -36,7 +36,7 @@ module _ (xs : List ℕ) (from : ℕ) (h : from ≤ length xs) where
   overlaid ys = over-at front xs ys xs from whole long
 
   -- more from there on
-  over-more : (p ys w : List ℕ) (at : ℕ) → w ≡ overAt from p xs → at ≡ from + length p → overAt at ys w ≡ overAt from (p ++ ys) xs
+  pub over-more : (p ys w : List ℕ) (at : ℕ) → w ≡ overAt from p xs → at ≡ from + length p → overAt at ys w ≡ overAt from (p ++ ys) xs
   over-more p ys w at e l =
       over-at (front ++ p) xs ys w at (e ∙ overlaid p) (omega (arith, length-append front p, long))
       ∙ (ap (λ (z : List ℕ). over z xs) (append-assoc front p ys) ∙ sym (overlaid (p ++ ys)))

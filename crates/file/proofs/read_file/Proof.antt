@@ -2,7 +2,7 @@
 -- Assumes nothing.
 use mathlib.Core.Path.{sym, ap, _∙_}
 use Rattle.rules.specs.Refusals.{replyOf}
-use Rattle.file.proofs.Storing.{load-short, load-refused, load-accepted}
+use Rattle.file.proofs.FileStored.{load-short, load-refused, load-accepted}
 use borrow.Author.Needs.{needs}
 use Rattle.file.proofs.read_file.Statement.{statement}
 use Rattle.file.proofs.read_file.Tie as tie
