@@ -1,4 +1,5 @@
 // The items on names: each finds its name in the ruleset, sends it through the walk and beside that through the plain reading.
+use crate::last_letters;
 use crate::names;
 use crate::names::Name;
 use crate::printing::print;
@@ -20,10 +21,12 @@ ghost use mathlib.Core.Bool.{true};
 ghost use Rattle.image.specs.Image.{valid};
 
 // What each catches: a walk that stops before the last letter, which its phones do not show where that letter is silent; one that applies
-// another than the first of the rules that fit, as the longest; one that skips or guesses what no rule covers.
+// another than the first of the rules that fit, as the longest; one that takes a class for fewer letters than it has; one that skips or guesses
+// what no rule covers.
 pub enum Item {
     SilentEnd,
     TwoFitting,
+    LastLetters,
     Uncovered,
 }
 
@@ -31,6 +34,7 @@ fn print_title(item: Item) {
     match item {
         Item::SilentEnd => print(b"the last letter is silent: "),
         Item::TwoFitting => print(b"two rules fit, the first in order is applied: "),
+        Item::LastLetters => print(b"the last letters of classes: "),
         Item::Uncovered => print(b"a letter that no rule covers: "),
     }
 }
@@ -41,6 +45,7 @@ fn search(item: Item, image: &[u8]) -> Search
     match item {
         Item::SilentEnd => searches::silent(image),
         Item::TwoFitting => searches::two_fitting(image),
+        Item::LastLetters => last_letters::search(image),
         Item::Uncovered => searches::uncovered(image),
     }
 }
@@ -62,6 +67,7 @@ fn is_right(item: Item, image: &[u8], s: Search, came: Came, numbers: &[u16]) ->
     match item {
         Item::SilentEnd => speaking::ends_silent(image, came, numbers),
         Item::TwoFitting => is_first_applied(image, name, s.before, came, numbers),
+        Item::LastLetters => is_first_applied(image, name, s.before, came, numbers),
         Item::Uncovered => speaking::is_refused(came, 3, 1),
     }
 }

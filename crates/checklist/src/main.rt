@@ -2,6 +2,8 @@
 // came. The names are found in the ruleset itself; where it has none for an item, the line says so.
 mod editing;
 mod items;
+mod last_letters;
+mod literals;
 mod names;
 mod printing;
 mod ruleset;
@@ -35,6 +37,7 @@ fn try_names<'a>(image: &[u8], words: &'a [u16], sets: &'a [u64])
 {
     items::try_item(Item::SilentEnd, image, words, sets);
     items::try_item(Item::TwoFitting, image, words, sets);
+    items::try_item(Item::LastLetters, image, words, sets);
     items::try_item(Item::Uncovered, image, words, sets);
 }
 
@@ -58,7 +61,7 @@ fn run<'a>(
 
 fn main() {
     let mut buf = [0u8; loader::MAX_INPUT + 1];
-    let mut out = [0u8; 29199];
+    let mut out = [0u8; file::layout::LONGEST_FILE];
     let mut image = [0u8; image::SIZE];
     let mut words = [0u16; 524418];
     let mut sets = [0u64; 65552];

@@ -1,5 +1,7 @@
-// The search of a ruleset for a name that an item of the checklist can be tried with. Names are tried by the plain reading, in a fixed order,
-// and no more than MAX_TRIED of them.
+// The search of a ruleset for a name that an item of the checklist can be tried with. Names are made of the literal rules' letters and tried by
+// the plain reading, in a fixed order, and no more than MAX_TRIED of them.
+use crate::literals;
+use crate::literals::Literal;
 use crate::names;
 use crate::names::Name;
 use crate::ruleset;
@@ -11,7 +13,7 @@ ghost use Rattle.image.specs.Image.{valid};
 
 const MAX_TRIED: usize = 4096;
 
-// How a search stands: whether its name was found, how many were tried, and for two rules that fit, where they do and their places.
+// How a search stands: whether its name was found, how many were tried, and for rules that fit, where they do and their places.
 pub struct Search {
     pub found: bool,
     pub tried: usize,
@@ -21,7 +23,7 @@ pub struct Search {
     pub second: usize,
 }
 
-fn begin() -> Search {
+pub fn begin() -> Search {
     Search {
         found: false,
         tried: 0,
@@ -33,11 +35,11 @@ fn begin() -> Search {
 }
 
 // Whether a search is over.
-fn is_over(s: Search) -> bool {
+pub fn is_over(s: Search) -> bool {
     s.found || MAX_TRIED <= s.tried
 }
 
-fn one_more(n: usize) -> usize {
+pub fn one_more(n: usize) -> usize {
     if MAX_TRIED <= n {
         return MAX_TRIED;
     }
@@ -75,10 +77,11 @@ fn try_silent(image: &[u8], s: Search, name: Name) -> Search
 }
 
 // A silent rule at the end of a name: after the target of each rule in turn, then alone.
-fn silent_rule(image: &[u8], s: Search, place: usize) -> Search
+fn silent_rule(image: &[u8], s: Search, p: usize) -> Search
     requires { ⌜ valid (now image) ≡ true ⌝ }
 {
-    let rule = ruleset::rule_at(image, place);
+    let x = literals::literal_at(image, p);
+    let rule = x.rule;
     if rule.phone_len != 0 || !names::can_end(rule) {
         return s;
     }
@@ -101,7 +104,7 @@ fn silent_rule(image: &[u8], s: Search, place: usize) -> Search
 pub fn silent(image: &[u8]) -> Search
     requires { ⌜ valid (now image) ≡ true ⌝ }
 {
-    let n = ruleset::count(image);
+    let n = literals::count(image);
     let mut at = begin();
     let mut k: usize = 0;
     while k < n {
@@ -133,19 +136,21 @@ fn fit_together(image: &[u8], p: usize, q: usize, name: Name, before: usize) -> 
     ruleset::both_fit(image, p, q, names::spelling(&letters, name.len), before)
 }
 
-// Two rules, the second after the first and, where this is asked, longer.
-fn try_pair(image: &[u8], s: Search, p: usize, q: usize, longer: bool) -> Search
+// Literal rules of two rules, the second after the first and, where this is asked, longer.
+fn try_pair(image: &[u8], s: Search, first: Literal, second: Literal, longer: bool) -> Search
     requires { ⌜ valid (now image) ≡ true ⌝ }
 {
+    let p = first.place;
+    let q = second.place;
     if q <= p {
         return s;
     }
-    let first = ruleset::rule_at(image, p);
-    let second = ruleset::rule_at(image, q);
-    if longer && !names::is_longer(second, first) {
+    let rule = first.rule;
+    let other = second.rule;
+    if longer && !names::is_longer(other, rule) {
         return s;
     }
-    let o = names::overlay(first, second);
+    let o = names::overlay(rule, other);
     let name = o.name;
     let before = o.before;
     if !fit_together(image, p, q, name, before) {
@@ -161,28 +166,29 @@ fn try_pair(image: &[u8], s: Search, p: usize, q: usize, longer: bool) -> Search
     }
 }
 
-// The rule at a place, and each after it.
+// The literal rule at a place, and each after it.
 fn pairs_of(image: &[u8], s: Search, p: usize, longer: bool) -> Search
     requires { ⌜ valid (now image) ≡ true ⌝ }
 {
-    let n = ruleset::count(image);
+    let n = literals::count(image);
+    let first = literals::literal_at(image, p);
     let mut at = s;
     let mut q = p;
     while q < n {
         if is_over(at) {
             return at;
         }
-        at = try_pair(image, at, p, q, longer);
+        at = try_pair(image, at, first, literals::literal_at(image, q), longer);
         q += 1;
     }
     at
 }
 
-// Each rule in turn.
+// Each in turn.
 fn pairs(image: &[u8], longer: bool) -> Search
     requires { ⌜ valid (now image) ≡ true ⌝ }
 {
-    let n = ruleset::count(image);
+    let n = literals::count(image);
     let mut at = begin();
     let mut p: usize = 0;
     while p < n {

@@ -19,8 +19,9 @@ use Rattle.rules.specs.declared.Written.{Written}
 use Rattle.rules.specs.declared.Written.the-variants.{Bytes, Refused}
 use Rattle.transcript.specs.Answers.{refusedBody, refusalLine}
 use Rattle.transcript.proofs.Printed.{length-printed}
+use Rattle.file.specs.Layout.{longestFile}
 use Rattle.commands.specs.Fields.{four}
-use Rattle.commands.specs.Answers.{longestFile, malformedLine}
+use Rattle.commands.specs.Answers.{malformedLine}
 use Rattle.commands.specs.Lent.{lentOf, back}
 use Rattle.commands.specs.Filing.{filedBack, filedIn, reportLine, fileLine, writeLine}
 use Rattle.commands.proofs.Replies.{Gives, length-malformed}

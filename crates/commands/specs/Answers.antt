@@ -5,22 +5,16 @@ use Prim.Native.Nat.{ℕ, _+_, _*_}
 use mathlib.Core.Path.{_≡_}
 use mathlib.Core.List.{List, [], _∷_, _++_}
 use mathlib.Core.Bool.{Bool, cond}
-use lib.ListN.{length}
-use lib.Dec.{eqb}
+use lib.ListN.{length, getD, drop}
+use lib.Dec.{leb, eqb}
 use Rattle.numbers.specs.Numbers.{two, bytes2, bytes4}
 use Rattle.rules.specs.Memory.{over}
-use Rattle.rules.specs.Limits.{maxRules}
 use Rattle.rules.specs.Refusals.{Reply, accepted, declined}
 use Rattle.image.specs.Image.{Edited, lastOf}
-use Rattle.edits.specs.Ledger.Edit.{Add, Drop, Move}
+use Rattle.edits.specs.Ledger.Edit.{Add, Drop, Move, SetClass}
 use Rattle.edits.specs.Edits.{edited}
-use Rattle.file.specs.Layout.{lineSize, headLineSize, longestFrame}
 use Rattle.transcript.specs.Answers.{printed, refusedBody}
 use Rattle.commands.specs.Fields.{addSized, addedRule}
-
--- bytes of the longest rule file: a head line, and 512 rule lines with each field full. No answer has more
-abbrev pub longestFile : ℕ
-longestFile = headLineSize + lineSize longestFrame * maxRules
 
 -- 06 alone
 unfoldable pub doneLine : List ℕ
@@ -102,6 +96,10 @@ dropped f image = sizedTo (eqb (length f) 3) (ruled (edited image (Drop (two 1 f
 -- 12, number (2), p (2): move
 unfoldable pub moved : List ℕ → List ℕ → Effect
 moved f image = sizedTo (eqb (length f) 5) (ruled (edited image (Move (two 1 f) (two 3 f)))) image
+
+-- 28, symbol (1), letters to the end: set a class
+unfoldable pub classSet : List ℕ → List ℕ → Effect
+classSet f image = sizedTo (leb 2 (length f)) (ruled (edited image (SetClass (getD f 1 0) (drop 2 f)))) image
 
 -- a command was carried out: the memory after it, and the answer at the front of the lent bytes
 pub record Answered (e : Effect) (memory : List ℕ) (len : ℕ) (out out′ : List ℕ) : Type 0 where

@@ -12,8 +12,9 @@ use Rattle.rules.specs.Refusals.{Report, wrote, refused}
 use Rattle.file.specs.File.{encode}
 use Rattle.loader.specs.Prepared.{maxInput}
 use Rattle.transcript.specs.Answers.{printed, refusedBody}
+use Rattle.file.specs.Layout.{longestFile}
 use Rattle.commands.specs.Fields.{four}
-use Rattle.commands.specs.Answers.{longestFile, Effect, ruled, sizedTo, malformedLine}
+use Rattle.commands.specs.Answers.{Effect, ruled, sizedTo, malformedLine}
 use Rattle.commands.specs.Lent.{lentOf, back}
 
 -- rules.hex read into the ruleset; over 32,768 bytes are refused

@@ -10,8 +10,9 @@ use Rattle.rules.specs.Limits.{maxRules}
 use Rattle.image.specs.Image.{imageSize, withHead, withNumber, cleared}
 use Rattle.frames.specs.Output.{fields}
 use Rattle.transcript.specs.Answers.{twos, printed}
+use Rattle.file.specs.Layout.{longestFile}
 use Rattle.commands.specs.Fields.{four, eight}
-use Rattle.commands.specs.Answers.{longestFile, Effect, leaving, sizedTo, doneLine, malformedLine}
+use Rattle.commands.specs.Answers.{Effect, leaving, sizedTo, doneLine, malformedLine}
 
 -- the number in the slot of a place, overwritten; a place above 511 is none
 abbrev pub renumbered : ℕ → ℕ → List ℕ → List ℕ
@@ -24,7 +25,7 @@ forced f image = withHead (two 5 f) (two 7 f) (renumbered (two 1 f) (two 3 f) im
 unfoldable pub forcedBy : List ℕ → List ℕ → Effect
 forcedBy f image = sizedTo (eqb (length f) 9) (leaving doneLine (forced f image)) image
 
--- 1F: the empty ruleset again
+-- 1F: the empty ruleset again, without classes
 unfoldable pub clearedBy : List ℕ → List ℕ → Effect
 clearedBy f image = sizedTo (eqb (length f) 1) (leaving doneLine (cleared image .image)) image
 

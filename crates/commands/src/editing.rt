@@ -5,13 +5,13 @@ use file::layout;
 use rules::Answer;
 ghost use mathlib.Core.Path.{_≡_};
 ghost use Prim.Native.Nat.{_≤_};
-ghost use lib.ListN.{length};
+ghost use lib.ListN.{length, getD, drop};
 ghost use Rattle.numbers.specs.Numbers.{two};
 ghost use Rattle.rules.specs.Refusals.{replyOf};
 ghost use Rattle.image.specs.Image.{imageSize, outcome};
 ghost use Rattle.edits.specs.Ledger.{Edit};
 ghost use Rattle.edits.specs.Edits.{edited};
-ghost use Rattle.commands.specs.Answers.{Answered, added, dropped, moved};
+ghost use Rattle.commands.specs.Answers.{Answered, added, dropped, moved, classSet};
 ghost use Rattle.commands.specs.Fields.{AddSized, addedRule};
 ghost use Rattle.commands.specs.Memory.{renumbered, forced, forcedBy, clearedBy};
 
@@ -38,6 +38,14 @@ pub fn relocate(f: &[u8], image: &mut [u8]) -> Answer
     ensures { λ r. ⌜ outcome (replyOf r) (now (image .exit)) ≡ edited (now (image .entry)) (Edit.Move (two 1 (now (f .entry))) (two 3 (now (f .entry)))) ⌝ }
 {
     edits::move_rule(image, numbers::two_at(f, 1), fields::two_at(f, 3))
+}
+
+// 28, symbol (1), letters to the end.
+pub fn set_class(f: &[u8], image: &mut [u8]) -> Answer
+    requires { ⌜ 2 ≤ length (now f) ⌝ }
+    ensures { λ r. ⌜ outcome (replyOf r) (now (image .exit)) ≡ edited (now (image .entry)) (Edit.SetClass (getD (now (f .entry)) 1 0) (drop 2 (now (f .entry)))) ⌝ }
+{
+    edits::set_class(image, f[1], &f[2..])
 }
 
 // The number in the slot of a place is overwritten; a place above 511 is none.
@@ -95,6 +103,18 @@ pub fn move_command(f: &[u8], image: &mut [u8], out: &mut [u8]) -> usize
     answers::reply_line(answer, image, out)
 }
 
+// 28: set a class.
+pub fn class_command(f: &[u8], image: &mut [u8], out: &mut [u8]) -> usize
+    requires { ⌜ (imageSize ≤ length (now image)) × (15 ≤ length (now out)) ⌝ }
+    ensures { λ r. ⌜ Answered (classSet (now (f .entry)) (now (image .entry))) (now (image .exit)) r (now (out .entry)) (now (out .exit)) ⌝ }
+{
+    if f.len() < 2 {
+        return answers::malformed(out);
+    }
+    let answer = set_class(f, &mut *image);
+    answers::reply_line(answer, image, out)
+}
+
 // 1E: an impossible ruleset.
 pub fn force_command(f: &[u8], image: &mut [u8], out: &mut [u8]) -> usize
     requires { ⌜ (imageSize ≤ length (now image)) × (15 ≤ length (now out)) ⌝ }
@@ -107,7 +127,7 @@ pub fn force_command(f: &[u8], image: &mut [u8], out: &mut [u8]) -> usize
     answers::done_line(out)
 }
 
-// 1F: the empty ruleset again.
+// 1F: the empty ruleset again, without classes.
 pub fn clear_command(f: &[u8], image: &mut [u8], out: &mut [u8]) -> usize
     requires { ⌜ (imageSize ≤ length (now image)) × (15 ≤ length (now out)) ⌝ }
     ensures { λ r. ⌜ Answered (clearedBy (now (f .entry)) (now (image .entry))) (now (image .exit)) r (now (out .entry)) (now (out .exit)) ⌝ }

@@ -13,7 +13,8 @@ ghost use Rattle.rules.specs.Refusals.{replyOf};
 ghost use Rattle.image.specs.Image.{imageSize, outcome};
 ghost use Rattle.file.specs.Loading.{filing};
 ghost use Rattle.rules.specs.Refusals.{reportOf};
-ghost use Rattle.commands.specs.Answers.{longestFile, Answered};
+ghost use Rattle.file.specs.Layout.{longestFile};
+ghost use Rattle.commands.specs.Answers.{Answered};
 ghost use Rattle.commands.specs.Filing.{loadedFrom, loadedBy, filedIn, writeLine};
 
 // The bytes of rules.hex become the ruleset; over 32,768 of them are refused.

@@ -15,8 +15,9 @@ ghost use Rattle.frames.specs.Lines.{soundLine, decoded};
 ghost use Rattle.commands.specs.Memory.{Held};
 ghost use Rattle.commands.specs.Monitor.{commandIn, readsFile, holding, answerTo, Replied};
 
-// The bytes of the longest rule file: a head line, and 512 rule lines with each field full. No answer has more.
-pub const LONGEST_FILE: usize = 2 * layout::HEAD + 1 + (2 * layout::LONGEST + 1) * rules::MAX_RULES;
+// The bytes of the longest rule file: a head line, 32 lines of classes with 32 letters, and 512 rule lines with each field full. No answer has
+// more.
+pub const LONGEST_FILE: usize = layout::LONGEST_FILE;
 
 // The bytes of a line without their checksum, at the front of `frame`: how many there are, 0 for a line that is unsound or whose bytes have no
 // room. 2,048 bytes have room for each line of at most 4,096 digits.
@@ -99,6 +100,7 @@ pub fn answer(
         0x1E => editing::force_command(f, image, out),
         0x1F => editing::clear_command(f, image, out),
         0x27 => memory::show_contested(f, *contested, out),
+        0x28 => editing::class_command(f, image, out),
         _ => answers::malformed(out),
     }
 }

@@ -101,6 +101,23 @@ pub extern "C" fn pirrozketa_move(image: &mut [u8], number: u16, p: usize, place
     rules::answer_code(answer)
 }
 
+// SetClass(symbol, letters).
+#[no_mangle]
+pub extern "C" fn pirrozketa_set_class(
+    image: &mut [u8],
+    symbol: u8,
+    letters: &[u8],
+    place: &mut usize,
+) -> u8
+    ensures code { λ r. ⌜ r ≡ replyCode (edited (now (image .entry)) (Edit.SetClass symbol (now (letters .entry))) .reply) ⌝ }
+    ensures place { λ _. ⌜ now (place .exit) ≡ replyPlace (edited (now (image .entry)) (Edit.SetClass symbol (now (letters .entry))) .reply) ⌝ }
+    ensures image { λ _. ⌜ now (image .exit) ≡ edited (now (image .entry)) (Edit.SetClass symbol (now (letters .entry))) .image ⌝ }
+{
+    let answer = edits::set_class(image, symbol, letters);
+    *place = rules::answer_place(answer);
+    rules::answer_code(answer)
+}
+
 // ---- the rule file
 
 // A rule file is read into the memory, whatever it holds.

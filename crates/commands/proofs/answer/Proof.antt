@@ -1,7 +1,7 @@
 -- `commands::answer` meets its contract: each command is answered by its own function.
 -- Assumes nothing.
 use borrow.Author.Needs.{needs}
-use Rattle.commands.proofs.Dispatch.{by-none, by-add, by-drop, by-move, by-read, by-write, by-build, by-walk, by-plain, by-store-word, by-store-set, by-show-words, by-show-sets, by-show-phones, by-show-numbers, by-force, by-clear, by-show-contested, by-other}
+use Rattle.commands.proofs.Dispatch.{by-none, by-add, by-drop, by-move, by-read, by-write, by-build, by-walk, by-plain, by-store-word, by-store-set, by-show-words, by-show-sets, by-show-phones, by-show-numbers, by-force, by-clear, by-show-contested, by-class, by-other}
 use Rattle.commands.proofs.answer.Statement.{statement}
 use Rattle.commands.proofs.answer.Tie as tie
 
@@ -69,6 +69,9 @@ clear-command-requires c κs = search needs
 
 show-contested-requires : tie.Need-show-contested-requires
 show-contested-requires c κs = search needs
+
+class-command-requires : tie.Need-class-command-requires
+class-command-requires c κs = search needs
 
 malformed-requires-2 : tie.Need-malformed-requires-2
 malformed-requires-2 c κs = search needs
@@ -284,8 +287,19 @@ returns-18 c =
 same-length-43 : tie.Need-same-length-43
 same-length-43 c = search needs
 
+same-length-44 : tie.Need-same-length-44
+same-length-44 c = search needs
+
 returns-19 : tie.Need-returns-19
 returns-19 c =
+    let a = c .before .before .before .before .before .before .before .before .before .before .before .before .before .before .before .before .before .before .before .args in
+    by-class (a .f .now) (a .file .now) (a .list .now) (a .image .now) (a .words .now) (a .sets .now) (a .phones .now) (a .numbers .now) (a .contested .now) _ (a .out .now) _ _ (c .before .before .before .before .before .before .before .match .keys18) (c .before .before .before .before .class-command .ensures)
+
+same-length-45 : tie.Need-same-length-45
+same-length-45 c = search needs
+
+returns-20 : tie.Need-returns-20
+returns-20 c =
     let a = c .before .before .before .before .before .before .before .before .before .before .before .before .before .before .before .before .args in
     by-other (a .f .now) (a .file .now) (a .list .now) (a .image .now) (a .words .now) (a .sets .now) (a .phones .now) (a .numbers .now) (a .contested .now) _ (a .out .now) _ (c .before .before .malformed2 .ensures .0) (c .before .before .malformed2 .ensures .1) (c .before .before .before .before .match .rest)
 
@@ -314,6 +328,7 @@ answer-spec =
     force-command-requires
     clear-command-requires
     show-contested-requires
+    class-command-requires
     malformed-requires-2
     same-length-2
     same-length-3
@@ -374,4 +389,7 @@ answer-spec =
     same-length-42
     returns-18
     same-length-43
-    returns-19)
+    same-length-44
+    returns-19
+    same-length-45
+    returns-20)

@@ -6,13 +6,16 @@ use Rattle.checklist.proofs.searches.pairs_of.Statement.{statement}
 use Rattle.checklist.proofs.searches.pairs_of.Tie as tie
 
 abbrev Inv-loop : tie.InvT-loop
-Inv-loop image p longer n at₀ q₀ at q = Unit {0}
+Inv-loop image p longer n first at₀ q₀ at q = Unit {0}
 
 abbrev μ-loop : tie.MeasureT-loop
-μ-loop image p longer n at₀ q₀ at q = n - q
+μ-loop image p longer n first at₀ q₀ at q = n - q
 
 count-requires : tie.Need-count-requires Inv-loop μ-loop
 count-requires c κs = search needs
+
+literal-at-requires : tie.Need-literal-at-requires Inv-loop μ-loop
+literal-at-requires c κs = search needs
 
 loop-holds : tie.Need-loop-holds Inv-loop μ-loop
 loop-holds c = tt
@@ -22,6 +25,9 @@ is-over-requires c κs = search needs
 
 returns : tie.Need-returns Inv-loop μ-loop
 returns c = search needs
+
+literal-at-requires-2 : tie.Need-literal-at-requires-2 Inv-loop μ-loop
+literal-at-requires-2 c κs = search needs
 
 try-pair-requires : tie.Need-try-pair-requires Inv-loop μ-loop
 try-pair-requires c κs = search needs
@@ -45,9 +51,11 @@ pairs-of-spec =
     Inv-loop
     μ-loop
     count-requires
+    literal-at-requires
     loop-holds
     is-over-requires
     returns
+    literal-at-requires-2
     try-pair-requires
     add-q
     loop-less

@@ -6,13 +6,13 @@ use Rattle.checklist.proofs.searches.silent_rule.Statement.{statement}
 use Rattle.checklist.proofs.searches.silent_rule.Tie as tie
 
 abbrev Inv-loop : tie.InvT-loop
-Inv-loop image place rule n at₀ k₀ at k = Unit {0}
+Inv-loop image p rule n at₀ k₀ at k = Unit {0}
 
 abbrev μ-loop : tie.MeasureT-loop
-μ-loop image place rule n at₀ k₀ at k = n - k
+μ-loop image p rule n at₀ k₀ at k = n - k
 
-rule-at-requires : tie.Need-rule-at-requires Inv-loop μ-loop
-rule-at-requires c κs = search needs
+literal-at-requires : tie.Need-literal-at-requires Inv-loop μ-loop
+literal-at-requires c κs = search needs
 
 can-end-requires : tie.Need-can-end-requires Inv-loop μ-loop
 can-end-requires c κs = search needs
@@ -32,8 +32,8 @@ is-over-requires c κs = search needs
 returns-2 : tie.Need-returns-2 Inv-loop μ-loop
 returns-2 c = search needs
 
-rule-at-requires-2 : tie.Need-rule-at-requires-2 Inv-loop μ-loop
-rule-at-requires-2 c κs = search needs
+rule-at-requires : tie.Need-rule-at-requires Inv-loop μ-loop
+rule-at-requires c κs = search needs
 
 ending-requires : tie.Need-ending-requires Inv-loop μ-loop
 ending-requires c κs = search needs
@@ -71,14 +71,14 @@ silent-rule-spec =
     (tie.spec
     Inv-loop
     μ-loop
-    rule-at-requires
+    literal-at-requires
     can-end-requires
     returns
     count-requires
     loop-holds
     is-over-requires
     returns-2
-    rule-at-requires-2
+    rule-at-requires
     ending-requires
     try-silent-requires
     add-k
