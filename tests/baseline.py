@@ -22,8 +22,13 @@ class Rule(c.Structure):
                 ("target", c.c_uint8 * 4), ("right", c.c_uint8 * 6), ("phones", c.c_uint8 * 4)]
 
 
+class Literal(c.Structure):
+    _fields_ = [("place", c.c_uint16), ("which", c.c_uint16)]
+
+
 class Ruleset(c.Structure):
-    _fields_ = [("count", c.c_uint16), ("last", c.c_uint16), ("rules", Rule * 512)]
+    _fields_ = [("count", c.c_uint16), ("last", c.c_uint16), ("total", c.c_uint16), ("rules", Rule * 512),
+                ("classes", c.c_uint64 * 32), ("literals", Literal * 512)]
 
 
 class Spoken(c.Structure):
@@ -32,7 +37,12 @@ class Spoken(c.Structure):
 
 
 def given_to_c(rs):
-    out = Ruleset(len(rs.rules), rs.last)
+    out = Ruleset(len(rs.rules), rs.last, ref.literal_total(rs))
+    for symbol, letters in rs.classes:
+        out.classes[symbol - ref.CLASS_SYMBOLS[0]] = sum(1 << letter for letter in letters)
+    of_rules = ((place, which) for place, (_, rule) in enumerate(rs.rules) for which in range(ref.literal_count(rule, rs.classes)))
+    for at, literal in enumerate(of_rules):
+        out.literals[at] = literal
     for place, (number, rule) in enumerate(rs.rules):
         held = out.rules[place]
         held.number = number
@@ -48,7 +58,12 @@ def got_from_c(held):
         fields = (bytes(getattr(rule, name))[:length]
                   for name, length in zip(("left", "target", "right", "phones"), rule.lengths))
         rules.append(ref.Numbered(rule.number, ref.Rule(*fields)))
-    return ref.Ruleset(tuple(rules), held.last)
+    masks = b"".join(mask.to_bytes(8, "big") for mask in held.classes)
+    return ref.Ruleset(tuple(rules), held.last, ref.classes_in(masks))
+
+
+def literals_of(held):
+    return [(literal.place, literal.which) for literal in held.literals[:held.total]]
 
 
 def answer(code, out):
@@ -83,6 +98,8 @@ def compare(base, source, check, words, sets):
         wanted = ref.read_file(data)
         check.equal("read", got_from_c(back) if code == 0 else None,
                     None if isinstance(wanted, ref.Refusal) else wanted)
+        if code == 0:
+            check.equal("literal rules", literals_of(back), literals_of(given_to_c(wanted)))
 
 
 def main():

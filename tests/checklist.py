@@ -50,14 +50,13 @@ def agrees(line, ruleset):
         return came == ref.Refusal(int(refused), int(place))
     if not isinstance(came, ref.Spoken) or list(came.numbers) != [int(n) for n in numbers.split()]:
         return False
-    rules = {numbered.number: numbered.rule for numbered in ruleset.rules}
-    return all(fits_at(rules[int(n)], name, int(position)) for n in (first, second) if n)
+    return all(fits_at(ruleset, int(n), name, int(position)) for n in (first, second) if n)
 
 
-def fits_at(rule, name, position):
-    """Whether a rule fits at a position of a whole name."""
+def fits_at(ruleset, number, name, position):
+    """Whether the rule with the number fits at a position of a whole name."""
     return any(ref.fits(rule, word.framed, position - word.before) for word in ref.words_of(name)
-               if 1 <= position - word.before <= len(word.letters))
+               if 1 <= position - word.before <= len(word.letters) for given, rule in ref.literal_list(ruleset) if given == number)
 
 
 def fault(program, rules_hex):
@@ -65,7 +64,7 @@ def fault(program, rules_hex):
     lines, ruleset = printed(program, rules_hex), ref.read_file(rules_hex)
     if isinstance(ruleset, ref.Refusal) or len(rules_hex) > 32768:
         return None if len(lines) == 1 and lines[0].startswith("FAULT") else f"a refused file gives {lines}"
-    if len(lines) != 7:
+    if len(lines) != 8:
         return f"{len(lines)} lines"
     for line in lines:
         if line.startswith("FAULT") or not re.match(r"ok|none", line) or not agrees(line, ruleset):
@@ -81,7 +80,7 @@ def main():
     given = arguments.parse_args()
     program = os.path.abspath(given.program)
     files = [ref.file_text(ref.EMPTY), b"", b"01\n"]
-    for name in ("six.hex", "basque.hex", "silent_e.hex"):
+    for name in ("six.hex", "basque.hex", "basque_classes.hex", "silent_e.hex"):
         with open(os.path.join(ROOT, "examples", name), "rb") as file:
             files.append(file.read())
     files += [generate.say_case(f"{given.seed} {k}")[0] or b"" for k in range(given.count)]

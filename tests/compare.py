@@ -133,7 +133,7 @@ def minimal(runner, rules_hex, lines):
     lines = shorter_name(runner, rules_hex, lines)
     rs = ref.read_file(rules_hex) if rules_hex is not None else None
     if isinstance(rs, ref.Ruleset):
-        rewritten = lambda rules: ref.file_text(ref.Ruleset(tuple(rules), rs.last))
+        rewritten = lambda rules: ref.file_text(rs._replace(rules=tuple(rules)))
         rules = smaller(list(rs.rules), lambda some: fails(runner, rewritten(some), lines), 400)
         rules_hex = rewritten(rules)
         lines = shorter_name(runner, rules_hex, lines)

@@ -1,7 +1,7 @@
 #!/usr/bin/env python3
 """The example rulesets: the .hex files are what their readable sources say, and each name sounds
-as its .names file says, by plain reading and by walk. The examples of docs/MONITOR.md: one conversation,
-answered as it stands there."""
+as its .names file says, by plain reading and by walk; with letter classes and written out alike. The
+examples of docs/MONITOR.md: one conversation, answered as it stands there."""
 
 import os
 import re
@@ -50,15 +50,15 @@ def spoken(check, what, rs, letters):
     return said
 
 
-def check_names(check, example_name, alphabet):
-    """Each name of NAME.names sounds as it says there, and every letter that can be typed is spoken alone."""
+def check_names(check, example_name, alphabet, names):
+    """Each of the names sounds as it says there, and every letter that can be typed is spoken alone. What each gives."""
     rs = ref.read_file(example(example_name + ".hex"))
     check.equal(example_name + ".hex is a ruleset", isinstance(rs, ref.Ruleset), True)
     for letter in sorted(set(alphabet.letters.values())):
         spoken(check, f"{example_name}: letter {letter:02X} alone", rs, bytes([letter]))
     words, sets = ref.build(rs, ref.SAY_WORDS, ref.SAY_SETS)
-    applied, reached, contested = set(), 0, 0
-    for line in example_text(example_name + ".names").splitlines():
+    applied, reached, contested, given = set(), 0, 0, {}
+    for line in example_text(names).splitlines():
         name, _, rest = line.partition(";")
         name = name.strip()
         if not name:
@@ -70,23 +70,35 @@ def check_names(check, example_name, alphabet):
         applied.update(said.numbers)
         reached += len(said.numbers)
         contested += said.contested
+        given[name] = said.phones, said.contested
     states = words[0] + words[1]
-    print(f"{example_name}: {len(rs.rules)} rules, {states} states, {len(words)} words, {len(applied)} rules applied by the names, "
-          f"{contested} of {reached} reached letters contested")
-    return rs
+    print(f"{example_name}: {len(rs.rules)} rules, {ref.literal_total(rs)} written out, {states} states, {len(words)} words, "
+          f"{len(applied)} rules applied by the names, {contested} of {reached} reached letters contested")
+    return rs, given
+
+
+def check_classes(check, alphabets):
+    """The rules with classes mean those that are written out, and give the same phones and the same contested letters."""
+    (written, plainly), (classed, by_classes) = (check_names(check, name, alphabets[name], "basque.names")
+                                                 for name in ("basque", "basque_classes"))
+    check.equal("100 rules or more", len(written.rules) >= 100, True)
+    check.equal("fewer with classes", len(classed.rules) < len(written.rules), True)
+    check.equal("the rules that are meant", sorted(rule for _, rule in ref.literal_list(classed)), sorted(rule for _, rule in written.rules))
+    check.equal("names by classes and written out", by_classes, plainly)
+    check.equal("letters and sounds", (alphabets["basque_classes"].letters, alphabets["basque_classes"].phones),
+                (alphabets["basque"].letters, alphabets["basque"].phones))
 
 
 def main():
     check = ref.Check()
     check_monitor(check)
     alphabets = {}
-    for name in ("six", "basque", "silent_e"):
+    for name in ("six", "basque", "basque_classes", "silent_e"):
         alphabets[name], rules = ruletext.read_rules(example_text(name + ".rules"), name)
-        check.equal(name + ".hex is its source's", example(name + ".hex"), ruletext.rule_file(rules))
+        check.equal(name + ".hex is its source's", example(name + ".hex"), ruletext.rule_file(rules, alphabets[name].classes))
     check.equal("six.hex", example("six.hex"), ref.SIX_FILE)
-    basque = check_names(check, "basque", alphabets["basque"])
-    check.equal("100 rules or more", len(basque.rules) >= 100, True)
-    check_names(check, "silent_e", alphabets["silent_e"])
+    check_classes(check, alphabets)
+    check_names(check, "silent_e", alphabets["silent_e"], "silent_e.names")
     print(f"{check.passed} passed, {check.failed} failed")
     return 1 if check.failed else 0
 

@@ -14,6 +14,7 @@ import os
 import random
 import sys
 
+import classes
 import contested
 import lists
 import reference as ref
@@ -89,9 +90,9 @@ class Source:
             lambda: rule._replace(phones=many(self.pick([5, 6, 255]))),
             lambda: rule._replace(left=many(self.random.randint(1, 5)) + b"\0"),
             lambda: rule._replace(right=b"\0" + many(self.random.randint(1, 5))),
-            lambda: rule._replace(target=self.spoil(rule.target, [0, 0x3F, 0x3F, 0x40, 0xFF])),
-            lambda: rule._replace(left=self.spoil(rule.left + many(1), [0x3F, 0x3F, 0x40, 0x41, 0xFF])[:6]),
-            lambda: rule._replace(right=self.spoil(many(1) + rule.right, [0x3F, 0x3F, 0x40, 0x41, 0xFF])[-6:]),
+            lambda: rule._replace(target=self.spoil(rule.target, [0, 0x3F, 0x3F, 0x40, 0x5F, 0xFF])),
+            lambda: rule._replace(left=self.spoil(rule.left + many(1), [0x3F, 0x3F, 0x60, 0x61, 0xFF])[:6]),
+            lambda: rule._replace(right=self.spoil(many(1) + rule.right, [0x3F, 0x3F, 0x60, 0x61, 0xFF])[-6:]),
             lambda: rule._replace(phones=self.spoil((rule.phones + b"\1")[:4], [0])),
         ])()
 
@@ -113,20 +114,26 @@ class Source:
         singles = [Rule(b"", bytes([c]), b"", bytes([0x40 + c])) for c in alphabet]
         return rules + singles
 
-    def numbered(self, rules):
+    def numbered(self, rules, given=()):
         """Distinct numbers in any order, with gaps, as edits leave them."""
         last = min(ref.MAX_NUMBER, len(rules) + self.pick([0, 0, 1, 5, 300, 70_000]))
         numbers = (list(range(1, len(rules) + 1)) if self.chance(0.3)
                    else self.random.sample(range(1, last + 1), len(rules)))
-        return Ruleset(tuple(map(Numbered, numbers, rules)), last)
+        return Ruleset(tuple(map(Numbered, numbers, rules)), last, given)
 
     def ruleset(self, most=512):
+        """Half of them with classes; `most` is of literal rules then, or there are about as many as there may be."""
         alphabet = self.alphabet()
         count = min(most, self.pick([0, 1, 2, 5, 10, 20, 20, 40, 64, 65, 130, 512]))
         rules = self.rule_list(count, alphabet, self.pick([None, 1, 2, 3, 6]))
-        if self.chance(0.7):
-            rules = self.covered(rules, alphabet)
-        return self.numbered(rules[-most:])
+        ending = self.covered([], alphabet) if self.chance(0.7) else []
+        if self.chance(0.5):
+            return self.numbered((rules + ending)[-most:])
+        brim = most == ref.MAX_RULES and self.chance(0.4)
+        rules, given = classes.classed(self, rules, alphabet, most - len(ending))
+        if brim:
+            rules = classes.brimming(self, rules, given, alphabet, most - len(ending))
+        return self.numbered((rules + ending)[-most:], given)
 
     def sized_ruleset(self, states):
         """A ruleset of exactly so many states on both sides together, or close below."""
@@ -142,23 +149,6 @@ class Source:
                 break
         return self.numbered(rules)
 
-    def impossible(self, rs):
-        """A ruleset that is none, as (count, last, rules): for a host's memory."""
-        memory = bytearray(ref.memory_of(rs, self.pick([0, 0xEE])))
-        count = len(rs.rules)
-        kind = self.upto(4)
-        if kind == 0 or count == 0:
-            memory[0:2] = two(self.pick([513, 514, 0x8000, 0xFFFF]))
-        elif kind == 1:
-            at = 4 + ref.SLOT * self.upto(count - 1)
-            memory[at:at + 2] = two(self.pick([0, min(0xFFFF, rs.last + 1), rs.rules[0].number]))
-        elif kind == 2:
-            memory[2:4] = two(self.upto(rs.last))
-        else:
-            at = 4 + ref.SLOT * self.upto(count - 1) + 2 + self.upto(ref.SLOT - 3)
-            memory[at] = self.pick([0, 5, 7, 0x3F, 0x40, 0xFF])
-        return bytes(memory)
-
     # Edits -------------------------------------------------------------------
 
     def place(self, count):
@@ -173,11 +163,13 @@ class Source:
 
     def edit(self, rs, alphabet):
         kind = self.random.random()
-        if kind < 0.6:
+        if kind < 0.5:
             rule = (self.bad_rule(alphabet) if self.chance(0.12)
-                    else self.rule(alphabet, self.pick([0, 0, 1, 2, 6])))
+                    else classes.added_rule(self, rs, self.rule(alphabet, self.pick([0, 0, 1, 2, 6]))))
             return "add", rule, self.place(len(rs.rules))
-        if kind < 0.8:
+        if kind < 0.65:
+            return classes.setting_edit(self, rs, alphabet)
+        if kind < 0.82:
             return "drop", self.number(rs)
         return "move", self.number(rs), self.place(len(rs.rules))
 
@@ -193,12 +185,13 @@ class Source:
 
     def name(self, rs):
         """From the rules' own symbols, so that contexts are met, often of several words; sometimes too long or with bad bytes."""
-        held = bytes(sorted(set(b"".join(b"".join(r[:3]) for _, r in rs.rules)) - {0})) or b"\1\5"
+        rules = ref.literal_list(rs)
+        held = bytes(sorted(set(b"".join(b"".join(r[:3]) for _, r in rules)) - {0})) or b"\1\5"
         length = self.pick([0, 1, 2, 3, 5, 8, 12, 12, 30, 63, 64])
         name, spaces = b"", self.chance(0.6)
         while len(name) < length:
-            if rs.rules and self.chance(0.6):
-                name += b"".join(self.pick(rs.rules).rule[:3]).replace(b"\0", lists.SPACE if spaces else b"")
+            if rules and self.chance(0.6):
+                name += b"".join(self.pick(rules).rule[:3]).replace(b"\0", lists.SPACE if spaces else b"")
             else:
                 name += bytes([self.pick(held)])
         name = self.spaced(name[:length]) if spaces else name[:length]
@@ -240,7 +233,9 @@ class Source:
         """A file after one accident of a card, an editor or a cable."""
         lines = split_lines(data) or [b""]
         at, k, m = self.upto(max(0, len(data) - 1)), self.upto(len(lines) - 1), self.upto(len(lines) - 1)
-        kind = self.upto(15)
+        kind = self.upto(18)
+        if kind >= 16:
+            return b"".join(classes.damaged(self, lines))
         if kind == 0 and data:          # a bit
             return data[:at] + bytes([data[at] ^ 1 << self.upto(7)]) + data[at + 1:]
         if kind == 1:                   # a digit
@@ -316,7 +311,7 @@ class Source:
                 words[min(at, len(words) - 1)] = value    # a count may have been changed before
             else:
                 at = self.upto(len(sets) - 1)
-                sets[at] = self.set_damage(sets[at], len(rs.rules))
+                sets[at] = self.set_damage(sets[at], ref.literal_total(rs))
         return words, sets
 
     def word_damage(self, lefts, rights, symbols=bytes(range(64))):
@@ -397,7 +392,7 @@ class Source:
                 size = ref.MONITOR_LINE // 2 + self.pick([-1, 0, 1])
                 line = speech_line(self.pick([0x16, 0x17]), size, self.pick(alphabet))
             for part in split_lines(line):
-                if part.endswith(b"\n") and self.settled(held, part[:-1]):
+                if part.endswith(b"\n"):
                     try:
                         answers.append(held.answer(part[:-1]))
                         lines.append(part)
@@ -407,21 +402,6 @@ class Source:
             lines.append(self.pick([b"13ED", b"0", frame_line(b"\x1F")[:-1]]))
             answers.append(held.answer(None))
         return rules_hex, lines, answers
-
-    def settled(self, held, line):
-        """No command may make a ruleset of which a slot's contents are the implementation's own."""
-        body = ref.sound(line)
-        if body is None or body[0] != 0x1E or len(body) != 9:
-            return True
-        before = held.count, held.last, held.slots[:]
-        held.answer(line)
-        try:
-            held.ruleset()
-            return True
-        except ref.Unspecified:
-            return False
-        finally:
-            held.count, held.last, held.slots = before
 
     def commands(self, held, alphabet):
         """One command, or several that belong together: a name and the count of its contested letters."""
@@ -447,7 +427,7 @@ class Source:
             return b"\x13"
         if kind < 0.35:
             need = len(ref.file_text(rs)) if valid else 15
-            return b"\x14" + four(self.pick([need, need - 1, 0, 29_199, 29_200, 0x10000, 0xFFFFFFFF]))
+            return b"\x14" + four(self.pick([need, need - 1, 0, ref.LONGEST_FILE, ref.LONGEST_FILE + 1, 0x10000, 0xFFFFFFFF]))
         if kind < 0.45:
             return b"\x15" + four(self.lent(words)) + four(self.lent(sets))
         if kind < 0.72:
@@ -459,7 +439,7 @@ class Source:
                 at = self.pick([at, at, at, at, ref.MONITOR_WORDS - 1, ref.MONITOR_WORDS, 0xFFFFFFFF])
                 return b"\x18" + four(at) + two(value)
             at = self.upto(sets - 1) if self.chance(0.5) else 8 * self.upto(min(3, sets // 8 - 1))
-            value = self.set_damage(held.sets[at], len(rs.rules))
+            value = self.set_damage(held.sets[at], ref.literal_total(rs))
             at = self.pick([at, at, at, at, ref.MONITOR_SETS - 1, ref.MONITOR_SETS, 0xFFFFFFFF])
             return b"\x19" + four(at) + value.to_bytes(8, "big")
         if kind < 0.90:
@@ -472,6 +452,8 @@ class Source:
         kind, *fields = edit
         if kind == "add":
             return lists.adding(*fields)
+        if kind == "class":
+            return classes.setting(*fields)
         if kind == "drop":
             return b"\x11" + two(fields[0])
         return b"\x12" + two(fields[0]) + two(fields[1])
@@ -567,8 +549,21 @@ def short_names():
     return ref.SIX_FILE, lines, ref.say(ref.SIX_FILE, b"".join(lines))
 
 
-FIXED = {"say": {"short names": short_names},
-         "monitor": {"long lines": long_lines, **conversations(contested.FIXED),
+def one_file(rules_hex):
+    """A file, sound or not, and names by it."""
+    lines = [frame_line(b"\x03" + name) for name in (b"\x0B\5", b"\x0E\x0B\1\x0D", b"\x0B")]
+    return rules_hex, lines, ref.say(rules_hex, b"".join(lines))
+
+
+def files():
+    """A number above `last`, and every fault of a class line."""
+    low = frame_line(b"\1\1" + two(6) + two(5)) + ref.SIX_FILE.partition(b"\n")[2]
+    named = {"a number above last": low, **{f"class lines {k}": data for k, data in enumerate(classes.class_lines())}}
+    return {name: lambda data=data: one_file(data) for name, data in named.items()}
+
+
+FIXED = {"say": {"short names": short_names, **files()},
+         "monitor": {"long lines": long_lines, **conversations(contested.FIXED), **conversations(classes.FIXED),
                      "many rules": lambda: conversation(contested.many_rules, contested.many_rules_file())},
          "lists": conversations(lists.FIXED)}
 

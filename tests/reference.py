@@ -3,6 +3,7 @@
 
 Written from the documents and the issues alone, by definition and not for speed:
 no failure links, no bitmaps of numbers, no automaton, no code shared with the product.
+A rule with letter classes is its literal rules everywhere, in the plain reading as in the tables.
 
     python3 tests/reference.py             check every example and number of the documents
     python3 tests/reference.py say         be the program `say`
@@ -11,11 +12,13 @@ no failure links, no bitmaps of numbers, no automaton, no code shared with the p
 Readings of open points are marked 'Reading:'.
 """
 
+import math
 import sys
 from array import array
 from collections import Counter
 from functools import lru_cache
 from hashlib import blake2b
+from itertools import product
 from typing import NamedTuple
 
 BOUNDARY = 0            # the symbol #
@@ -25,12 +28,17 @@ MAX_CONTEXT = 6
 MAX_TARGET = 4
 MAX_RULE_PHONES = 4
 MAX_NAME = 64
-MAX_RULES = 512
+MAX_RULES = 512         # literal rules, and so numbered ones
 MAX_NUMBER = 65_535
+CLASS_SYMBOLS = range(0x40, 0x60)
+MAX_CLASS = 32          # letters of a class
 
 SLOT = 26               # a rule in lent memory
-MEMORY = 4 + MAX_RULES * SLOT
-LONGEST_FILE = 29_199
+MASKS = 4 + MAX_RULES * SLOT                    # 8 bytes for each class
+TOTAL = MASKS + 8 * len(CLASS_SYMBOLS)          # of literal rules
+LITERALS = TOTAL + 2                            # 4 bytes for each of them
+MEMORY = LITERALS + 4 * MAX_RULES
+LONGEST_FILE = 31_535
 LONGEST_INPUT = 32_768  # bytes of either input of `say`
 SAY_WORDS = 32_768
 SAY_SETS = 4_096
@@ -59,10 +67,16 @@ class Numbered(NamedTuple):
     rule: Rule
 
 
+class Class(NamedTuple):
+    symbol: int
+    letters: bytes
+
+
 class Ruleset(NamedTuple):
-    """The ledger's state: the ordered list and the last number issued."""
+    """The ledger's state: the ordered list, the last number issued, and the classes in ascending order of their symbols."""
     rules: tuple = ()
     last: int = 0
+    classes: tuple = ()
 
 
 class Refusal(NamedTuple):
@@ -85,26 +99,77 @@ def is_letter(byte):
     return 0x01 <= byte <= 0x3E
 
 
+def in_context(byte):
+    return is_letter(byte) or byte in CLASS_SYMBOLS
+
+
 def has_shape(rule):
-    """# only first in a left context or last in a right one."""
+    """# only first in a left context or last in a right one, classes in contexts alone."""
     return (len(rule.left) <= MAX_CONTEXT
             and 1 <= len(rule.target) <= MAX_TARGET
             and len(rule.right) <= MAX_CONTEXT
             and len(rule.phones) <= MAX_RULE_PHONES
-            and all(is_letter(c) or (c == BOUNDARY and at == 0) for at, c in enumerate(rule.left))
+            and all(in_context(c) or (c == BOUNDARY and at == 0) for at, c in enumerate(rule.left))
             and all(is_letter(c) for c in rule.target)
-            and all(is_letter(c) or (c == BOUNDARY and at == len(rule.right) - 1)
+            and all(in_context(c) or (c == BOUNDARY and at == len(rule.right) - 1)
                     for at, c in enumerate(rule.right))
             and all(1 <= p <= 0xFF for p in rule.phones))
 
 
+@lru_cache(maxsize=256)
 def is_ruleset(rs):
     numbers = [n for n, _ in rs.rules]
     return (len(rs.rules) <= MAX_RULES
             and 0 <= rs.last <= MAX_NUMBER
             and all(has_shape(rule) for _, rule in rs.rules)
             and all(1 <= n <= rs.last for n in numbers)
-            and len(set(numbers)) == len(numbers))
+            and len(set(numbers)) == len(numbers)
+            and all(is_class(*given) for given in rs.classes)
+            and all(uses(rule) <= defined(rs) for _, rule in rs.rules)
+            and literal_total(rs) <= MAX_RULES)
+
+
+# Classes and literal rules (document 02, request 5) ------------------------------
+
+def is_class(symbol, letters):
+    return (symbol in CLASS_SYMBOLS and 1 <= len(letters) <= MAX_CLASS and all(map(is_letter, letters))
+            and all(one < other for one, other in zip(letters, letters[1:])))
+
+
+def defined(rs):
+    return {given.symbol for given in rs.classes}
+
+
+def uses(rule):
+    """The classes that a rule uses."""
+    return {symbol for symbol in rule.left + rule.right if symbol in CLASS_SYMBOLS}
+
+
+def letters_for(rule, classes):
+    """What may stand at each symbol of its contexts, left, then right; of classes that are defined."""
+    letters = dict(classes)
+    return [letters[symbol] if symbol in letters else bytes([symbol]) for symbol in rule.left + rule.right]
+
+
+def literal_count(rule, classes):
+    return math.prod(map(len, letters_for(rule, classes)))
+
+
+def literal_total(rs):
+    return sum(literal_count(rule, rs.classes) for _, rule in rs.rules)
+
+
+def literal_rules(rule, classes):
+    """The rules that it means: the leftmost symbol varies slowest, letters ascending."""
+    split = len(rule.left)
+    return [rule._replace(left=bytes(symbols[:split]), right=bytes(symbols[split:]))
+            for symbols in product(*letters_for(rule, classes))]
+
+
+@lru_cache(maxsize=256)
+def literal_list(rs):
+    """All literal rules in the order of the numbered ones, each under its rule's number."""
+    return tuple(Numbered(number, literal) for number, rule in rs.rules for literal in literal_rules(rule, rs.classes))
 
 
 def frame_word(letters):
@@ -338,11 +403,12 @@ def plain_reading(rs, name, phone_room, number_room, listed=NO_EXCEPTIONS):
 
 
 def plain_word(rs, word):
-    """All rules are tried at each reached letter: the first that fits is applied, and how many fit is counted."""
+    """All literal rules are tried at each reached letter: the first that fits is applied, and how many fit is counted. Of those of
+    one numbered rule at most one fits."""
     framed, n, i = word.framed, len(word.letters), 1
     phones, numbers, contested = b"", [], 0
     while i <= n:
-        fitting = [numbered for numbered in rs.rules if fits(numbered.rule, framed, i)]
+        fitting = [literal for literal in literal_list(rs) if fits(literal.rule, framed, i)]
         if not fitting:
             return i
         number, rule = fitting[0]
@@ -362,17 +428,19 @@ def add(rs, rule, p):
         refused = Refusal(0, 0)
     elif not has_shape(rule):
         refused = Refusal(6, 0)
+    elif not uses(rule) <= defined(rs):
+        refused = Refusal(20, 0)
     elif p > len(rs.rules):
         refused = Refusal(7, 0)
-    elif len(rs.rules) == MAX_RULES:
-        refused = Refusal(9, 0)
+    elif literal_total(rs) + literal_count(rule, rs.classes) > MAX_RULES:
+        refused = Refusal(21, 0)
     elif rs.last == MAX_NUMBER:
         refused = Refusal(10, 0)
     if refused:
         return refused, rs
     number = rs.last + 1
     rules = rs.rules[:p] + (Numbered(number, rule),) + rs.rules[p:]
-    return None, Ruleset(rules, number)
+    return None, rs._replace(rules=rules, last=number)
 
 
 def drop(rs, number):
@@ -381,7 +449,7 @@ def drop(rs, number):
     rest = tuple(r for r in rs.rules if r.number != number)
     if len(rest) == len(rs.rules):
         return Refusal(8, 0), rs
-    return None, Ruleset(rest, rs.last)
+    return None, rs._replace(rules=rest)
 
 
 def move(rs, number, p):
@@ -394,22 +462,34 @@ def move(rs, number, p):
         return Refusal(8, 0), rs
     if p > len(rest):
         return Refusal(7, 0), rs
-    return None, Ruleset(rest[:p] + moved + rest[p:], rs.last)
+    return None, rs._replace(rules=rest[:p] + moved + rest[p:])
+
+
+def set_class(rs, symbol, letters):
+    """A class that a held rule uses stays as it is."""
+    if not is_ruleset(rs):
+        return Refusal(0, 0), rs
+    if not is_class(symbol, letters) or any(symbol in uses(rule) for _, rule in rs.rules):
+        return Refusal(20, 0), rs
+    others = tuple(given for given in rs.classes if given.symbol != symbol)
+    return None, rs._replace(classes=tuple(sorted(others + (Class(symbol, letters),))))
 
 
 def replay(edits, rs=EMPTY):
-    """The answers and the ruleset after a list of ('add', rule, p), ('drop', number), ('move', number, p)."""
-    answers = []
+    """The answers and the ruleset after a list of ('add', rule, p), ('drop', number), ('move', number, p), ('class', symbol, letters)."""
+    calls, answers = {"add": add, "drop": drop, "move": move, "class": set_class}, []
     for kind, *arguments in edits:
-        answer, rs = {"add": add, "drop": drop, "move": move}[kind](rs, *arguments)
+        answer, rs = calls[kind](rs, *arguments)
         answers.append(answer)
     return answers, rs
 
 
 # The ruleset in lent memory -------------------------------------------------
 # count (2), last (2), then 512 slots: number (2), four lengths, 6 left,
-# 4 target, 6 right, 4 phones. Bytes past a length and slots past the count
-# are not judged.
+# 4 target, 6 right, 4 phones; 32 classes as masks of 64 bits, bit c for letter c; the literal
+# total (2) and, for each literal rule, its numbered rule's place (2) and which of that rule's
+# literal rules it is (2). Bytes past a length, slots past the count and literal rules past the
+# total are not judged.
 
 FIELDS = ((6, MAX_CONTEXT), (12, MAX_TARGET), (16, MAX_CONTEXT), (22, MAX_RULE_PHONES))
 
@@ -428,9 +508,21 @@ def slot_bytes(numbered):
     return two(numbered.number) + lengths + fields
 
 
+def mask_bytes(classes):
+    masks = {symbol: sum(1 << letter for letter in letters) for symbol, letters in classes}
+    return b"".join(masks.get(symbol, 0).to_bytes(8, "big") for symbol in CLASS_SYMBOLS)
+
+
+def literal_bytes(rs):
+    """The total, and for each literal rule the place of its numbered rule and which of that rule's it is."""
+    counts = [literal_count(rule, rs.classes) for _, rule in rs.rules]
+    return two(sum(counts)) + b"".join(two(place) + two(which) for place, count in enumerate(counts) for which in range(count))
+
+
 def memory_of(rs, fill=0):
-    """A ruleset's memory, with `fill` in the slots past the count."""
+    """A ruleset's memory, with `fill` in the slots past the count and past the literal rules."""
     held = two(len(rs.rules)) + two(rs.last) + b"".join(map(slot_bytes, rs.rules))
+    held = held.ljust(MASKS, bytes([fill])) + mask_bytes(rs.classes) + literal_bytes(rs)
     return held.ljust(MEMORY, bytes([fill]))
 
 
@@ -450,8 +542,19 @@ def ruleset_in(memory):
     if count > MAX_RULES:
         return None
     slots = (memory[4 + SLOT * k:4 + SLOT * (k + 1)] for k in range(count))
-    rs = Ruleset(tuple(slot_rule(bytes(s)) for s in slots), int.from_bytes(memory[2:4], "big"))
-    return rs if is_ruleset(rs) else None
+    classes = classes_in(memory[MASKS:TOTAL])
+    rs = Ruleset(tuple(slot_rule(bytes(s)) for s in slots), int.from_bytes(memory[2:4], "big"), classes)
+    return rs if is_ruleset(rs) and memory[TOTAL:].startswith(literal_bytes(rs)) else None
+
+
+def classes_in(masks):
+    """A mask that is not zero is a class; a bit of no letter breaks it."""
+    classes = []
+    for at, symbol in enumerate(CLASS_SYMBOLS):
+        mask = int.from_bytes(masks[8 * at:8 * at + 8], "big")
+        if mask:
+            classes.append(Class(symbol, bytes(bit for bit in range(64) if mask >> bit & 1)))
+    return tuple(classes)
 
 
 # Frames and the rule file ---------------------------------------------------
@@ -477,9 +580,13 @@ def rule_body(numbered):
     return b"\x02" + two(numbered.number) + lengths + b"".join(numbered.rule)
 
 
+def class_body(given):
+    return bytes([0x07, given.symbol, len(given.letters)]) + given.letters
+
+
 def file_text(rs):
     head = frame_line(b"\x01\x01" + two(len(rs.rules)) + two(rs.last))
-    return head + b"".join(frame_line(rule_body(r)) for r in rs.rules)
+    return head + b"".join(map(frame_line, map(class_body, rs.classes))) + b"".join(frame_line(rule_body(r)) for r in rs.rules)
 
 
 def write_file(rs, room):
@@ -488,6 +595,15 @@ def write_file(rs, room):
         return Refusal(0, 0)
     text = file_text(rs)
     return text if len(text) <= room else Refusal(15, len(text))
+
+
+def class_of(body, classes):
+    """The class of a sound line of kind 07 after those read so far, or None where refusal 14 is due."""
+    if len(body) < 3 or len(body) != 3 + body[2]:
+        return None
+    given = Class(body[1], body[3:])
+    ascends = all(symbol < given.symbol for symbol, _ in classes)
+    return given if is_class(*given) and ascends else None
 
 
 def rule_of(body, last, seen):
@@ -510,19 +626,23 @@ def rule_of(body, last, seen):
 def read_file(data, memory_length=MEMORY):
     """The ruleset of a file, or 0 (memory too short), 13, 14: earlier line first, 13 before 14.
 
-    Reading: a count above `last` shows only at the line that repeats, exceeds or is missing.
+    Readings: a count above `last` shows only at the line that repeats, exceeds or is missing; a line that is no sound one of
+    kind 07 ends the classes, and is judged as the first rule or, where none is counted, as bytes after the last.
     """
     if memory_length < MEMORY:
         return Refusal(0, 0)
     at = 0
 
+    def line_here():
+        """(the sound line's bytes or None, where the next line starts)."""
+        end = data.find(b"\n", at)
+        return (None, at) if end < 0 else (sound(data[at:end]), end + 1)
+
     def next_line():
         nonlocal at
-        start, end = at, data.find(b"\n", at)
-        if end < 0:
-            return start, None
-        at = end + 1
-        return start, sound(data[start:end])
+        start = at
+        body, at = line_here()
+        return start, body
 
     start, head = next_line()
     if head is None:
@@ -532,22 +652,32 @@ def read_file(data, memory_length=MEMORY):
     count, last = int.from_bytes(head[2:4], "big"), int.from_bytes(head[4:6], "big")
     if count > MAX_RULES:
         return Refusal(14, start)
-    rules, seen = [], set()
+    classes = []
+    while (line_here()[0] or b"\0")[0] == 0x07:
+        start, body = next_line()
+        given = class_of(body, classes)
+        if given is None:
+            return Refusal(14, start)
+        classes.append(given)
+    rules, seen, literals = [], set(), 0
     for _ in range(count):
         start, body = next_line()
         if body is None:
             return Refusal(13, start)
         numbered = rule_of(body, last, seen)
-        if numbered is None:
+        if numbered is None or not uses(numbered.rule) <= {symbol for symbol, _ in classes}:
+            return Refusal(14, start)
+        literals += literal_count(numbered.rule, classes)
+        if literals > MAX_RULES:
             return Refusal(14, start)
         seen.add(numbered.number)
         rules.append(numbered)
     if at < len(data):
         return Refusal(14, at)
-    return Ruleset(tuple(rules), last)
+    return Ruleset(tuple(rules), last, tuple(classes))
 
 
-# The tables -------------------------------------------------------------------
+# The tables, over the literal rules ----------------------------------------------
 
 def left_pattern(rule):
     return rule.left
@@ -608,8 +738,8 @@ def one_table(patterns):
 
 def needed(rs):
     """(L, R, words, set words) of a valid ruleset."""
-    lefts = len(state_strings(left_pattern(r) for _, r in rs.rules))
-    rights = len(state_strings(right_pattern(r) for _, r in rs.rules))
+    lefts = len(state_strings(left_pattern(r) for _, r in literal_list(rs)))
+    rights = len(state_strings(right_pattern(r) for _, r in literal_list(rs)))
     return lefts, rights, 2 + SYMBOLS * (lefts + rights), 8 * (lefts + rights)
 
 
@@ -622,8 +752,8 @@ def build(rs, word_room, set_room):
         return Refusal(11, word_count)
     if set_room < set_count:
         return Refusal(12, set_count)
-    lefts, left_rows, left_sets = one_table(tuple(left_pattern(r) for _, r in rs.rules))
-    rights, right_rows, right_sets = one_table(tuple(right_pattern(r) for _, r in rs.rules))
+    lefts, left_rows, left_sets = one_table(tuple(left_pattern(r) for _, r in literal_list(rs)))
+    rights, right_rows, right_sets = one_table(tuple(right_pattern(r) for _, r in literal_list(rs)))
     return array("H", [lefts, rights]) + left_rows + right_rows, left_sets + right_sets
 
 
@@ -683,15 +813,16 @@ def both_passes(words, sets, word):
 def walk_word(rs, words, sets, word, passes):
     left_after, right_after, _ = passes
     lefts, n, i = words[0], len(word.letters), 1
+    literals = literal_list(rs)
     phones, numbers, contested = b"", [], 0
     while i <= n:
         places = shared_places(sets, 8 * left_after[i - 1], 8 * (lefts + right_after[i]))
         if not places:
             return i
         place = places[0]
-        if place >= len(rs.rules) or not fits(rs.rules[place].rule, word.framed, i):
+        if place >= len(literals) or not fits(literals[place].rule, word.framed, i):
             raise Unusable
-        number, rule = rs.rules[place]
+        number, rule = literals[place]
         contested += len(places) > 1
         phones += rule.phones
         numbers.append(number)
@@ -754,25 +885,23 @@ def say_line(rs, built, line):
 
 
 class Unspecified(Exception):
-    """The answer rests on what no document says: slots past the count after a drop, units stored into the list's memory."""
+    """The answer rests on what no document says: units stored into the list's memory."""
 
 
-UNUSED = Numbered(0, Rule())
+NO_RULESET = Ruleset((Numbered(0, Rule()),))
 UNKNOWN = object()      # what the list's memory holds after a store
 
 
 class Monitor:
     """The program `monitor`: `answer` takes one line's text (None: unended) and gives its answer.
 
-    Readings: unused slots start as zeros; a line's 4,096 bytes are counted without its 0A;
-    a show of no words is inside the memory up to the index just past its end.
+    Readings: a line's 4,096 bytes are counted without its 0A; a show of no words is inside the memory up to the index just past
+    its end.
     """
 
     def __init__(self, rules_hex=None):
         self.rules_hex = rules_hex
-        self.count, self.last = 0, 0
-        self.slots = [UNUSED] * MAX_RULES
-        self.stale = set()      # places past the count that an edit may have left in any state
+        self.hold(EMPTY)
         self.words = array("H", [0xFFFF]) * MONITOR_WORDS
         self.sets = array("Q", [2**64 - 1]) * MONITOR_SETS
         self.phones = bytearray(b"\xEE" * SAY_PHONES)
@@ -783,14 +912,9 @@ class Monitor:
         self.told = bytearray(b"\xEE" * LONGEST_READ_OUT)
 
     def ruleset(self):
-        """The held ruleset; one that is none comes back as such, for the calls to refuse."""
-        if self.count > MAX_RULES:
-            return Ruleset((UNUSED,) * self.count, self.last)
-        known = tuple(s for k, s in enumerate(self.slots[:self.count]) if k not in self.stale)
-        rs = Ruleset(known, self.last)
-        if len(known) < self.count and is_ruleset(rs) and self.last > 0:
-            raise Unspecified
-        return rs if len(known) == self.count else Ruleset((UNUSED,), self.last)
+        """The held ruleset; one that is none comes back as such, for the calls to refuse. Of another count than that of the rules
+        it is none, whatever the slots hold: every rule has a literal rule, and their total stands in the memory."""
+        return self.held._replace(last=self.last) if self.count == len(self.held.rules) else NO_RULESET
 
     def lent_list(self):
         """None: the lent memory is no list."""
@@ -801,9 +925,7 @@ class Monitor:
         return self.listed
 
     def hold(self, rs):
-        self.count, self.last = len(rs.rules), rs.last
-        self.slots[:self.count] = rs.rules
-        self.stale = {k for k in range(self.count, MAX_RULES) if self.slots[k] != UNUSED}
+        self.held, self.count, self.last = rs, len(rs.rules), rs.last
 
     def answer(self, line):
         if line is None or len(line) > MONITOR_LINE:
@@ -814,7 +936,7 @@ class Monitor:
             return UNSOUND
         call, *sizes = command
         fixed = sum(sizes)
-        open_ended = call in (Monitor.add, Monitor.walk, Monitor.plain, Monitor.list_name, Monitor.unlist_name)
+        open_ended = call in (Monitor.add, Monitor.walk, Monitor.plain, Monitor.list_name, Monitor.unlist_name, Monitor.set_class)
         if len(body) - 1 < fixed or (not open_ended and len(body) - 1 != fixed):
             return UNSOUND
         fields, at = [], 1
@@ -846,6 +968,9 @@ class Monitor:
 
     def move(self, number, p):
         return self.edit(*move(self.ruleset(), number, p))
+
+    def set_class(self, symbol, letters):
+        return self.edit(*set_class(self.ruleset(), symbol, letters))
 
     def read(self):
         rs = read_rules_hex(self.rules_hex)
@@ -911,9 +1036,10 @@ class Monitor:
         return frame_line(b"\x0A" + b"".join(map(two, self.numbers)))
 
     def force(self, place, number, count, last):
-        if place < MAX_RULES:
-            self.slots[place] = self.slots[place]._replace(number=number)
-        self.count, self.last = count, last
+        rules = list(self.held.rules)
+        if place < len(rules):
+            rules[place] = rules[place]._replace(number=number)
+        self.held, self.count, self.last = self.held._replace(rules=tuple(rules)), count, last
         return frame_line(b"\x06")
 
     def clear(self):
@@ -970,7 +1096,7 @@ class Monitor:
         0x1B: (show_sets, 4, 1), 0x1C: (show_phones,), 0x1D: (show_numbers,),
         0x1E: (force, 2, 2, 2, 2), 0x1F: (clear,), 0x20: (list_name, 1), 0x21: (unlist_name,),
         0x22: (read_out, 4), 0x23: (show_read_out, 4, 1), 0x24: (clear_list,), 0x25: (lend_units, 4),
-        0x26: (store_unit, 4, 4), 0x27: (show_contested,),
+        0x26: (store_unit, 4, 4), 0x27: (show_contested,), 0x28: (set_class, 1),
     }
 
 
@@ -1043,14 +1169,14 @@ def check_edits(check):
             ("0: 3F in a rule", drop(Ruleset((Numbered(1, Rule(b"", b"\x3F")),), 1), 1)[0], (0, 0)),
             ("7: p = 1, empty list", add(EMPTY, rule, 1)[0], (7, 0)),
             ("8: drop 9 of six", drop(six, 9)[0], (8, 0)),
-            ("9: 513th add", add(full, rule, 512)[0], (9, 0)),
-            ("7 before 9", add(full, rule, 513)[0], (7, 0)),
+            ("21: 513th add", add(full, rule, 512)[0], (21, 0)),
+            ("7 before 21", add(full, rule, 513)[0], (7, 0)),
             ("10: add after 65,535", add(spent, rule, 0)[0], (10, 0)),
             ("move: 8 before 7", move(six, 9, 99)[0], (8, 0)),
             ("move: 7 against the remaining list", move(six, 1, 6)[0], (7, 0))]:
         check.equal(what, got, wanted)
     memory = memory_of(six, fill=0xEE)
-    check.equal("memory of a ruleset", len(memory), 13_316)
+    check.equal("memory of a ruleset", len(memory), 15_622)
     check.equal("memory read back", ruleset_in(memory), six)
     check.equal("memory one short", ruleset_in(memory[:-1]), None)
     check.equal("memory longer", ruleset_in(memory + b"\xEE"), six)
@@ -1061,8 +1187,10 @@ def check_file(check, six):
     check.equal("the six-rule file", file_text(six), SIX_FILE)
     check.equal("and back", read_file(SIX_FILE), six)
     longest = Rule(b"\1" * 6, b"\1" * 4, b"\1" * 6, b"\1" * 4)
-    full = Ruleset(tuple(Numbered(n, longest) for n in range(1, 513)), 512)
+    widest = tuple(Class(symbol, bytes(range(1, 33))) for symbol in CLASS_SYMBOLS)
+    full = Ruleset(tuple(Numbered(n, longest) for n in range(1, 513)), 512, widest)
     check.equal("the longest file", len(file_text(full)), LONGEST_FILE)
+    check.equal("and back", read_file(file_text(full)), full)
     lines = SIX_FILE.splitlines(keepends=True)
     starts = [sum(map(len, lines[:k])) for k in range(8)]
 
@@ -1233,6 +1361,125 @@ def check_contested(check, six):
         check.equal("contested: " + what + ", walk", walk(rs, *build(rs, MONITOR_WORDS, MONITOR_SETS), letters(name), 256, 64)[0], said)
 
 
+VOWELS, NASALS = Class(0x40, letters("aeiou")), Class(0x5F, letters("mn"))
+
+
+def check_classes(check):
+    """Classes set and used, the literal rules of a rule, the memory and the file that hold them, and what is refused."""
+    k_before = Rule(b"", letters("k"), b"\x40", b"\x63")
+    between = Rule(b"\0\x5F", letters("k"), b"\x40\x5F\0", b"")
+    _, rs = replay([("class", *NASALS), ("class", *VOWELS), ("add", k_before, 0), ("add", between, 0), ("add", SIX_RULES[1], 2)])
+    check.equal("classes in order", (rs.classes, rs.last, literal_total(rs)), ((VOWELS, NASALS), 3, 20 + 5 + 1))
+    check.equal("the leftmost symbol slowest", [(r.left + r.right).replace(b"\0", b"") for r in literal_rules(between, rs.classes)],
+                [letters(left + vowel + right) for left in "mn" for vowel in "aeiou" for right in "mn"])
+    check.equal("its numbers", [n for n, _ in literal_list(rs)], [2] * 20 + [1] * 5 + [3])
+
+    def refused(what, got, number):
+        check.equal("classes, " + what, got[0], Refusal(number, 0) if number is not None else None)
+        check.equal("classes, " + what + ": the ruleset", got[1] == rs, number is not None)
+
+    for what, symbol, some in [("symbol 3F", 0x3F, b"\1"), ("symbol 60", 0x60, b"\1"), ("letter 00", 0x41, b"\0\1"), ("letter 3F", 0x41, b"\1\x3F"),
+                               ("a class in a class", 0x41, b"\1\x40"), ("empty", 0x41, b""), ("equal letters", 0x41, b"\1\1"),
+                               ("letters descending", 0x41, b"\2\1"), ("33 letters", 0x41, bytes(range(1, 34))),
+                               ("in use", 0x40, b"\1"), ("in use, the same letters", *VOWELS)]:
+        refused(what, set_class(rs, symbol, some), 20)
+    for what, symbol, some in [("32 letters", 0x41, bytes(range(1, 33))), ("one letter", 0x5E, b"\x3E")]:
+        refused(what, set_class(rs, symbol, some), None)
+    unused = replay([("drop", 1), ("drop", 2), ("class", 0x40, b"\1")], rs)
+    check.equal("set again after the last use", (unused[0], unused[1].classes), ([None] * 3, (Class(0x40, b"\1"), NASALS)))
+    for what, rule, number in [("a class in a target", Rule(b"", b"\1\x40"), 6), ("symbol 60 in a context", Rule(b"\x60", b"\1"), 6),
+                               ("# inside a context of classes", Rule(b"\x40\0", b"\1"), 6), ("an undefined class", Rule(b"\x41", b"\1"), 20)]:
+        refused(what, add(rs, rule, 9), number)
+        refused(what + ", 7 after it", add(rs, rule, 0), number)
+    fill = lambda count: tuple(Numbered(k, SIX_RULES[1]) for k in range(9, 9 + count))
+    brim = rs._replace(rules=fill(507), last=600)
+    for what, rule, p, wanted in [("512 literal rules", k_before, 0, None), ("21: 513", between, 0, (21, 0)), ("7 before 21", between, 508, (7, 0)),
+                                  ("20 before 7", Rule(b"\x41", b"\1"), 508, (20, 0)),
+                                  ("21 of very many", Rule(b"\x40" * 6, b"\1", b"\x40" * 6), 0, (21, 0))]:
+        check.equal("classes, " + what, add(brim, rule, p)[0], wanted)
+    check.equal("21 before 10", add(brim._replace(last=MAX_NUMBER), between, 0)[0], (21, 0))
+    check.equal("10", add(brim._replace(last=MAX_NUMBER), k_before, 0)[0], (10, 0))
+    for what, other in [("513 literal rules", rs._replace(rules=rs.rules + fill(487), last=600)),
+                        ("an undefined class", rs._replace(classes=(VOWELS,))),
+                        ("a bad class", rs._replace(classes=rs.classes + (Class(0x60, b"\1"),)))]:
+        check.equal("0: " + what, set_class(other, 0x60, b""), (Refusal(0, 0), other))
+    check_class_memory(check, rs)
+    check_class_file(check, rs)
+    check_class_names(check, rs)
+
+
+def check_class_memory(check, rs):
+    memory = memory_of(rs, fill=0xEE)
+    check.equal("classes in memory", ruleset_in(memory), rs)
+    # The vowels' mask, the total, and the literal rules of the second numbered rule.
+    check.equal("vowels", memory[13_316:13_324].hex(), "0000000000208222")
+    check.equal("the total", memory[13_572:13_574].hex(), "001a")
+    check.equal("literal rules", memory[13_574 + 4 * 19:13_574 + 4 * 22].hex(), "00000013" "00010000" "00010001")
+    for what, at, some in [("bit 0", 13_323, b"\x23"), ("bit 63", 13_316, b"\x80"), ("33 letters", 13_324, b"\0\0\0\3\xFF\xFF\xFF\xFE"),
+                           ("an undefined class", 13_564, bytes(8)), ("another class", 13_323, b"\x20"), ("the total", 13_573, b"\x19"),
+                           ("a place", 13_574 + 4 * 20 + 1, b"\0"), ("which", 13_574 + 4 * 20 + 3, b"\1"), ("the last", 13_574 + 4 * 25 + 3, b"\1")]:
+        check.equal("0: " + what, ruleset_in(memory[:at] + some + memory[at + len(some):]), None)
+    for what, at, some in [("an unused class", 13_331, b"\2"), ("past the literal rules", 13_574 + 4 * 26, b"\1\1\1\1")]:
+        check.equal("no fault: " + what, ruleset_in(memory[:at] + some + memory[at + len(some):]) is not None, True)
+
+
+def check_class_file(check, rs):
+    text = file_text(rs)
+    lines = text.splitlines(keepends=True)
+    check.equal("class lines", lines[1:3], [frame_line(b"\7\x40\5\1\5\x09\x0F\x15"), frame_line(b"\7\x5F\2\x0D\x0E")])
+    check.equal("classes read back", read_file(text), rs)
+    starts = [sum(map(len, lines[:k])) for k in range(7)]
+    line = lambda *body: frame_line(bytes(body))
+    for what, some in [("no fields", line(7)), ("no count", line(7, 0x50)), ("no letters", line(7, 0x50, 0)),
+                       ("letters missing", line(7, 0x50, 2, 1)), ("letters too many", line(7, 0x50, 1, 1, 2)),
+                       ("symbol 3F", line(7, 0x3F, 1, 1)), ("symbol 60", line(7, 0x60, 1, 1)),
+                       ("letter 00", line(7, 0x50, 1, 0)), ("letter 3F", line(7, 0x50, 1, 0x3F)), ("not ascending", line(7, 0x50, 2, 2, 1)),
+                       ("33 letters", line(7, 0x50, 33, *range(1, 34))), ("the same symbol", lines[1]), ("a lower symbol", line(7, 0x3F + 1, 1, 1))]:
+        check.equal("14: " + what, read_file(b"".join([*lines[:2], some, *lines[2:]])), (14, starts[2]))
+    head = lambda count: frame_line(b"\1\1" + two(count) + two(9))
+    rest = b"".join(lines[3:])
+    for what, data, wanted in [
+            ("an undefined class", b"".join(lines[:2] + lines[3:]), (14, starts[2])),
+            ("a class after a rule", b"".join(lines[:4] + [line(7, 0x5E, 1, 1)] + lines[4:]), (14, starts[4])),
+            ("a class after the last", text + lines[2], (14, starts[6])),
+            ("13 where a class could stand", b"".join(lines[:2]) + b"x\n" + rest, (13, starts[2])),
+            ("13 for an unsound class", b"".join(lines[:2]) + lines[2].lower() + rest, (13, starts[2])),
+            ("a missing rule after classes", b"".join(lines[:3]), (13, starts[3])),
+            ("14 with no rules counted", head(0) + lines[1] + b"x", (14, 15 + len(lines[1]))),
+            ("an unended class, no rules counted", head(0) + lines[1][:-1], (14, 15)), ("another frame there", head(0) + line(2, 0), (14, 15)),
+            ("classes alone", head(0) + lines[1] + lines[2], Ruleset((), 9, rs.classes)), ("two heads", head(0) + head(0), (14, 15))]:
+        check.equal("file, " + what, read_file(data), wanted)
+    fill = [frame_line(rule_body(Numbered(n, SIX_RULES[1]))) for n in range(9, 9 + 487)]
+    wide = lambda more: frame_line(b"\1\1" + two(3 + more) + two(600)) + b"".join(lines[1:] + fill[:more])
+    check.equal("512 literal rules in a file", literal_total(read_file(wide(486))), 512)
+    check.equal("14: 513 in a file", read_file(wide(487)), (14, len(wide(486))))
+
+
+def check_class_names(check, rs):
+    """Fitting by expansion is fitting by membership."""
+    classes = dict(rs.classes)
+    may_stand = lambda symbol, letter: letter in classes.get(symbol, bytes([symbol]))
+    for name in map(bytes, product(letters("kam"), repeat=4)):
+        framed = frame_word(name)
+        for _, rule in rs.rules:
+            for i in range(1, len(name) + 1):
+                symbols = rule.left + rule.target + rule.right
+                around = framed[max(0, i - len(rule.left)):i - len(rule.left) + len(symbols)] if i >= len(rule.left) else b""
+                member = len(around) == len(symbols) and all(map(may_stand, symbols, around))
+                check.equal("member", sum(fits(r, framed, i) for r in literal_rules(rule, rs.classes)), int(member))
+    rs = replay([("add", Rule(b"", bytes([c]), b"", bytes([0x60 + c])), len(rs.rules)) for c in letters("aemn")], rs)[1]
+    words, sets = build(rs, MONITOR_WORDS, MONITOR_SETS)
+    for name, phones, numbers, contested in [
+            ("kk", "6B6B", (3, 3), 0), ("ka", "6361", (1, 4), 1), ("mkan", "6D616E", (6, 2, 4, 7), 1), ("kma", "6B6D61", (3, 6, 4), 0),
+            ("mkanka", "6D63616E6361", (6, 1, 4, 7, 1, 4), 2), ("nkem", "6E656D", (7, 2, 5, 6), 1)]:
+        said = Spoken(bytes.fromhex(phones), numbers, contested)
+        check.equal("classes, " + name, (plain_reading(rs, letters(name), 9, 9), walk(rs, words, sets, letters(name), 9, 9)[0]), (said, said))
+    everywhere = lambda place: (words, array("Q", [1 << place % 64 if j == place // 64 else 0 for j in range(8)] * (len(sets) // 8)))
+    total = literal_total(rs)
+    for what, place in [("a literal rule that does not fit", 20), ("past the literal rules", total), ("the place of a numbered rule", 1)]:
+        check.equal("16: " + what, walk(rs, *everywhere(place), letters("ke"), 9, 9), (Refusal(16, 0), 0))
+
+
 def check_list(check, six):
     """The list's changes, its states, its read-out, and names said from it."""
     knee, said = letters("knee"), b"\x6B\xFF"
@@ -1379,6 +1626,15 @@ def check_programs(check, six):
             ("walk, phones short", "160000028200000050000100400B0E0505", "08000A04" + "00000002"),
             ("the count after a refusal", "27", "0A02"),
             ("a field too many", "2700", "050D00000000"),
+            ("set a class", "284001050F", "060006"),
+            ("no symbol", "28", "050D00000000"),
+            ("no letters", "2840", "051400000000"),
+            ("an undefined class", "100000010100004105", "051400000000"),
+            ("use it", "10000601010000400B", "060007"),
+            ("in use", "284001", "051400000000"),
+            ("read forgets the classes", "13", "060006"),
+            ("undefined again", "10000601010000400B", "051400000000"),
+            ("set it", "284001050F", "060006"),
             ("plain", "170100004005", "040000000001" + "0003"),
             ("contested in e", "27", "0A01"),
             ("show words", "1A0000000002", "0A00020008"),
@@ -1388,6 +1644,7 @@ def check_programs(check, six):
             ("refused by 0", "110001", "050000000000"),
             ("plain, refused by 0", "170100004005", "050000000000"),
             ("clear", "1F", "06"),
+            ("clear forgets the classes", "10000001010000400B", "051400000000"),
             ("the count after them", "27", "0A01"),
             ("drop", "110001", "050800000000"),
             ("add", "100000000100010B6B", "060001"),
@@ -1452,6 +1709,7 @@ def self_test():
     check_reading(check, six)
     check_words(check, six)
     check_contested(check, six)
+    check_classes(check)
     check_list(check, six)
     check_tables(check)
     check_programs(check, six)

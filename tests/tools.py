@@ -26,6 +26,7 @@ KNEE, NAB = "knee -> 6E 69 by rules 1 6 4, 10 steps\n", "nab -> refused 3 at 2: 
 KNEE_CONTESTED = (KNEE.replace("steps", "steps, 2 contested") + "  * 1 k   applied 1: # [k] n = | over 2: [k] = 6B\n"
                   "    2 n   applied 6: [n] = 6E\n  * 3 ee  applied 4: [ee] = 69 | over 5: [e] = 65\n")
 UNSOUND = "a line is missing, not ended, or not sound"
+IN_USE = "refused 20 at 0: the class is undefined, in use, of a symbol outside 40 to 5F, or of other letters than 1 to 32 from 01 to 3E, ascending\n"
 SPACE_IN_RULE = "the space bar, 3F, separates words and stands in no rule; # is a word's boundary"
 PROVING = "Proving and building `say` from its sources. This is done once and takes some minutes.\n"
 
@@ -43,6 +44,9 @@ def fake_monitor(other, count):
 
 
 SIX = example("six.hex")
+CLASSES = "class 5F Nasal nm\nclass 40 vowel a e\n#<nasal> [k] <VOWEL> = 61\n[k] \\40 = 62\n[k] = 63\n[a] = 64\n[n] = 65\n"
+CLASSES_HEX = "010100050005F4\n0740020105B1\n075F020D0E7D\n02000102010101005F0B4061ED\n020002000101010B40624C\n020003000100010B638B\n" \
+              "02000400010001016493\n020005000100010E6584\n"
 FILES = {       # in the folder that the tools are called in
     "six.hex": SIX,
     "rules.hex": SIX,
@@ -58,6 +62,7 @@ FILES = {       # in the folder that the tools are called in
     "large.rules": "".join(f"[{a}{b}] = 61\n" for a in "abcdefghijklmnopqrs" for b in "abcdefghijklmnopqrstuvwxyz").encode(),
     "source.rules": b"[k] = 6B\n[e] = \xE7",
     "three.rules": "letter 1B ç\n# [çk] # = 61\n[ç] k = 62 63\n[ç] =\n[k] = 64\n".encode(),
+    "classes.rules": CLASSES.encode(),
     "beside.hex": SIX,
     "beside.rules": b"letter 1B \xE7\n",
     "latin.names": b"knee\r\nna\xE7\r\n",
@@ -187,6 +192,10 @@ def contested(tools):
                  "  * 1 o  applied 50: [o] ld = 4F | over 65: [o] = 6F\n    2 l  applied 62: [l] = 6C\n    3 d  applied 54: [d] = 64\n"
                  "    5 p  applied 66: [p] = 70\n  * 6 i  applied 13: [i] ne# = 49 | over 59: [i] = 69\n    7 n  applied 64: [n] = 6E\n"
                  "  * 8 e  applied 28: [e] # = | over 55: [e] = 65\n")
+    tools.expect(["speak.py", "--contested", "--rules", "classes.rules", "nka", "kk"], 0,
+                 "nka -> 65 61 64 by rules 5 1 4, 8 steps, 1 contested\n    1 n  applied 5: [n] = 65\n"
+                 "  * 2 k  applied 1: #<nasal> [k] <vowel> = 61 | over 2: [k] <vowel> = 62 | 3: [k] = 63\n    3 a  applied 4: [a] = 64\n"
+                 "kk -> 63 63 by rules 3 3, 6 steps, 0 contested\n    1 k  applied 3: [k] = 63\n    2 k  applied 3: [k] = 63\n")
     tools.expect(["speak.py", "--contested", "--rules", "three.rules", "çk"], 0,
                  "çk -> 61 by rule 1, 6 steps, 1 contested\n"
                  "  * 1 çk  applied 1: # [çk] # = 61 | over 2: [ç] k = 62 63 | 3: [ç] =\n")
@@ -210,7 +219,7 @@ def contested(tools):
 
 def rule_texts(tools):
     """Every rule of the examples, printed and typed again, is the same rule."""
-    for name in ("six", "basque", "silent_e"):
+    for name in ("six", "basque", "basque_classes", "silent_e"):
         alphabet, rules = ruletext.read_rules(example(name + ".rules").decode(), name)
         tools.compare(name, [ruletext.rule_of(ruletext.rule_text(rule, alphabet), alphabet) for rule in rules], rules)
 
@@ -218,6 +227,12 @@ def rule_texts(tools):
 def readable_rules(tools):
     tools.expect(["rules2hex.py", "six.rules"], 0, SIX.decode())
     tools.expect(["rules2hex.py", "-"], 0, SIX.decode(), given=FILES["six.rules"].replace(b"\n", b"\r\n"))
+    tools.expect(["rules2hex.py", "classes.rules"], 0, CLASSES_HEX)
+    # Four literal rules of the first, those with m before those with n; two of the second.
+    status, out, _ = tools.run(["rules2hex.py", "--written-out", "classes.rules"])
+    symbols = [line[14:24] for line in out.splitlines()[1:5]]
+    tools.compare("written out", (status, len(out.splitlines()), symbols), (0, 1 + 9, ["000D0B0161", "000D0B0561", "000E0B0161", "000E0B0561"]))
+    tools.expect(["rules2hex.py", "--written-out", "six.rules"], 0, SIX.decode())
     tools.expect(["rules2hex.py", "source.rules"], 2, err="rules2hex: source.rules: line 2, column 7: byte E7 is not UTF-8\n")
     tools.expect(["rules2hex.py", "missing"], 2, err="rules2hex: missing: No such file or directory\n")
     for text, place, fault in [
@@ -233,7 +248,25 @@ def readable_rules(tools):
             ("e [kkkkk] = 6B", "line 1, column 4", "at most 4 in the target, not 5"),
             ("e [] = 6B", "line 1, column 4", "the target is empty"),
             ("[k]  #e = 6B", "line 1, column 6", "# may stand only first in a left context or last in a right one"),
-            ("[k] \\40 = 6B", "line 1, column 5", "letters are 01 to 3E"),
+            ("[k] \\60 = 6B", "line 1, column 5", "letters are 01 to 3E, classes 40 to 5F"),
+            ("[k] \\40 = 6B", "line 1, column 5", "no class \\40 is defined above"),
+            ("[k] e <Front> = 6B", "line 1, column 7", "no class <front> is defined above"),
+            ("[k] < = 6B", "line 1, column 5", "no letter for '<'"),
+            ("class 40 v a\n[<v>] = 6B", "line 2, column 2", "a class stands in contexts, never in a target"),
+            ("class 40 v a\n[k] <v>#e = 6B", "line 2, column 5", "# may stand only first in a left context or last in a right one"),
+            ("class 40 v", "line 1, column 1", "write class, its symbol, its name, its letters"),
+            ("class 60 v a", "line 1, column 7", "'60' is no byte from 40 to 5F"),
+            ("class 3F v a", "line 1, column 7", "'3F' is no byte from 40 to 5F"),
+            ("class 40 v a\nclass 40 w a", "line 2, column 7", "class 40 is defined above"),
+            ("class 40 v a\nclass 41 V a", "line 2, column 10", "class <v> is defined above"),
+            ("class 40 <v> a", "line 1, column 10", "'<v>' is no name of a class: < and > stand around it in rules"),
+            ("class 40 v a #", "line 1, column 14", "a class has letters alone"),
+            ("class 40 v a _", "line 1, column 14", "a class has letters alone"),
+            ("class 40 v a\nclass 41 w b<v>", "line 2, column 12", "a class has letters alone"),
+            ("class 40 v aea", "line 1, column 12", "a stands twice in the class"),
+            ("class 40 v " + "".join(f"\\{letter:02X}" for letter in range(1, 34)), "line 1, column 12", "at most 32 letters in a class, not 33"),
+            ("class 40 v " + "".join(f"\\{letter:02X}" for letter in range(1, 33)) + "\n" + "<v>[k] = 6B\n" * 17, "line 18, column 1",
+             "at most 512 rules, classes written out: with this one there are 544"),
             ("[k] = 6B\n[e] _k = 6B", "line 2, column 5", SPACE_IN_RULE),
             ("_ [k] = 6B", "line 1, column 1", SPACE_IN_RULE),
             ("[k\\3F] = 6B", "line 1, column 2", SPACE_IN_RULE),
@@ -242,7 +275,7 @@ def readable_rules(tools):
             ("letter 3F x", "line 1, column 8", "'3F' is no byte from 01 to 3E"),
             ("letter 1B xy", "line 1, column 11", "a letter is one character, not 'xy'"),
             ("phone 69", "line 1, column 1", "write phone, a byte, its text"),
-            ("[k] = 6B\n" * 513, "line 513, column 1", "at most 512 rules")]:
+            ("[k] = 6B\n" * 513, "line 513, column 1", "at most 512 rules, classes written out: with this one there are 513")]:
         tools.expect(["rules2hex.py", "-"], 2, err=f"rules2hex: standard input: {place}: {fault}\n", given=text.encode())
 
 
@@ -263,7 +296,8 @@ def monitor(tools):
             ("remove knee", "210B0E0505BC"), ("remove", "21DF"), ("exceptions", "22FFFFFFFFE2"), ("readout bytes=11", "220000000BD3"),
             ("show readout 2 255", "2300000002FFDC"), ("clear list", "24DC"), ("lend 35885", "2500008C2D22"), ("lend all", "25FFFFFFFFDF"),
             ("store unit 1 0xFF", "2600000001000000FFDA"), ("contested", "27D9"), ("repeat 2 remove @", "210101DD\n210102DC"),
-            ("repeat 1 exception @@ = @61", "20040101010101016175")]:
+            ("repeat 1 exception @@ = @61", "20040101010101016175"), ("class \\40 a e", "2840010592"), ("class \\40", "284098"),
+            ("class k ba", "280B0201CA"), ("add 0 \\40 [k] = 61", "10000001010001400B6141")]:
         tools.expect(["monitor.py", "--frames"], 0, frames + "\n", given=text.encode())
     tools.expect(["monitor.py"], 0, "> exception k n = 61\ndone, names 1, states 4\n> exception \\1D = 6263\ndone, names 2, states 5\n"
                                     "> exceptions\nk n = 61\n\\1D = 62 63\n> plain k_n\n61 by no rules, 0 steps\n"
@@ -289,7 +323,18 @@ def monitor(tools):
     tools.expect(["monitor.py"], 0, "".join(f"> exception {line}\ndone, names {k}, states {2 + 2 * k}\n"
                                             for k, line in enumerate(names.splitlines(), 1)) + f"> exceptions\n{names}",
                  given="".join(f"exception {line}\n" for line in names.splitlines()).encode() + b"exceptions\n")
-    for text, fault in [("exception knee 61", "write exception NAME = PHONES"),
+    # The head of a file does not count the classes.
+    tools.expect(["monitor.py", "--rules", "classes.rules"], 0,
+                 "> read\ndone, last 5\n> class <vowel> a\n" + IN_USE + "> drop 1\ndone, last 5\n> drop 2\ndone, last 5\n> class <vowel> i\ndone, last 5\n"
+                 "> add 0 [e] <vowel> = 66\ndone, last 6\n> plain e\nrefused 3 at 1: no rule fits the letter at that position\n> plain ei\n"
+                 "refused 3 at 2: no rule fits the letter at that position\n> clear\ndone\n> write\n010100000000FE\n> class \\5F z\ndone, last 0\n"
+                 "> class \\40 b\ndone, last 0\n> write\n010100000000FE\n07400102B6\n075F011A7F\n> add 0 [k] \\40 = 61\ndone, last 1\n"
+                 "> write\n010100010001FC\n07400102B6\n075F011A7F\n020001000101010B40614E\n> contested\n0 contested\n",
+                 given=b"read\nclass <vowel> a\ndrop 1\ndrop 2\nclass <vowel> i\nadd 0 [e] <vowel> = 66\nplain e\nplain ei\nclear\nwrite\nclass \\5F z\n"
+                       b"class \\40 b\nwrite\nadd 0 [k] \\40 = 61\nwrite\ncontested\n")
+    for text, fault in [("class \\40\\41 a", "write class, its symbol, its letters"), ("class", "class has other fields: see help"),
+                        ("set_class \\40 a", "unknown command set_class: see help"), ("add 0 [k] <v> = 61", "no class <v> is defined above"),
+                        ("exception knee 61", "write exception NAME = PHONES"),
                         ("exception k = 6", "'6' is not bytes in hexadecimal, two digits each"),
                         (f"exception {'k' * 256} = 61", "a length has one byte"), ("clear all", "clear or clear list"),
                         ("lend some", "'some' is no number"), ("lend 4294967296", "4294967296 does not fit into 4 bytes"),

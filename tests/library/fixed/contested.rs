@@ -98,7 +98,7 @@ fn far_apart(tally: &mut Tally, random: &mut Random) {
     let rules = targets.into_iter().zip(1..).map(|(target, number)| {
         (number, Rule::new([&[], &[target], &[], &[target]]).expect("the parts are short enough"))
     });
-    let set = Ruleset { last: 512, rules: rules.collect() };
+    let set = Ruleset { last: 512, rules: rules.collect(), ..Ruleset::default() };
     // The right strings are the empty one and nine letters.
     let loaded = Loaded::new(tally, &file::write(&set), 2 + 64 * 11, 8 * 11, random);
     for ((first, _), letter) in pairs.into_iter().zip(1..) {
@@ -112,7 +112,8 @@ fn far_apart(tally: &mut Tally, random: &mut Random) {
 /// 512 rules fit each of 64 letters; with a phone or a number too few lent there is no count.
 fn most(tally: &mut Tally, random: &mut Random) {
     let rule = Rule::new([&[], &[5], &[], &[0x65]]).expect("the parts are short enough");
-    let set = Ruleset { last: 512, rules: (1..=512).map(|number| (number, rule)).collect() };
+    let rules = (1..=512).map(|number| (number, rule)).collect();
+    let set = Ruleset { last: 512, rules, ..Ruleset::default() };
     let loaded = Loaded::new(tally, &file::write(&set), 2 + 64 * 3, 8 * 3, random);
     let said = loaded.speak(tally, &[5; 64], 64, 64, random);
     tally.equal("64 letters", said, Spoken::said(&[0x65; 64], &[1; 64], 130, 64));

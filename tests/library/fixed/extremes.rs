@@ -4,8 +4,9 @@
 use super::{Loaded, Spoken};
 use crate::lent::{self, Compiled, Lent, Room};
 use crate::random::Random;
+use crate::reference::classes::SYMBOLS;
 use crate::reference::file;
-use crate::reference::image::{last, put, HEAD, IMAGE, SLOT};
+use crate::reference::image::{last, put, IMAGE, SLOT};
 use crate::reference::rule::Rule;
 use crate::reference::ruleset::Ruleset;
 use crate::reference::tables::{sets_needed, words_needed};
@@ -29,9 +30,12 @@ fn greatest(tally: &mut Tally, random: &mut Random) {
         let rule = Rule::new([&left, &[5, 6, 7, 0x3E], &right, &[255; 4]]);
         (65_535 - k, rule.expect("the parts are short enough"))
     });
-    let set = Ruleset { last: 65_535, rules: rules.collect() };
+    let mut set = Ruleset { last: 65_535, rules: rules.collect(), ..Ruleset::default() };
+    for (symbol, first) in SYMBOLS.zip((1..=31).cycle()) {
+        set.classes.set(symbol, &(first..first + 32).collect::<Vec<u8>>());
+    }
     let text = file::write(&set);
-    tally.equal("the longest file", text.len(), 29_199);
+    tally.equal("the longest file", text.len(), 31_535);
 
     let (left, right) = (1 + 63 + 512 * 5, 1 + 63 + 512 * 9);
     let (words, sets) = (words_needed(left, right), sets_needed(left, right));
@@ -41,7 +45,7 @@ fn greatest(tally: &mut Tally, random: &mut Random) {
     Loaded::new(tally, &text, words, sets - 1, random);
     // As much as the header says to lend at most.
     Loaded::new(tally, &text, 524_418, 65_552, random);
-    for room in [29_198, 29_199, 29_200] {
+    for room in [31_534, 31_535, 31_536] {
         lent::write_file(tally, &loaded.image, &mut Lent::any(room, random));
     }
     let mut longer = text.clone();
@@ -53,12 +57,12 @@ fn greatest(tally: &mut Tally, random: &mut Random) {
 fn too_many(tally: &mut Tally, random: &mut Random) {
     let rule = Rule::new([&[], &[5], &[], &[]]).expect("the parts are short enough");
     for count in [512, 513, 600] {
-        let set = Ruleset { last: count, rules: (1..=count).map(|number| (number, rule)).collect() };
-        let mut image = random.bytes(HEAD + SLOT * 600);
-        put(&set, &mut image);
+        let rules = (1..=count).map(|number| (number, rule)).collect();
+        let mut image = random.bytes(IMAGE + SLOT * 600);
+        put(&Ruleset { last: count, rules, ..Ruleset::default() }, &mut image);
         let mut image = Lent::new(&image, random);
         lent::check(tally, &image);
-        lent::write_file(tally, &image, &mut Lent::any(29_199, random));
+        lent::write_file(tally, &image, &mut Lent::any(31_535, random));
         lent::shift(tally, &mut image, count, 0);
         lent::drop(tally, &mut image, count);
     }
@@ -70,7 +74,7 @@ fn every_place(tally: &mut Tally, random: &mut Random) {
     let rules = targets.iter().zip(1..).map(|(target, number)| {
         (number, Rule::new([&[], target, &[], &[target[1]]]).expect("the parts are short enough"))
     });
-    let set = Ruleset { last: 512, rules: rules.collect() };
+    let set = Ruleset { last: 512, rules: rules.collect(), ..Ruleset::default() };
     // The right strings are the empty one, 32 second letters, and 512 targets reversed.
     let (words, sets) = (words_needed(1, 545), sets_needed(1, 545));
     let loaded = Loaded::new(tally, &file::write(&set), words, sets, random);

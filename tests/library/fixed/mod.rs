@@ -1,5 +1,6 @@
 //! Cases that stand in documents 01 and 02 or at the bounds they name.
 
+mod classes;
 mod contested;
 mod extremes;
 mod lists;
@@ -20,7 +21,7 @@ type Case = fn(&mut Tally, &mut Random);
 
 pub fn fixed(tally: &mut Tally) {
     let random = &mut Random::new(1);
-    let cases: [(&str, Case); 8] = [
+    let cases: [(&str, Case); 9] = [
         ("the paper's marks", paper::paper),
         ("the paper's refusals", refusals::refusals),
         ("the paper's ways to be wrong", wrong::wrong),
@@ -28,6 +29,7 @@ pub fn fixed(tally: &mut Tally) {
         ("exceptions lists", lists::lists),
         ("names of several words", words::words),
         ("contested letters", contested::contested),
+        ("letter classes", classes::classes),
         ("threads", threads::threads),
     ];
     for (subject, case) in cases {

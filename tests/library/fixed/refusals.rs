@@ -32,6 +32,7 @@ fn short(tally: &mut Tally, random: &mut Random) {
         lent::add(tally, &mut image, &rule, 9);
         lent::drop(tally, &mut image, 9);
         lent::shift(tally, &mut image, 9, 9);
+        lent::set_class(tally, &mut image, 0x40, &name);
         for text in [&good, &bad] {
             lent::read_file(tally, text, &mut image);
         }
@@ -89,7 +90,8 @@ fn edits(tally: &mut Tally, random: &mut Random) {
     lent::drop(tally, &mut empty, 0);
     lent::shift(tally, &mut empty, 1, 5);
 
-    let full = Ruleset { last: 65_535, rules: (1..=512).map(|number| (number, rule(&[5]))).collect() };
+    let rules = (1..=512).map(|number| (number, rule(&[5]))).collect();
+    let full = Ruleset { last: 65_535, rules, ..Ruleset::default() };
     let mut few = full.clone();
     few.rules.truncate(6);
     for set in [full, few] {
@@ -105,7 +107,7 @@ fn edits(tally: &mut Tally, random: &mut Random) {
         lent::shift(tally, &mut image, 513, usize::MAX);
     }
     // Number 7, `last` 6.
-    let none = Ruleset { last: 6, rules: vec![(7, rule(&[5]))] };
+    let none = Ruleset { last: 6, rules: vec![(7, rule(&[5]))], ..Ruleset::default() };
     let mut image = Lent::new(&bytes(&none), random);
     lent::check(tally, &image);
     lent::add(tally, &mut image, &bad, 9);

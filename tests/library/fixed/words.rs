@@ -189,7 +189,7 @@ fn rules(tally: &mut Tally, random: &mut Random) {
         let rule = Rule::new(parts).expect("the parts are short enough");
         lent::add(tally, &mut image, &Lent::new(&rule.0, random), 0);
         lent::add(tally, &mut image, &Lent::new(&rule.0, random), 9);
-        let set = Ruleset { last: 1, rules: vec![(1, rule)] };
+        let set = Ruleset { last: 1, rules: vec![(1, rule)], ..Ruleset::default() };
         let text = file::write(&set);
         tally.equal("the reference's reading", file::read(&text).map(|_| ()), refuse(14, 15));
         lent::read_file(tally, &Lent::new(&text, random), &mut image);

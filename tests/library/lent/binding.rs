@@ -15,6 +15,14 @@ extern "C" {
     ) -> u8;
     pub fn pirrozketa_drop(image: *mut u8, image_len: usize, number: u16, place: *mut usize) -> u8;
     pub fn pirrozketa_move(image: *mut u8, image_len: usize, number: u16, p: usize, place: *mut usize) -> u8;
+    pub fn pirrozketa_set_class(
+        image: *mut u8,
+        image_len: usize,
+        symbol: u8,
+        letters: *const u8,
+        letters_len: usize,
+        place: *mut usize,
+    ) -> u8;
     pub fn pirrozketa_read_file(
         file: *const u8,
         file_len: usize,

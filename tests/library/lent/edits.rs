@@ -1,4 +1,4 @@
-//! Clear, check, count and last, and the three edits.
+//! Clear, check, count and last, and the four edits.
 
 use super::binding::*;
 use super::memory::Lent;
@@ -11,7 +11,7 @@ pub fn clear(tally: &mut Tally, image: &mut Lent<u8>) {
     let code = unsafe { pirrozketa_clear(image.pointer_mut(), image.len()) };
     let long_enough = image.len() >= layout::IMAGE;
     if long_enough {
-        image.want(&[0, 0, 0, 0]);
+        want(image, &Ruleset::default());
     }
     tally.answer("clear", code, code, if long_enough { ACCEPTED } else { 0 });
     image.check(tally, "clear's image");
@@ -33,7 +33,8 @@ pub fn check(tally: &mut Tally, image: &Lent<u8>) {
     image.check(tally, "check's image");
 }
 
-pub fn add(tally: &mut Tally, image: &mut Lent<u8>, rule: &Lent<u8>, p: usize) {
+/// Gives the library's code, as `set_class` does.
+pub fn add(tally: &mut Tally, image: &mut Lent<u8>, rule: &Lent<u8>, p: usize) -> u8 {
     let wanted = edited(image, |set| set.add(rule.contents(), p));
     let mut place = UNWRITTEN;
     let code = unsafe {
@@ -42,6 +43,7 @@ pub fn add(tally: &mut Tally, image: &mut Lent<u8>, rule: &Lent<u8>, p: usize) {
     tally.answer("add", code, (code, place), code_and_place(&wanted));
     image.check(tally, "add's image");
     rule.check(tally, "add's rule");
+    code
 }
 
 pub fn drop(tally: &mut Tally, image: &mut Lent<u8>, number: u16) {
@@ -61,14 +63,32 @@ pub fn shift(tally: &mut Tally, image: &mut Lent<u8>, number: u16, p: usize) {
     image.check(tally, "move's image");
 }
 
+pub fn set_class(tally: &mut Tally, image: &mut Lent<u8>, symbol: u8, letters: &Lent<u8>) -> u8 {
+    let wanted = edited(image, |set| set.set_class(symbol, letters.contents()));
+    let mut place = UNWRITTEN;
+    let code = unsafe {
+        let (letters, length) = (letters.pointer(), letters.len());
+        pirrozketa_set_class(image.pointer_mut(), image.len(), symbol, letters, length, &mut place)
+    };
+    tally.answer("set_class", code, (code, place), code_and_place(&wanted));
+    image.check(tally, "set_class's image");
+    letters.check(tally, "set_class's letters");
+    code
+}
+
 /// The reference's answer to an edit; the image is from then on wanted as the edit leaves it.
 fn edited(image: &mut Lent<u8>, edit: impl FnOnce(&mut Ruleset) -> Answer<()>) -> Answer<usize> {
     let Some(mut set) = layout::decode(image.contents()) else {
         return refuse(0, 0);
     };
     edit(&mut set)?;
-    let mut after = image.contents().to_vec();
-    layout::put(&set, &mut after);
-    image.want(&after);
+    want(image, &set);
     Ok(0)
+}
+
+/// From now on the image must hold this ruleset; what lies past it must keep its contents.
+pub fn want(image: &mut Lent<u8>, set: &Ruleset) {
+    let mut after = image.contents().to_vec();
+    layout::put(set, &mut after);
+    image.want(&after);
 }

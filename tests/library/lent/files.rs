@@ -1,6 +1,7 @@
 //! The rule file read and written.
 
 use super::binding::*;
+use super::edits::want;
 use super::memory::Lent;
 use super::{code_and_place, UNWRITTEN};
 use crate::reference::{file as text, image as layout, refuse, Answer};
@@ -34,10 +35,7 @@ fn taken(file: &Lent<u8>, image: &mut Lent<u8>) -> Answer<usize> {
     if image.len() < layout::IMAGE {
         return refuse(0, 0);
     }
-    let set = text::read(file.contents())?;
-    let mut after = image.contents().to_vec();
-    layout::put(&set, &mut after);
-    image.want(&after);
+    want(image, &text::read(file.contents())?);
     Ok(0)
 }
 

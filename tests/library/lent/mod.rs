@@ -9,7 +9,7 @@ mod memory;
 mod names;
 mod tables;
 
-pub use edits::{add, check, clear, drop, shift};
+pub use edits::{add, check, clear, drop, set_class, shift};
 pub use files::{read_file, write_file};
 pub use lists::List;
 pub use memory::Lent;
@@ -30,12 +30,13 @@ fn code_and_place(answer: &Answer<usize>) -> (u8, usize) {
 }
 
 /// The codes that the header names with each call, in rising order.
-pub const NAMED: [(&str, &[u8]); 16] = [
+pub const NAMED: [(&str, &[u8]); 17] = [
     ("clear", &[0, 255]),
     ("check", &[0, 255]),
-    ("add", &[0, 6, 7, 9, 10, 255]),
+    ("add", &[0, 6, 7, 10, 20, 21, 255]),
     ("drop", &[0, 8, 255]),
     ("move", &[0, 7, 8, 255]),
+    ("set_class", &[0, 20, 255]),
     ("read_file", &[0, 13, 14, 255]),
     ("write_file", &[0, 15, 255]),
     ("build", &[0, 11, 12, 255]),

@@ -5,9 +5,10 @@ use crate::reference::file::{frame, line};
 
 /// Damaged in one way; it may still be a rule file, for the reference judges it.
 pub fn damaged(file: &[u8], random: &mut Random) -> Vec<u8> {
-    match random.below(3) {
+    match random.below(4) {
         0 => damaged_text(file.to_vec(), random),
         1 => damaged_lines(file, random),
+        2 => damaged_classes(file, random),
         _ => damaged_frame(file, random),
     }
 }
@@ -77,7 +78,7 @@ fn damaged_frame(file: &[u8], random: &mut Random) -> Vec<u8> {
             3 => bytes.push(random.byte()),
             4 => drop(bytes.pop()),
             5 => bytes.insert(place, random.within(1, 0x3F) as u8),
-            6 => bytes[0] = random.below(5) as u8,
+            6 => bytes[0] = random.pick(&[0, 1, 2, 3, 4, 7]),
             7 => bytes.truncate(place.max(1)),
             8 => {
                 let more = random.within(1, 700);
@@ -91,6 +92,41 @@ fn damaged_frame(file: &[u8], random: &mut Random) -> Vec<u8> {
             }
         }
     });
+    lines.concat()
+}
+
+/// Class lines put in, at other places, twice or gone, or with other fields, their sums made good; some bring the
+/// literal rules beyond 512.
+fn damaged_classes(file: &[u8], random: &mut Random) -> Vec<u8> {
+    let mut lines = lines(file);
+    let is_class = |text: &Vec<u8>| frame(&text[..text.len() - 1]).is_some_and(|bytes| bytes[0] == 7);
+    let classes: Vec<usize> = (0..lines.len()).filter(|k| is_class(&lines[*k])).collect();
+    let other = random.below(lines.len() + 1);
+    if classes.is_empty() || random.one_in(4) {
+        let letters = random.pick(&[&[][..], &[0], &[1], &[1, 1], &[2, 1], &[0x3E], &[0x3F], &[1, 2]]);
+        let symbol = random.pick(&[0x3F, 0x40, 0x41, 0x5F, 0x60]);
+        let fields = [&[7, symbol, letters.len() as u8], letters].concat();
+        let cut = random.pick(&[1, 2, 3, fields.len(), fields.len(), fields.len()]).min(fields.len());
+        lines.insert(random.pick(&[1.min(lines.len()), other]), line(&fields[..cut]));
+        return lines.concat();
+    }
+    let at = random.pick(&classes);
+    match random.below(6) {
+        0 => drop(lines.remove(at)),
+        1 => lines.insert(other, lines[at].clone()),
+        2 => lines.swap(at, random.pick(&classes)),
+        3 => {
+            let moved = lines.remove(at);
+            lines.insert(other.min(lines.len()), moved);
+        }
+        4 => lines[at] = line(&[&[7, 0x40 + (at as u8 - 1), 32], &(1..33).collect::<Vec<u8>>()[..]].concat()),
+        _ => {
+            lines[at] = reframed(&lines[at], |bytes| {
+                let place = random.within(1, bytes.len() - 1);
+                bytes[place] = random.pick(&[0, 1, 2, 32, 33, 0x3E, 0x3F, 0x40, 0x41, 0x5F, 0x60, 255]);
+            })
+        }
+    }
     lines.concat()
 }
 

@@ -2,6 +2,7 @@
 //! memory.
 
 use crate::random::Random;
+use crate::reference::classes::is_class;
 use crate::reference::rule::SPACE;
 use crate::reference::ruleset::Ruleset;
 
@@ -20,9 +21,17 @@ pub fn name(set: &Ruleset, letters: &[u8], random: &mut Random) -> Vec<u8> {
         // Pieces of the rules make their long contexts come true; a boundary is a space inside a name.
         if !set.rules.is_empty() && random.one_in(2) {
             let (_, rule) = random.pick(&set.rules);
-            let pieces = [rule.left(), rule.target(), rule.right()].concat();
-            let symbols = pieces.into_iter().map(|symbol| if symbol == 0 { SPACE } else { symbol });
-            name.extend(symbols.filter(|symbol| several || *symbol != SPACE));
+            for symbol in [rule.left(), rule.target(), rule.right()].concat() {
+                match symbol {
+                    0 if several => name.push(SPACE),
+                    0 => {}
+                    // A letter of the class, if it is defined.
+                    _ if is_class(symbol) => {
+                        name.push(random.pick_one(&[set.classes.letters(symbol), letters].concat()).to_owned())
+                    }
+                    _ => name.push(symbol),
+                }
+            }
         } else {
             name.push(random.pick(letters));
         }

@@ -1,6 +1,8 @@
 //! Random rules and rulesets. Few letters, so that patterns overlap, repeat and share their prefixes.
 
+use super::classes::{classed, some_classes, with_classes};
 use crate::random::Random;
+use crate::reference::classes::Classes;
 use crate::reference::rule::{Rule, SPACE};
 use crate::reference::ruleset::{Ruleset, MOST_RULES};
 use std::collections::HashSet;
@@ -72,7 +74,7 @@ fn with_filler(rule: Rule, random: &mut Random) -> Rule {
     Rule(bytes)
 }
 
-/// Rulesets of no rules, one, few, and in one of `seldom` cases hundreds or all 512.
+/// Rulesets of no rules, one, few, and in one of `seldom` cases hundreds or all 512; half of them with classes.
 pub fn ruleset(letters: &[u8], seldom: usize, random: &mut Random) -> Ruleset {
     let count = match random.below(10) {
         _ if random.one_in(seldom) => random.pick(&[100, 300, MOST_RULES - 1, MOST_RULES]),
@@ -86,6 +88,13 @@ pub fn ruleset(letters: &[u8], seldom: usize, random: &mut Random) -> Ruleset {
         let rule = rule(letters, &rules, random);
         rules.push((0, rule));
     }
+    let mut classes = Classes::default();
+    if random.one_in(2) {
+        classes = some_classes(letters, random);
+        let most = if random.one_in(seldom) { MOST_RULES } else { count.max(60) };
+        classed(&mut rules, most, &classes, random);
+    }
+    let count = rules.len();
     // A rule for each letter at the end makes most names readable.
     if letters.len() <= count && !random.one_in(4) {
         for (letter, (_, rule)) in letters.iter().zip(rules.iter_mut().rev()) {
@@ -97,7 +106,7 @@ pub fn ruleset(letters: &[u8], seldom: usize, random: &mut Random) -> Ruleset {
     for (slot, number) in rules.iter_mut().zip(numbers) {
         slot.0 = number;
     }
-    Ruleset { last, rules }
+    Ruleset { last, rules, classes }
 }
 
 /// Numbers that differ and lie from 1 to `last`, with `last` at and near its bounds too.
@@ -120,16 +129,28 @@ fn numbers(count: usize, random: &mut Random) -> (Vec<u16>, u16) {
     (numbers, last as u16)
 }
 
-/// 24 bytes, often of broken shape, by 3F in one of its symbols too; sometimes not 24.
-pub fn any_rule(letters: &[u8], earlier: &[(u16, Rule)], random: &mut Random) -> Vec<u8> {
-    let mut bytes = rule(letters, earlier, random).0.to_vec();
-    match random.below(12) {
+/// 24 bytes for this ruleset, half of them with its classes; often of broken shape, by 3F in one of its symbols too,
+/// or with a class that is undefined; sometimes not 24.
+pub fn any_rule(letters: &[u8], set: &Ruleset, random: &mut Random) -> Vec<u8> {
+    let mut rule = rule(letters, &set.rules, random);
+    if random.one_in(2) {
+        rule = with_classes(rule, &set.classes, random);
+    }
+    let mut bytes = rule.0.to_vec();
+    match random.below(14) {
         0 => bytes = random.bytes(24),
         1 => bytes.truncate(random.below(24)),
         2 => bytes.push(random.byte()),
         3 => bytes[random.below(4)] = random.pick(&[0, 1, 4, 5, 6, 7, 255]),
-        4 => bytes[random.within(4, 23)] = random.pick(&[0x00, SPACE, 0x40, 0xFF]),
+        4 => bytes[random.within(4, 23)] = random.pick(&[0x00, SPACE, 0x40, 0x5F, 0x60, 0xFF]),
         5 => bytes[random.pick(&[4, 10, 14])] = SPACE,
+        // As many classes as contexts have room for: mostly too many literal rules.
+        6 => {
+            bytes[..4].copy_from_slice(&[6, 1, 6, 0]);
+            bytes[4..10].fill(random.within(0x40, 0x5F) as u8);
+            bytes[14..20].fill(random.pick(&[0x40, 0x5F]));
+        }
+        7 => bytes[random.pick(&[4, 14])] = random.within(0x40, 0x5F) as u8,
         _ => {}
     }
     bytes

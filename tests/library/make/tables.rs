@@ -56,7 +56,7 @@ pub fn random(set: &Ruleset, random: &mut Random) -> Words {
         let above = if wild && random.one_in(3) { 1 } else { 0 };
         words.extend((0..64).map(|_| random.below(states + above) as u16));
     }
-    let places = set.rules.len() + if wild { 1 } else { 0 };
+    let places = set.literal_total() + if wild { 1 } else { 0 };
     let mut sets = vec![0; sets_needed(left, right)];
     for state in sets.chunks_mut(8) {
         for _ in 0..random.below(40) {

@@ -1,6 +1,6 @@
 //! Ways to make the reference wrong on purpose, to see that the trials notice: the paper's "Ways to be
-//! wrong that pass a short trial", two more, and ways to mistake the exceptions list, names of several words
-//! and contested letters.
+//! wrong that pass a short trial", two more, and ways to mistake the exceptions list, names of several words,
+//! contested letters and letter classes.
 
 use std::sync::OnceLock;
 
@@ -66,9 +66,29 @@ pub enum Break {
     ListedContested,
     /// The contested letters of the last word alone are counted.
     LastWord,
+    /// The rightmost symbol of a literal rule varies slowest.
+    RightSlowest,
+    /// The letters of a class descend in the literal rules.
+    Descending,
+    /// A class may stand in a target.
+    ClassInTarget,
+    /// A class may be set while a rule uses it.
+    SetInUse,
+    /// A rule may use a class that is undefined.
+    Undefined,
+    /// The limit of 512 counts numbered rules.
+    NumberedLimit,
+    /// The literal place is used as the place of the list.
+    ListPlace,
+    /// The classes of a file may stand in any order.
+    AnyOrder,
+    /// The masks of a ruleset handed in may have bits of no letter.
+    AnyMask,
+    /// The literal total and table of a ruleset handed in are not judged.
+    AnyTable,
 }
 
-pub const BREAKS: [(&str, Break); 30] = [
+pub const BREAKS: [(&str, Break); 40] = [
     ("early", Break::Early),
     ("longest", Break::Longest),
     ("inside", Break::Inside),
@@ -99,6 +119,16 @@ pub const BREAKS: [(&str, Break); 30] = [
     ("within-list", Break::WithinList),
     ("listed-contested", Break::ListedContested),
     ("last-word", Break::LastWord),
+    ("right-slowest", Break::RightSlowest),
+    ("descending", Break::Descending),
+    ("class-in-target", Break::ClassInTarget),
+    ("set-in-use", Break::SetInUse),
+    ("undefined", Break::Undefined),
+    ("numbered-limit", Break::NumberedLimit),
+    ("list-place", Break::ListPlace),
+    ("any-order", Break::AnyOrder),
+    ("any-mask", Break::AnyMask),
+    ("any-table", Break::AnyTable),
 ];
 
 static CHOSEN: OnceLock<Break> = OnceLock::new();

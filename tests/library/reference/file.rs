@@ -1,6 +1,7 @@
 //! The rule file: frames of upper-case hexadecimal, one a line.
 
 use super::broken::{broken, Break};
+use super::classes::{sound_class, Classes};
 use super::rule::Rule;
 use super::ruleset::{Ruleset, MOST_RULES};
 use super::{refuse, Answer};
@@ -40,6 +41,9 @@ fn digit(symbol: u8) -> Option<u8> {
 pub fn write(set: &Ruleset) -> Vec<u8> {
     let (count, last) = ((set.rules.len() as u16).to_be_bytes(), set.last.to_be_bytes());
     let mut file = line(&[1, 1, count[0], count[1], last[0], last[1]]);
+    for (symbol, letters) in set.classes.defined() {
+        file.extend(line(&[&[7, symbol, letters.len() as u8], letters].concat()));
+    }
     for (number, rule) in &set.rules {
         let mut bytes = vec![2];
         bytes.extend(number.to_be_bytes());
@@ -62,23 +66,52 @@ pub fn read(file: &[u8]) -> Answer<Ruleset> {
     if count > MOST_RULES {
         return refuse(14, 0);
     }
-    let mut set = Ruleset { last: u16::from_be_bytes([last_high, last_low]), rules: Vec::new() };
+    let classes = classes(file, &mut at)?;
+    let mut set = Ruleset { last: u16::from_be_bytes([last_high, last_low]), rules: Vec::new(), classes };
     for _ in 0..count {
         let (bytes, next) = sound_line(file, at)?;
         let Some((number, rule)) = rule_of(&bytes) else {
             return refuse(14, at);
         };
         let repeated = set.rules.iter().any(|(held, _)| *held == number);
-        if repeated || !(1..=set.last).contains(&number) || !rule.shaped() {
+        if repeated || !(1..=set.last).contains(&number) || !rule.shaped() || !set.classes.define(&rule) {
             return refuse(14, at);
         }
         set.rules.push((number, rule));
+        if set.literal_total() > MOST_RULES {
+            return refuse(14, at);
+        }
         at = next;
     }
     if at < file.len() {
         return refuse(14, at);
     }
     Ok(set)
+}
+
+/// "Each sound line of kind 07 between the head and the first other line is one." Leaves `at` where that
+/// other line starts.
+fn classes(file: &[u8], at: &mut usize) -> Answer<Classes> {
+    let mut classes = Classes::default();
+    let mut above = 0;
+    while let Ok((bytes, next)) = sound_line(file, *at) {
+        let [7, fields @ ..] = &bytes[..] else {
+            break;
+        };
+        match fields {
+            [symbol, count, letters @ ..]
+                if letters.len() == *count as usize
+                    && (*symbol > above || broken(Break::AnyOrder))
+                    && sound_class(*symbol, letters) =>
+            {
+                classes.set(*symbol, letters);
+                above = *symbol;
+            }
+            _ => return refuse(14, *at),
+        }
+        *at = next;
+    }
+    Ok(classes)
 }
 
 /// The frame of the line that starts here and where the next starts, or 13: also for a missing line,

@@ -4,6 +4,7 @@
 #![forbid(unsafe_code)]
 
 pub mod broken;
+pub mod classes;
 pub mod exceptions;
 pub mod file;
 pub mod image;

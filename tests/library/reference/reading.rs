@@ -187,5 +187,5 @@ pub fn fitting<'a>(
     frame: &'a [u8],
     i: usize,
 ) -> impl DoubleEndedIterator<Item = &'a (u16, Rule)> {
-    set.rules.iter().filter(move |(_, rule)| rule.fits(frame, i))
+    set.rules.iter().filter(move |(_, rule)| rule.fits(&set.classes, frame, i))
 }

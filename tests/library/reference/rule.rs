@@ -1,6 +1,7 @@
 //! A rule, its shape, and where it fits.
 
 use super::broken::{broken, Break};
+use super::classes::{is_class, Classes};
 
 /// The 24 bytes in which a rule is handed over: four lengths, then 6, 4, 6 and 4 bytes. They are held
 /// whole, because an edit carries the bytes past a part's length along.
@@ -52,23 +53,34 @@ impl Rule {
         self.part(3)
     }
 
-    /// "# may stand only first in a left context or last in a right one."
+    pub fn contexts_mut(&mut self) -> (&mut [u8], &mut [u8]) {
+        let (left, right) = (self.0[0] as usize, self.0[2] as usize);
+        let (before, after) = self.0.split_at_mut(STARTS[2]);
+        (&mut before[STARTS[0]..][..left], &mut after[..right])
+    }
+
+    /// "# may stand only first in a left context or last in a right one"; classes "may stand in contexts,
+    /// never in targets".
     pub fn shaped(&self) -> bool {
         if (0..4).any(|k| self.0[k] as usize > MOST[k]) || self.target().is_empty() {
             return false;
         }
         let left = self.left().iter().enumerate();
         let right = self.right().iter().rev().enumerate();
-        left.chain(right).all(|(at, &symbol)| is_letter(symbol) || (symbol == 0 && at == 0))
-            && self.target().iter().all(|&letter| is_letter(letter))
+        let in_context = |symbol| is_letter(symbol) || is_class(symbol);
+        let in_target = |symbol| is_letter(symbol) || broken(Break::ClassInTarget) && is_class(symbol);
+        left.chain(right).all(|(at, &symbol)| in_context(symbol) || (symbol == 0 && at == 0))
+            && self.target().iter().all(|&letter| in_target(letter))
             && self.phones().iter().all(|&phone| phone != 0)
     }
 
-    /// Whether it fits at position i of a framed word.
-    pub fn fits(&self, frame: &[u8], i: usize) -> bool {
-        frame[..i].ends_with(self.left())
-            && frame[i..].starts_with(self.target())
-            && frame[i + self.target().len()..].starts_with(self.right())
+    /// Whether it fits at position i of a framed word, by membership where its contexts have classes.
+    pub fn fits(&self, classes: &Classes, frame: &[u8], i: usize) -> bool {
+        let (before, after) = (self.left().len(), self.target().len() + self.right().len());
+        let symbols = [self.left(), self.target(), self.right()].concat();
+        i >= before
+            && i + after <= frame.len()
+            && symbols.iter().zip(&frame[i - before..]).all(|(&symbol, &letter)| classes.admits(symbol, letter))
     }
 
     /// "Right patterns are target and right context joined, then reversed."

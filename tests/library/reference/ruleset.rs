@@ -1,6 +1,8 @@
-//! The ledger: numbered rules in order and `last`, with its three edits.
+//! The ledger: numbered rules in order, `last` and the classes, with its four edits; and the literal rules that
+//! they mean together.
 
 use super::broken::{broken, Break};
+use super::classes::{sound_class, used, Classes};
 use super::rule::Rule;
 use super::{refuse, Answer};
 use std::collections::HashSet;
@@ -9,8 +11,10 @@ use std::collections::HashSet;
 pub struct Ruleset {
     pub last: u16,
     pub rules: Vec<(u16, Rule)>,
+    pub classes: Classes,
 }
 
+/// Literal rules, and so numbered ones.
 pub const MOST_RULES: usize = 512;
 
 impl Ruleset {
@@ -19,21 +23,61 @@ impl Ruleset {
         let mut seen = HashSet::new();
         self.rules.len() <= MOST_RULES
             && self.rules.iter().all(|(number, rule)| {
-                (1..=self.last).contains(number) && seen.insert(*number) && rule.shaped()
+                (1..=self.last).contains(number)
+                    && seen.insert(*number)
+                    && rule.shaped()
+                    && self.classes.define(rule)
             })
+            && self.classes.defined().all(|(symbol, letters)| sound_class(symbol, letters))
+            && self.literal_total() <= MOST_RULES
     }
 
-    /// Refusals 6, 7, 9, 10, in this order. The header counts other than 24 bytes as a broken shape.
+    /// How many literal rules there are; of classes in any number and of any size.
+    pub fn literal_total(&self) -> usize {
+        let counts = self.rules.iter().map(|(_, rule)| self.classes.literal_count(rule));
+        counts.fold(0, usize::saturating_add)
+    }
+
+    /// The literal rule at a place among all, with its rule's number. None past the last.
+    pub fn literal(&self, place: usize) -> Option<(u16, Rule)> {
+        if broken(Break::ListPlace) {
+            return self.rules.get(place).copied();
+        }
+        let mut which = place;
+        for (number, rule) in &self.rules {
+            let count = self.classes.literal_count(rule);
+            if which < count {
+                return Some((*number, self.classes.literal(rule, which)));
+            }
+            which -= count;
+        }
+        None
+    }
+
+    /// All of them, in the order of the numbered rules.
+    pub fn literals(&self) -> Vec<Rule> {
+        let of_rule = |(_, rule): &(u16, Rule)| -> Vec<Rule> {
+            (0..self.classes.literal_count(rule)).map(|which| self.classes.literal(rule, which)).collect()
+        };
+        self.rules.iter().flat_map(of_rule).collect()
+    }
+
+    /// Refusals 6, 20, 7, 21, 10, in this order. The header counts other than 24 bytes as a broken shape.
     pub fn add(&mut self, rule: &[u8], p: usize) -> Answer<()> {
         let shaped = rule.try_into().ok().map(Rule).filter(Rule::shaped);
         let Some(rule) = shaped else {
             return refuse(6, 0);
         };
+        if !self.classes.define(&rule) && !broken(Break::Undefined) {
+            return refuse(20, 0);
+        }
         if p > self.rules.len() {
             return refuse(7, 0);
         }
-        if self.rules.len() == MOST_RULES {
-            return refuse(9, 0);
+        if self.literal_total() + self.classes.literal_count(&rule) > MOST_RULES {
+            // What is wrong is the answer: so many literal rules would have no end.
+            let accepts = broken(Break::NumberedLimit) && self.rules.len() < MOST_RULES;
+            return if accepts { Ok(()) } else { refuse(21, 0) };
         }
         if self.last == 65_535 {
             return refuse(10, 0);
@@ -64,6 +108,16 @@ impl Ruleset {
         }
         let rule = self.rules.remove(at);
         self.rules.insert(p, rule);
+        Ok(())
+    }
+
+    /// Refusal 20, "again only while no held rule uses it".
+    pub fn set_class(&mut self, symbol: u8, letters: &[u8]) -> Answer<()> {
+        let in_use = self.rules.iter().any(|(_, rule)| used(rule).any(|other| other == symbol));
+        if !sound_class(symbol, letters) || in_use && !broken(Break::SetInUse) {
+            return refuse(20, 0);
+        }
+        self.classes.set(symbol, letters);
         Ok(())
     }
 

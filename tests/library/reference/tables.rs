@@ -1,4 +1,5 @@
-//! The two tables, straight from their definition: every entry looks for the longest suffix anew.
+//! The two tables, over the literal rules and straight from their definition: every entry looks for the longest
+//! suffix anew.
 
 use super::broken::{broken, Break};
 use super::ruleset::Ruleset;
@@ -21,8 +22,9 @@ pub fn sets_needed(left: usize, right: usize) -> usize {
 }
 
 pub fn build(set: &Ruleset) -> Tables {
-    let lefts = set.rules.iter().map(|(_, rule)| rule.left().to_vec());
-    let rights = set.rules.iter().map(|(_, rule)| rule.right_pattern());
+    let rules = set.literals();
+    let lefts = rules.iter().map(|rule| rule.left().to_vec());
+    let rights = rules.iter().map(|rule| rule.right_pattern());
     let (left, right) = (Side::new(lefts.collect()), Side::new(rights.collect()));
     let mut words = vec![left.strings.len() as u16, right.strings.len() as u16];
     let mut sets = Vec::new();

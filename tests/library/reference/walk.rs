@@ -133,16 +133,16 @@ impl Passed {
             };
             let contenders = match () {
                 _ if broken(Break::FittingShared) => fitting(set, &word.frame, i).count(),
-                _ if broken(Break::WithinList) => shared_among(0..set.rules.len(), left_set, right_set),
+                _ if broken(Break::WithinList) => shared_among(0..set.literal_total(), left_set, right_set),
                 _ if broken(Break::OneWord) => {
                     let start = place / 64 * 64;
                     shared_among(start..start + 64, left_set, right_set)
                 }
                 _ => shared(left_set, right_set),
             };
-            match set.rules.get(place) {
-                Some((number, rule)) if rule.fits(&word.frame, i) => {
-                    i += said.apply(*number, rule, contenders)
+            match set.literal(place) {
+                Some((number, rule)) if rule.fits(&set.classes, &word.frame, i) => {
+                    i += said.apply(number, &rule, contenders)
                 }
                 _ => return refuse(16, 0),
             }

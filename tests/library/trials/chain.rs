@@ -3,7 +3,7 @@
 //! as well.
 
 use crate::lent::{self, Compiled, Lent, Room};
-use crate::make::{lists, names, rules};
+use crate::make::{classes, lists, names, rules};
 use crate::random::Random;
 use crate::reference::image::{decode, IMAGE};
 use crate::reference::ruleset::Ruleset;
@@ -19,7 +19,7 @@ pub fn chain(tally: &mut Tally, random: &mut Random) {
     for _ in 0..random.within(1, 60) {
         let number = random.below(ledger.last as usize + 2) as u16;
         let p = random.below(ledger.rules.len() + 2);
-        match random.below(8) {
+        match random.below(9) {
             0 => {
                 lent::drop(tally, &mut image, number);
                 let _ = ledger.drop(number);
@@ -28,8 +28,13 @@ pub fn chain(tally: &mut Tally, random: &mut Random) {
                 lent::shift(tally, &mut image, number, p);
                 let _ = ledger.shift(number, p);
             }
+            2 => {
+                let (symbol, some) = classes::setting(&ledger, &letters, random);
+                lent::set_class(tally, &mut image, symbol, &Lent::new(&some, random));
+                let _ = ledger.set_class(symbol, &some);
+            }
             _ => {
-                let rule = rules::any_rule(&letters, &ledger.rules, random);
+                let rule = rules::any_rule(&letters, &ledger, random);
                 lent::add(tally, &mut image, &Lent::new(&rule, random), p);
                 let _ = ledger.add(&rule, p);
             }
@@ -39,6 +44,7 @@ pub fn chain(tally: &mut Tally, random: &mut Random) {
     let held = decode(image.contents()).unwrap_or_default();
     tally.equal("the edits' numbers in order", order(&held), order(&ledger));
     tally.equal("the edits' last", held.last, ledger.last);
+    tally.equal("the edits' classes", held.classes, ledger.classes.clone());
 
     let tables = build(&ledger);
     let mut compiled = Compiled::any(tables.words.len(), tables.sets.len(), random);

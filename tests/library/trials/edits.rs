@@ -2,7 +2,7 @@
 
 use super::SELDOM;
 use crate::lent::{self, Lent, Room};
-use crate::make::{images, lists, names, rules};
+use crate::make::{classes, images, lists, names, rules};
 use crate::random::Random;
 use crate::reference::image::{decode, last, IMAGE};
 use crate::tally::Tally;
@@ -44,12 +44,16 @@ fn one_edit(tally: &mut Tally, image: &mut Lent<u8>, letters: &[u8], random: &mu
         3 => random.pick(&[usize::MAX, 512, 513, 65_536, 1 << 32]),
         _ => random.below(held + 1),
     };
-    match random.below(10) {
+    match random.below(12) {
         0..=4 => {
-            let rule = rules::any_rule(letters, &set.rules, random);
+            let rule = rules::any_rule(letters, &set, random);
             lent::add(tally, image, &Lent::new(&rule, random), p);
         }
         5..=6 => lent::drop(tally, image, number),
+        7..=8 => {
+            let (symbol, some) = classes::setting(&set, letters, random);
+            lent::set_class(tally, image, symbol, &Lent::new(&some, random));
+        }
         _ => lent::shift(tally, image, number, p),
     }
 }
@@ -62,7 +66,7 @@ pub fn images(tally: &mut Tally, random: &mut Random) {
     lent::check(tally, &image);
     one_edit(tally, &mut image, &letters, random);
 
-    let mut out = Lent::any(random.pick(&[0, 15, 29_199]), random);
+    let mut out = Lent::any(random.pick(&[0, 15, 31_535]), random);
     lent::write_file(tally, &image, &mut out);
     let mut compiled = lent::Compiled::any(random.below(1000), random.below(100), random);
     lent::build(tally, &image, &mut compiled);

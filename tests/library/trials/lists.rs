@@ -74,7 +74,7 @@ impl Speakers {
         parts.extend(letters[1..].chunks(1).map(|letter| [&[], letter, &[], &[0x70]]));
         let rules = parts.into_iter().map(|parts| Rule::new(parts).expect("the parts are short"));
         let rules: Vec<(u16, Rule)> = (1..).zip(rules).collect();
-        let set = Ruleset { last: rules.len() as u16, rules };
+        let set = Ruleset { last: rules.len() as u16, rules, ..Ruleset::default() };
         let mut bytes = vec![0; IMAGE];
         put(&set, &mut bytes);
         let image = Lent::new(&bytes, random);
