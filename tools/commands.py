@@ -9,6 +9,7 @@ from inputs import Mistake
 
 ALL = 0xFFFFFFFF        # more than there is of anything counts as all
 MOST_SHOWN = 255        # bytes of the read-out that one command shows
+SHOW_NOTHING, NOTHING_SHOWN = frames.frame(b"\x1A" + bytes(5)), frames.frame(b"\x0A")
 
 
 def number(text, bits):
@@ -57,6 +58,12 @@ class Commands:
 
     def move(self, which, place):
         return b"\x12" + two(number(which, 16)) + two(number(place, 16))
+
+    def set_class(self, symbol, *letters):
+        symbol = self.alphabet.symbols(symbol)
+        if len(symbol) != 1:
+            raise Mistake("write class, its symbol, its letters")
+        return b"\x28" + symbol + self.alphabet.symbols(" ".join(letters))
 
     def read(self):
         return b"\x13"
@@ -132,14 +139,18 @@ class Commands:
         return ruletext.hex_bytes(" ".join(words))
 
 
+# The method of each command's word; `class` is Python's own.
+WORDS = {"class" if name == "set_class" else name: name for name in vars(Commands) if not name.startswith("_")}
+
+
 def line_for(text, alphabet):
     """The line that a text command stands for."""
     word, *rest = text.split()
     if word == "line":
         return text.partition("line")[2].strip().encode() + b"\n"
-    if word not in vars(Commands) or word.startswith("_"):
+    if word not in WORDS:
         raise Mistake(f"unknown command {word}: see help")
-    call = getattr(Commands(alphabet), word)
+    call = getattr(Commands(alphabet), WORDS[word])
     try:
         inspect.signature(call).bind(*rest)
     except TypeError:

@@ -1,4 +1,5 @@
-"""Which rules fit where: a name read by trying every rule of a rule file at each letter that reading reaches."""
+"""Which rules fit where: a name read by trying every rule of a rule file at each letter that reading reaches. A rule with classes fits
+where each of them has the letter that stands there."""
 
 from typing import NamedTuple
 
@@ -36,9 +37,21 @@ class Reached(NamedTuple):
         return f"applied {applied}" + (" | over " + " | ".join(others) if others else "")
 
 
-def rules_in(rule_file):
-    """The rules of a rule file that a program has taken, in order."""
-    return [numbered_in(frames.body_of(line)) for line in rule_file.splitlines(keepends=True)[1:]]
+class Ruleset(NamedTuple):
+    rules: list
+    classes: dict       # the letters of each symbol
+
+    def fits(self, rule, framed, i):
+        """Whether it fits at position i of a framed word."""
+        symbols, start = rule.left + rule.target + rule.right, i - len(rule.left)
+        there = framed[start:start + len(symbols)] if start >= 0 else b""
+        return len(there) == len(symbols) and all(letter in self.classes.get(symbol, bytes([symbol])) for symbol, letter in zip(symbols, there))
+
+
+def ruleset_in(rule_file):
+    """What a rule file that a program has taken says: after the head its classes, 07, then its rules in order."""
+    bodies = [frames.body_of(line) for line in rule_file.splitlines(keepends=True)[1:]]
+    return Ruleset([numbered_in(body) for body in bodies if body[0] != 0x07], {body[1]: body[3:] for body in bodies if body[0] == 0x07})
 
 
 def numbered_in(body):
@@ -50,17 +63,13 @@ def numbered_in(body):
     return Numbered(number_of(body[1:3]), Rule(*parts))
 
 
-def fits(rule, framed, i):
-    return framed[:i].endswith(rule.left) and framed[i:].startswith(rule.target + rule.right)
-
-
-def reached_letters(rules, name):
+def reached_letters(ruleset, name):
     """The letters that reading reaches, in order, to the last or to one that no rule fits. Each word is framed by itself."""
     reached, before = [], 0
     for word in name.split(bytes([SPACE])):
         framed, i = bytes([BOUNDARY]) + word + bytes([BOUNDARY]), 1
         while i <= len(word):
-            fitting = [numbered for numbered in rules if fits(numbered.rule, framed, i)]
+            fitting = [numbered for numbered in ruleset.rules if ruleset.fits(numbered.rule, framed, i)]
             reached.append(Reached(before + i, framed[i:i + 1], fitting))
             if not fitting:
                 return reached

@@ -5,7 +5,7 @@ import re
 from inputs import Failure
 
 REFUSALS = {
-    0: "this is no ruleset: over 512 rules, a broken shape, or numbers equal or outside 1 to last",
+    0: "this is no ruleset: over 512 rules, classes written out, a broken shape or class, or numbers equal or outside 1 to last",
     1: "a byte of the name is no letter and no space",
     2: "the name has more than 64 letters and spaces",
     3: "no rule fits the letter at that position",
@@ -14,7 +14,6 @@ REFUSALS = {
     6: "the rule breaks the shape of a rule",
     7: "the place lies beyond the list",
     8: "no rule has this number",
-    9: "512 rules are held already",
     10: "the last number, 65,535, is given",
     11: "too few words for the tables",
     12: "too few set words for the tables",
@@ -25,6 +24,8 @@ REFUSALS = {
     17: "the exceptions list is none, or the name has no letters or a bad phone string",
     18: "the name is not on the exceptions list",
     19: "the exceptions list would have over 1,000 names or 4,096 states",
+    20: "the class is undefined, in use, of a symbol outside 40 to 5F, or of other letters than 1 to 32 from 01 to 3E, ascending",
+    21: "there would be over 512 rules, classes written out",
 }
 
 

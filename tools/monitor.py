@@ -3,6 +3,8 @@
 
     add P RULE                    e.g. add 0 # [k] n = 6B   (or add 0 # k n = 6B, - for an empty part)
     drop NUMBER                   move NUMBER P
+    class SYMBOL LETTERS          sets a class, e.g. class \\40 a e i o u; then add 0 [k] \\40 = 63 (or <vowel>, where the --rules
+                                  text names it so)
     read                          rules.hex of the working folder (or the --rules file)
     write [bytes=N]               build [words=N] [sets=N]
     say NAME [words=N] [sets=N] [phones=N] [numbers=N]      the walk through the tables
@@ -12,7 +14,7 @@
     show words INDEX COUNT        show sets INDEX COUNT
     show phones                   show numbers
     force PLACE NUMBER COUNT LAST overwrites the number at a place, the count and last, unchecked
-    clear                         the empty ruleset again
+    clear                         the empty ruleset again, without classes
     exception NAME = PHONES       lists a name that follows no rule, e.g. exception knee = 6E 69 (a listed one's phones are replaced)
     remove NAME                   takes it off the list
     exceptions                    the list read out, as names with their phones
@@ -129,7 +131,7 @@ def exchanged(child, sent):
 
 
 def converse(child, text, alphabet):
-    """Sends one command and reads its whole answer: of a file, as many lines as its head says."""
+    """Sends one command and reads its whole answer."""
     sent = commands.line_for(text, alphabet)
     answer = exchanged(child, sent)
     if text == "exceptions" and answer.startswith(b"06"):
@@ -137,8 +139,16 @@ def converse(child, text, alphabet):
         return listed_text(b"".join(frames.body_of(exchanged(child, line))[1:] for line in asked), alphabet)
     if not answer.startswith(b"01"):
         return answer_text(sent, answer, alphabet)
-    count = number_of(frames.body_of(answer)[2:4])
-    return (answer + b"".join(answer_line(child) for _ in range(count))).decode().rstrip("\n")
+    return (answer + rest_of_file(child)).decode().rstrip("\n")
+
+
+def rest_of_file(child):
+    """The lines of a file after its head, which does not count the classes: nothing is asked to be shown, and its answer ends them."""
+    line, lines = exchanged(child, commands.SHOW_NOTHING), []
+    while line != commands.NOTHING_SHOWN:
+        lines.append(line)
+        line = answer_line(child)
+    return b"".join(lines)
 
 
 def answer_line(child):

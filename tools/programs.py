@@ -43,6 +43,7 @@ def prove(name):
         print(f"Proving and building `{name}` from its sources. This is done once and takes some minutes.",
               file=sys.stderr, flush=True)
 
+    built_before = os.path.exists(built(name))
     try:
         child = subprocess.Popen(["rt", "check", name], cwd=ROOT, stdin=subprocess.DEVNULL, stdout=subprocess.PIPE,
                                  stderr=subprocess.STDOUT, text=True, errors="backslashreplace")
@@ -50,7 +51,7 @@ def prove(name):
         raise Mistake("`rt`, the Rattle toolchain, is not on the PATH; tools/speak.py needs none where "
                       f"{built(name)} was built before") from None
     waited = threading.Timer(PATIENCE, tell)
-    if os.path.exists(built(name)):
+    if built_before:
         waited.start()
     else:
         tell()

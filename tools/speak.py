@@ -48,7 +48,7 @@ def arguments():
     parser.add_argument("name", nargs="*", help="a name to say")
     parser.add_argument("--names", metavar="FILE", help="a file of names")
     parser.add_argument("--rules", metavar="FILE", default=programs.example("six.hex"),
-                        help="a rule file, NAME.hex (NAME.rules beside it tells letters and sounds), "
+                        help="a rule file, NAME.hex (NAME.rules beside it tells letters, sounds and names of classes), "
                              "or readable rules (tools/rules2hex.py --help); default: examples/six.hex")
     parser.add_argument("--contested", action="store_true",
                         help="show the rules that fit at each letter, and how many letters have more than one")
@@ -176,7 +176,7 @@ class ContestedSpeaker(Speaker):
 
     def judge(self, rule_file, path):
         super().judge(rule_file, path)
-        self.rules = fitting.rules_in(rule_file)
+        self.ruleset = fitting.ruleset_in(rule_file)
 
     def answers(self, lines):
         """(the answer, the count's) to each name."""
@@ -197,7 +197,7 @@ class ContestedSpeaker(Speaker):
             text = frames.refusal_text(*told)
             if told[0] != 3:        # about no letter
                 return text
-        reached = fitting.reached_letters(self.rules, self.alphabet.name(name))
+        reached = fitting.reached_letters(self.ruleset, self.alphabet.name(name))
         found = fitting.outcome(reached)
         if told != found:
             raise Failure(f"{name}: `monitor` says {told}, by the rule file it is {found}")
