@@ -2,6 +2,59 @@
 
 #include <string.h>
 
+/* ---- Classes and literal rules ---- */
+
+static int is_class(uint8_t symbol)
+{
+    return symbol >= BASE_CLASS && symbol < BASE_CLASS + BASE_CLASSES;
+}
+
+/* The set bits of a word, summed in pairs, fours and bytes: plain x86-64 has no instruction for it. */
+static size_t ones(uint64_t word)
+{
+    word -= word >> 1 & 0x5555555555555555;
+    word = (word & 0x3333333333333333) + (word >> 2 & 0x3333333333333333);
+    word = (word + (word >> 4)) & 0x0F0F0F0F0F0F0F0F;
+    return word * 0x0101010101010101 >> 56;
+}
+
+static size_t product(const struct base_ruleset *rs, const uint8_t *context, size_t length, size_t count)
+{
+    for (size_t i = 0; i < length; i++)
+        if (is_class(context[i]))
+            count *= ones(rs->classes[context[i] - BASE_CLASS]);
+    return count;
+}
+
+/* How many literal rules a rule means; 0 where it uses a class that is undefined. */
+static size_t literal_count(const struct base_ruleset *rs, const struct base_rule *r)
+{
+    return product(rs, r->right, r->right_len, product(rs, r->left, r->left_len, 1));
+}
+
+/* The letters of one context by the digits of `which`, of which its last class takes the lowest; gives the digits left. */
+static size_t choose_letters(const struct base_ruleset *rs, uint8_t *context, size_t length, size_t which)
+{
+    for (size_t i = length; i > 0; i--)
+        if (is_class(context[i - 1])) {
+            uint64_t letters = rs->classes[context[i - 1] - BASE_CLASS];
+            size_t count = ones(letters);
+            for (size_t skip = which % count; skip > 0; skip--)
+                letters &= letters - 1;
+            context[i - 1] = (uint8_t)__builtin_ctzll(letters);
+            which /= count;
+        }
+    return which;
+}
+
+static struct base_rule literal(const struct base_ruleset *rs, size_t at)
+{
+    struct base_rule r = rs->rules[rs->literals[at].place];
+    size_t which = choose_letters(rs, r.right, r.right_len, rs->literals[at].which);
+    choose_letters(rs, r.left, r.left_len, which);
+    return r;
+}
+
 /* ---- Tables: one pattern automaton a side, as a full transition table ---- */
 
 struct side {
@@ -79,19 +132,21 @@ void base_build(const struct base_ruleset *rs, uint16_t *words, uint64_t *sets)
     struct side left, right;
 
     begin(&left, words + 2, sets);
-    for (size_t p = 0; p < rs->count; p++)
-        insert(&left, rs->rules[p].left, rs->rules[p].left_len, p);
+    for (size_t p = 0; p < rs->total; p++) {
+        struct base_rule r = literal(rs, p);
+        insert(&left, r.left, r.left_len, p);
+    }
     link_failures(&left);
 
     begin(&right, words + 2 + BASE_SYMBOLS * left.states, sets + BASE_SET_WORDS * left.states);
-    for (size_t p = 0; p < rs->count; p++) {
-        const struct base_rule *r = &rs->rules[p];
+    for (size_t p = 0; p < rs->total; p++) {
+        struct base_rule r = literal(rs, p);
         uint8_t pattern[10];
         size_t length = 0;
-        for (size_t i = r->right_len; i > 0; i--)
-            pattern[length++] = r->right[i - 1];
-        for (size_t i = r->target_len; i > 0; i--)
-            pattern[length++] = r->target[i - 1];
+        for (size_t i = r.right_len; i > 0; i--)
+            pattern[length++] = r.right[i - 1];
+        for (size_t i = r.target_len; i > 0; i--)
+            pattern[length++] = r.target[i - 1];
         insert(&right, pattern, length, p);
     }
     link_failures(&right);
@@ -121,15 +176,6 @@ static void apply(const struct base_rule *r, size_t fitting, struct base_spoken 
 static uint8_t symbol(uint8_t byte)
 {
     return byte == BASE_SPACE ? 0 : byte;
-}
-
-/* The set bits of a word, summed in pairs, fours and bytes: plain x86-64 has no instruction for it. */
-static size_t ones(uint64_t word)
-{
-    word -= word >> 1 & 0x5555555555555555;
-    word = (word & 0x3333333333333333) + (word >> 2 & 0x3333333333333333);
-    word = (word + (word >> 4)) & 0x0F0F0F0F0F0F0F0F;
-    return word * 0x0101010101010101 >> 56;
 }
 
 /* The lowest place that both sets hold, and how many they hold both. */
@@ -181,8 +227,9 @@ int base_walk(const struct base_ruleset *rs, const uint16_t *words, const uint64
             out->position = (uint32_t)i;
             return -1;
         }
-        apply(&rs->rules[choice.place], choice.shared, out);
-        i += rs->rules[choice.place].target_len;
+        const struct base_rule *r = &rs->rules[rs->literals[choice.place].place];
+        apply(r, choice.shared, out);
+        i += r->target_len;
     }
     return 0;
 }
@@ -195,14 +242,23 @@ static int same(const uint8_t *a, const uint8_t *b, size_t length)
     return 1;
 }
 
+/* A context with classes, each of which has the letter there. */
+static int admits(const struct base_ruleset *rs, const uint8_t *context, const uint8_t *framed, size_t length)
+{
+    for (size_t i = 0; i < length; i++)
+        if (is_class(context[i]) ? !(rs->classes[context[i] - BASE_CLASS] >> framed[i] & 1) : context[i] != framed[i])
+            return 0;
+    return 1;
+}
+
 /* The target is compared first: it tells most rules apart. */
-static int fits(const struct base_rule *r, const uint8_t *framed, size_t length, size_t i)
+static int fits(const struct base_ruleset *rs, const struct base_rule *r, const uint8_t *framed, size_t length, size_t i)
 {
     size_t after = i + r->target_len;
     return i >= r->left_len && after + r->right_len <= length
         && same(framed + i, r->target, r->target_len)
-        && same(framed + after, r->right, r->right_len)
-        && same(framed + i - r->left_len, r->left, r->left_len);
+        && admits(rs, r->right, framed + after, r->right_len)
+        && admits(rs, r->left, framed + i - r->left_len, r->left_len);
 }
 
 int base_plain(const struct base_ruleset *rs, const uint8_t *name, size_t n, struct base_spoken *out)
@@ -221,7 +277,7 @@ int base_plain(const struct base_ruleset *rs, const uint8_t *name, size_t n, str
         const struct base_rule *first = NULL;
         size_t fitting = 0;
         for (size_t p = 0; p < rs->count; p++)
-            if (fits(&rs->rules[p], framed, n + 2, i) && fitting++ == 0)
+            if (fits(rs, &rs->rules[p], framed, n + 2, i) && fitting++ == 0)
                 first = &rs->rules[p];
         if (first == NULL) {
             out->position = (uint32_t)i;
@@ -249,7 +305,7 @@ struct input {
     size_t length, at;
 };
 
-enum { LONGEST_FRAME = 28 };
+enum { LONGEST_FRAME = 36 };      /* of a class with 32 letters */
 
 /* Bytes of the next line without its sum, or -1 for an unsound one or one longer than any frame. */
 static int next_frame(struct input *in, uint8_t frame[LONGEST_FRAME])
@@ -286,14 +342,22 @@ static int between(const uint8_t *bytes, size_t length, int low, int high)
     return 1;
 }
 
-/* # may stand first in a left context and last in a right one. */
+static int letters_and_classes(const uint8_t *context, size_t length)
+{
+    for (size_t i = 0; i < length; i++)
+        if (!between(context + i, 1, 1, BASE_LETTERS) && !is_class(context[i]))
+            return 0;
+    return 1;
+}
+
+/* # may stand first in a left context and last in a right one, classes in both. */
 static int well_shaped(const struct base_rule *r)
 {
     size_t boundary = r->left_len > 0 && r->left[0] == 0;
     size_t letters = r->right_len - (size_t)(r->right_len > 0 && r->right[r->right_len - 1] == 0);
-    return between(r->left + boundary, r->left_len - boundary, 1, BASE_LETTERS)
+    return letters_and_classes(r->left + boundary, r->left_len - boundary)
         && between(r->target, r->target_len, 1, BASE_LETTERS)
-        && between(r->right, letters, 1, BASE_LETTERS)
+        && letters_and_classes(r->right, letters)
         && between(r->phones, r->phone_len, 1, 0xFF);
 }
 
@@ -317,6 +381,50 @@ static int read_rule(const uint8_t *frame, int count, struct base_rule *r)
     return well_shaped(r) ? 0 : -1;
 }
 
+/* A class line's letters, ascending, of a symbol above those before it. */
+static int read_class(const uint8_t *frame, int count, uint8_t *above, struct base_ruleset *rs)
+{
+    uint64_t letters = 0;
+    if (count < 4 || count != 3 + frame[2] || frame[2] > BASE_CLASS_LETTERS || !is_class(frame[1]) || frame[1] <= *above
+        || !between(frame + 3, frame[2], 1, BASE_LETTERS))
+        return -1;
+    for (size_t i = 3; i < (size_t)count; i++) {
+        if (i > 3 && frame[i] <= frame[i - 1])
+            return -1;
+        letters |= (uint64_t)1 << frame[i];
+    }
+    *above = frame[1];
+    rs->classes[frame[1] - BASE_CLASS] = letters;
+    return 0;
+}
+
+/* Each of a rule's literal rules gets the next place. */
+static int place_literals(struct base_ruleset *rs, size_t p)
+{
+    size_t count = literal_count(rs, &rs->rules[p]);
+    if (count == 0 || count > BASE_RULES - (size_t)rs->total)
+        return -1;
+    for (size_t which = 0; which < count; which++)
+        rs->literals[rs->total++] = (struct base_literal){ (uint16_t)p, (uint16_t)which };
+    return 0;
+}
+
+/* The class lines, to the first line that is none; it is read once more as what it is. */
+static int read_classes(struct input *in, struct base_ruleset *rs)
+{
+    uint8_t frame[LONGEST_FRAME], above = 0;
+    for (;;) {
+        size_t start = in->at;
+        int count = next_frame(in, frame);
+        if (count < 1 || frame[0] != 7) {
+            in->at = start;
+            return 0;
+        }
+        if (read_class(frame, count, &above, rs) != 0)
+            return -1;
+    }
+}
+
 int base_read(const uint8_t *text, size_t length, struct base_ruleset *rs)
 {
     struct input in = { text, length, 0 };
@@ -327,11 +435,13 @@ int base_read(const uint8_t *text, size_t length, struct base_ruleset *rs)
         return -1;
     rs->count = field(frame + 2);
     rs->last = field(frame + 4);
-    if (rs->count > BASE_RULES)
+    rs->total = 0;
+    memset(rs->classes, 0, sizeof rs->classes);
+    if (rs->count > BASE_RULES || read_classes(&in, rs) != 0)
         return -1;
     for (size_t p = 0; p < rs->count; p++) {
         struct base_rule *r = &rs->rules[p];
-        if (read_rule(frame, next_frame(&in, frame), r) != 0)
+        if (read_rule(frame, next_frame(&in, frame), r) != 0 || place_literals(rs, p) != 0)
             return -1;
         uint64_t bit = (uint64_t)1 << (r->number % 64);
         if (r->number < 1 || r->number > rs->last || (seen[r->number / 64] & bit))
@@ -382,6 +492,15 @@ size_t base_write(const struct base_ruleset *rs, uint8_t *text)
     put_two(&out, rs->count);
     put_two(&out, rs->last);
     end_line(&out);
+    for (size_t c = 0; c < BASE_CLASSES; c++)
+        if (rs->classes[c] != 0) {
+            put(&out, 7);
+            put(&out, (uint8_t)(BASE_CLASS + c));
+            put(&out, (uint8_t)ones(rs->classes[c]));
+            for (uint64_t letters = rs->classes[c]; letters != 0; letters &= letters - 1)
+                put(&out, (uint8_t)__builtin_ctzll(letters));
+            end_line(&out);
+        }
     for (size_t p = 0; p < rs->count; p++) {
         const struct base_rule *r = &rs->rules[p];
         put(&out, 2);

@@ -1,7 +1,7 @@
 /*
  * The yardstick of the benchmark: the same tables, walk, plain reading and rule file as document 01,
- * written by hand in plain C, with document 02's names of several words and contested letters but without
- * its exceptions list.
+ * written by hand in plain C, with document 02's names of several words, contested letters and letter classes but
+ * without its exceptions list.
  * It trusts its caller: rulesets are valid, names are 1 to 63 in at most 64 bytes, memory is long enough
  * and tables are built. Only base_read judges what it is given, since a file comes from outside.
  */
@@ -12,18 +12,21 @@
 #include <stdint.h>
 
 enum {
-    BASE_RULES = 512,
+    BASE_RULES = 512,           /* literal rules, and so rules */
     BASE_NAME = 64,
     BASE_SYMBOLS = 64,
     BASE_LETTERS = 0x3E,        /* the highest letter */
     BASE_SPACE = 0x3F,          /* separates the words of a name */
+    BASE_CLASS = 0x40,          /* the first class's symbol */
+    BASE_CLASSES = 32,
+    BASE_CLASS_LETTERS = 32,    /* of a class, at most */
     BASE_SET_WORDS = 8,         /* 512 bits */
     BASE_LEFT_STATES = 3073,    /* most states of either side */
     BASE_RIGHT_STATES = 5121,
     BASE_WORDS = 2 + BASE_SYMBOLS * (BASE_LEFT_STATES + BASE_RIGHT_STATES),
     BASE_SETS = BASE_SET_WORDS * (BASE_LEFT_STATES + BASE_RIGHT_STATES),
     BASE_PHONES = 4 * BASE_NAME,
-    BASE_FILE = 29199           /* longest rule file */
+    BASE_FILE = 31535           /* longest rule file */
 };
 
 struct base_rule {
@@ -32,9 +35,16 @@ struct base_rule {
     uint8_t left[6], target[4], right[6], phones[4];
 };
 
+/* Which rule's a literal rule is, and which of that rule's, from 0. */
+struct base_literal {
+    uint16_t place, which;
+};
+
 struct base_ruleset {
-    uint16_t count, last;
+    uint16_t count, last, total;            /* of rules, numbers, literal rules */
     struct base_rule rules[BASE_RULES];
+    uint64_t classes[BASE_CLASSES];         /* bit c: letter c is in the class; 0: undefined */
+    struct base_literal literals[BASE_RULES];
 };
 
 /* Phones and rule numbers of a name, and its contested letters; position is 0, or that of the letter that no rule fits, in

@@ -109,21 +109,25 @@ static void build(void) { build_in(PIRROZKETA_WORDS, PIRROZKETA_SETS); }
 
 static void check_ruleset(void) { accept(pirrozketa_check(image, sizeof image), "no ruleset"); }
 
-static void speak(const uint8_t *names, size_t length, size_t of)
+static void speak_by(const uint8_t *by, const uint16_t *its_words, const uint64_t *its_sets, const uint8_t *names, size_t length, size_t of)
 {
-    accept(pirrozketa_speak_many(image, sizeof image, list, PIRROZKETA_LIST, words, PIRROZKETA_WORDS, sets, PIRROZKETA_SETS,
+    accept(pirrozketa_speak_many(by, PIRROZKETA_IMAGE, list, PIRROZKETA_LIST, its_words, PIRROZKETA_WORDS, its_sets, PIRROZKETA_SETS,
            names, length, phones, sizeof phones, numbers, sizeof numbers / 2, replies, sizeof replies / sizeof *replies, &count),
            "no ruleset");
     must(count == of, "names are not all answered");
 }
 
+static void speak(const uint8_t *names, size_t length, size_t of) { speak_by(image, words, sets, names, length, of); }
+
 static void many(size_t length) { speak(names, length, NAMES); }
 
-static void base_many(void)
+static void base_by(const struct base_ruleset *by, const uint16_t *its_words, const uint64_t *its_sets)
 {
     for (int k = 0; k < NAMES; k++)
-        base_walk(&rs, base_words, base_sets, names + starts[k] + 1, names[starts[k]], &spoken[k]);
+        base_walk(by, its_words, its_sets, names + starts[k] + 1, names[starts[k]], &spoken[k]);
 }
+
+static void base_many(void) { base_by(&rs, base_words, base_sets); }
 
 /* The last speak() of so many names and the baseline gave the same. */
 static void compare(int of)
@@ -178,6 +182,126 @@ static void word_rows(void)
     PAIR(base_eight, base_one, LONG_NAMES, base_long(eight_words), base_long(one_word));
     printf("| library | %.0f ns | %.0f ns | %.2f |\n", eight, one, eight / one);
     printf("| baseline | %.0f ns | %.0f ns | %.2f |\n", base_eight, base_one, base_eight / base_one);
+}
+
+/* ---- letter classes */
+
+/* A real ruleset with its tables, of the library and of the baseline. */
+struct loaded {
+    uint8_t image[PIRROZKETA_IMAGE];
+    uint16_t words[PIRROZKETA_WORDS], base_words[BASE_WORDS];
+    uint64_t sets[PIRROZKETA_SETS], base_sets[BASE_SETS];
+    struct base_ruleset base;
+};
+
+static struct loaded classed, written;
+
+static size_t read_whole(const char *path, uint8_t *into, size_t room)
+{
+    FILE *in = fopen(path, "rb");
+    must(in != NULL, path);
+    size_t length = fread(into, 1, room, in);
+    must(length < room && !ferror(in), path);
+    fclose(in);
+    return length;
+}
+
+static void load(struct loaded *loaded, const char *path)
+{
+    static uint8_t text[PIRROZKETA_FILE + 1];
+    size_t length = read_whole(path, text, sizeof text);
+    accept(pirrozketa_read_file(text, length, loaded->image, PIRROZKETA_IMAGE, &place), path);
+    accept(pirrozketa_build(loaded->image, PIRROZKETA_IMAGE, loaded->words, PIRROZKETA_WORDS, loaded->sets, PIRROZKETA_SETS, &place), path);
+    must(base_read(text, length, &loaded->base) == 0, "the baseline reads no file");
+    base_build(&loaded->base, loaded->base_words, loaded->base_sets);
+}
+
+/* NAMES names, those of the text again and again: a to z, the space, and the two letters of examples/basque.rules. */
+static size_t read_names(const char *path)
+{
+    static uint8_t text[1 << 16];
+    size_t end = read_whole(path, text, sizeof text), from = 0, at = 0;
+    for (int k = 0; k < NAMES;) {
+        size_t last = at;
+        must(at + 1 + PIRROZKETA_NAME <= sizeof names, "no room for the names");
+        for (; from < end && text[from] != ';' && text[from] != '\n'; from++) {
+            if (text[from] == 0xC3)
+                names[++last] = text[++from] == 0xB1 ? 0x1B : 0x1C;
+            else
+                names[++last] = text[from] == ' ' ? BASE_SPACE : (uint8_t)(text[from] - 'a' + 1);
+        }
+        while (last > at && names[last] == BASE_SPACE)
+            last--;
+        while (from < end && text[from] != '\n')
+            from++;
+        from = from + 1 < end ? from + 1 : 0;
+        if (last == at)
+            continue;
+        names[at] = (uint8_t)(last - at);
+        starts[k++] = at;
+        at = last + 1;
+    }
+    return at;
+}
+
+static void many_by(const struct loaded *by, size_t length) { speak_by(by->image, by->words, by->sets, names, length, NAMES); }
+
+static void base_many_by(const struct loaded *by) { base_by(&by->base, by->base_words, by->base_sets); }
+
+/* n rules with one class of so many letters in each, so that there are 512 literal rules. */
+static void class_rules(int n, int letters)
+{
+    uint8_t some[PIRROZKETA_CLASS];
+    accept(pirrozketa_clear(image, sizeof image), "no empty ruleset");
+    for (int k = 0; k < letters; k++)
+        some[k] = (uint8_t)(1 + k);
+    accept(pirrozketa_set_class(image, sizeof image, BASE_CLASS, some, letters, &place), "no class");
+    for (int k = 0; k < n; k++) {
+        uint8_t r[PIRROZKETA_RULE] = { (uint8_t)(1 + draw(3)), (uint8_t)(1 + (draw(3) == 0)), (uint8_t)draw(4), (uint8_t)draw(3) };
+        for (int i = 4; i < PIRROZKETA_RULE; i++)
+            r[i] = letter();
+        r[4] = BASE_CLASS;
+        accept(pirrozketa_add(image, sizeof image, r, sizeof r, k, &place), "a rule is refused");
+    }
+}
+
+static double check_time(void)
+{
+    double check, none;
+    PAIR(check, none, NAMES, for (int k = 0; k < NAMES; k++) check_ruleset(), (void)0);
+    return check;
+}
+
+/* Names by a real ruleset with classes beside the same written out, by turns; then the check of the fullest rulesets. */
+static void class_rows(void)
+{
+    static uint8_t said[sizeof phones];
+    double by_class, by_rules, base_class, base_rules;
+    load(&classed, "examples/basque_classes.hex");
+    load(&written, "examples/basque.hex");
+    size_t length = read_names("examples/basque.names");
+    many_by(&classed, length);
+    base_many_by(&classed);
+    compare(NAMES);
+    memcpy(said, phones, sizeof said);
+    many_by(&written, length);
+    base_many_by(&written);
+    compare(NAMES);
+    must(!memcmp(said, phones, sizeof said), "with classes and written out the phones differ");
+    PAIR(by_class, by_rules, NAMES, many_by(&classed, length), many_by(&written, length));
+    PAIR(base_class, base_rules, NAMES, base_many_by(&classed), base_many_by(&written));
+    printf("\n| a Basque name, many at once | %u rules with classes | the same written out, %u rules | ratio |\n|---|---|---|---|\n",
+           (unsigned)classed.base.count, (unsigned)written.base.count);
+    printf("| library | %.0f ns | %.0f ns | %.2f |\n", by_class, by_rules, by_class / by_rules);
+    printf("| baseline | %.0f ns | %.0f ns | %.2f |\n", base_class, base_rules, base_class / base_rules);
+
+    printf("\n| 512 literal rules | the check of the ruleset |\n|---|---|\n");
+    rules(512, 0);
+    printf("| 512 rules without classes | %.0f ns |\n", check_time());
+    class_rules(256, 2);
+    printf("| 256 rules with a class of 2 letters | %.0f ns |\n", check_time());
+    class_rules(16, 32);
+    printf("| 16 rules with a class of 32 letters | %.0f ns |\n", check_time());
 }
 
 /* ---- the exceptions list */
@@ -250,7 +374,7 @@ int main(void)
     uint8_t said[PIRROZKETA_PHONES];
     uint16_t by[PIRROZKETA_NUMBERS];
     size_t given, applied, steps, contested;
-    double mine, base, check, none;
+    double mine, base, check;
 
     accept(pirrozketa_list_clear(list, PIRROZKETA_LIST), "no empty list");
     printf("| work | library | baseline | ratio |\n|---|---|---|---|\n");
@@ -280,7 +404,7 @@ int main(void)
              accept(pirrozketa_read_name(image, sizeof image, list, PIRROZKETA_LIST, names + starts[k] + 1, names[starts[k]],
                     said, sizeof said, by, PIRROZKETA_NUMBERS, &given, &applied, &contested), "a name is refused"),
          for (int k = 0; k < NAMES; k++) base_plain(&rs, names + starts[k] + 1, names[starts[k]], &spoken[k]));
-    PAIR(check, none, NAMES, for (int k = 0; k < NAMES; k++) check_ruleset(), (void)0);
+    check = check_time();
     row("(d) plain reading, 320 rules, the check of the ruleset taken off; the baseline tries all rules", mine - check, base);
     row("(d) the same with the check of the ruleset; the baseline tries all rules", mine, base);
 
@@ -294,7 +418,7 @@ int main(void)
                     names + starts[k] + 1, names[starts[k]], said, sizeof said, by, PIRROZKETA_NUMBERS, &given,
                     &applied, &steps, &contested), "a name is refused"),
          base_many());
-    PAIR(check, none, NAMES, for (int k = 0; k < NAMES; k++) check_ruleset(), (void)0);
+    check = check_time();
     row("(b) one name, checked, 512 rules", mine, base);
     printf("| (b) of which the check of the ruleset | %.0f ns | | |\n", check);
 
@@ -337,5 +461,6 @@ int main(void)
     base_build(&rs, base_words, base_sets);
     printf("\n| %d bytes a name, many at once, 320 rules | eight words | one word | ratio |\n|---|---|---|---|\n", LONG);
     word_rows();
+    class_rows();
     return 0;
 }

@@ -1,6 +1,7 @@
 /*
- * A small host: it reads a rule file, adds a rule, writes the file back, builds the tables, lists exceptions and
- * speaks names, of one word or several, one at a time and many at once, with their contested letters. Built and run by host/build, or by hand:
+ * A small host: it reads a rule file, sets a letter class, adds a rule that uses it, writes the file back, builds the tables,
+ * lists exceptions and speaks names, of one word or several, one at a time and many at once, with their contested letters. Built
+ * and run by host/build, or by hand:
  *
  *     rt staticlib host
  *     gcc -O2 -Wall -Ihost host/example.c target/staticlib/libhost.a -o target/example
@@ -93,20 +94,34 @@ static void read_rules(const char *path)
     judge("read", code, place);
 }
 
-/* One rule more, at the end: [q] gives 6B, the phone of k. */
+enum { VOWEL = 64 };    /* the symbol of a class */
+
+static uint8_t set_vowels(size_t *place)
+{
+    static const uint8_t vowels[] = { 1, 5, 9, 15, 21 };
+    return pirrozketa_set_class(image, sizeof image, VOWEL, vowels, sizeof vowels, place);
+}
+
+/* One rule more, at the end, for all vowels: [qu] before one of them gives 6B 77. While it is held, its class stays as it is. */
 static void add_rule(void)
 {
     static const uint8_t rule[PIRROZKETA_RULE] = {
-        0, 1, 0, 1,             /* the lengths */
+        0, 2, 1, 2,             /* the lengths */
         0, 0, 0, 0, 0, 0,       /* left context */
-        17, 0, 0, 0,            /* target: q */
-        0, 0, 0, 0, 0, 0,       /* right context */
-        0x6B, 0, 0, 0           /* phones */
+        17, 21, 0, 0,           /* target: qu */
+        VOWEL, 0, 0, 0, 0, 0,   /* right context */
+        0x6B, 0x77, 0, 0        /* phones */
     };
     size_t place, end = pirrozketa_count(image, sizeof image);
-    uint8_t code = pirrozketa_add(image, sizeof image, rule, sizeof rule, end, &place);
+    uint8_t code = set_vowels(&place);
+    judge("class", code, place);
+    code = pirrozketa_add(image, sizeof image, rule, sizeof rule, end, &place);
     judge("add", code, place);
     printf("rule %u added\n", (unsigned)pirrozketa_last(image, sizeof image));
+    code = set_vowels(&place);
+    if (code != PIRROZKETA_BAD_CLASS)
+        stop("a class is set while a rule uses it");
+    printf("class %d is in use: refusal %u\n", VOWEL, (unsigned)code);
 }
 
 static void write_rules(void)
@@ -118,7 +133,7 @@ static void write_rules(void)
     printf("the file has %zu bytes\n", bytes);
 }
 
-/* Due after every edit and every read of a file: nothing tells that tables are old. */
+/* Due after every add, drop and move and every read of a file: nothing tells that tables are old. */
 static void build_tables(void)
 {
     size_t place;

@@ -10,7 +10,8 @@
  * pointers are written in every case. What lies past the bytes, phones, numbers or words that a call gives
  * keeps its contents.
  *
- * TABLES. Call pirrozketa_build after every edit and every read of a file, before the next name is spoken.
+ * TABLES. Call pirrozketa_build after every add, drop and move and every read of a file, before the next name is spoken.
+ * Setting a class needs no build: no rule uses it, so the tables of the ruleset are the same words after it.
  * Until then pirrozketa_speak and pirrozketa_speak_many may speak a name by rules that the old tables
  * choose wrongly, with no refusal, and nothing in this interface tells the host. An example: the rules [z],
  * [a] 61 and [x] 58 are built, rule 1 is dropped and [a]x 62 added at place 0. Not built again, "ax" is
@@ -20,6 +21,14 @@
  * word has boundaries of its own, so that a rule for the end of a word fits before a space too; two spaces in a
  * row, or one at an end, make a word of no letters. The phones of the words are joined in order, and so are the
  * rule numbers; places and rooms are those of the whole name. No rule may have 63.
+ *
+ * CLASSES. A symbol from 64 to 95 in a context stands for a class: a set of 1 to 32 letters that pirrozketa_set_class, or the
+ * rule file, gives it. A rule with classes fits where each of them has the letter that stands there; it means as many literal
+ * rules as there are ways to choose a letter for each, in the order in which the leftmost symbol varies slowest, letters
+ * ascending, and all of them under its one number. At most 512 literal rules are held, of however many rules. Places of the list
+ * count rules; tables and sets are over literal rules. A class may be set again only while no rule uses it, so what a
+ * rule means never changes while it is held; drop the rules, set the class, add them again. No call takes a class away;
+ * pirrozketa_clear and pirrozketa_read_file leave none but those of the file. The boundary is in no class.
  *
  * LIST. A name on the exceptions list is said from it, by pirrozketa_speak, pirrozketa_speak_many and
  * pirrozketa_read_name alike; else each of its words that is listed is said from it, and only the other words go
@@ -36,8 +45,8 @@
  * fits; with others it need not be, since every shared place counts, of a rule that does not fit and past the rules too.
  *
  * MEMORY. Whatever the lent memory holds, every call ends and stays inside it: memory that is no ruleset is
- * refusal 0, and memory that is no list is 17; tables that lead to a state or rule that is none, or to a rule that does not fit, are refusal
- * 16. The host sees to this:
+ * refusal 0, and memory that is no list is 17; tables that lead to a state or literal rule that is none, or to a literal rule that does
+ * not fit, are refusal 16. The host sees to this:
  *   - A slice is a pointer and its length in items. The pointer is aligned for its items and NOT NULL, also
  *     where the length is 0: to lend nothing, lend any array of the type with length 0.
  *   - A slice that a call writes (not const) overlaps no other slice of the call. Slices that it only reads
@@ -57,14 +66,16 @@
 
 /*
  * The version of this interface. MAJOR rises where a host has to change: a call is withdrawn or means
- * something else. MINOR rises where something is added. 5.0 counts contested letters: pirrozketa_read_name and
+ * something else. MINOR rises where something is added. 6.0 has letter classes: a ruleset has 15,622 bytes (13,316 before), a rule file
+ * up to 31,535 (29,199 before), and a file written before reads as it did; 64 to 95 in a context is refusal 20 where it was 6;
+ * over 512 rules is refusal 21 where it was 9, which is none any more. 5.0 counts contested letters: pirrozketa_read_name and
  * pirrozketa_speak have a parameter more, the last, and a reply of pirrozketa_speak_many has a fifth number. 4.0 takes 63
  * for the space between the words of a name: rules and rule files with it are refused, and a name can give more phones,
  * since each of its words may be listed. 3.0 lends the exceptions list to pirrozketa_read_name, pirrozketa_speak and
  * pirrozketa_speak_many, after the ruleset. 2.0 withdrew pirrozketa_load of 1.0, which could refuse after it had replaced
  * the ruleset: call pirrozketa_read_file, look at its code, then pirrozketa_build.
  */
-#define PIRROZKETA_VERSION_MAJOR 5
+#define PIRROZKETA_VERSION_MAJOR 6
 #define PIRROZKETA_VERSION_MINOR 0
 
 /* The library is compiled for x86-64, and its lengths are numbers of 8 bytes. */
@@ -91,20 +102,21 @@ _Static_assert(sizeof(size_t) == 8, "the Pirrozketa library has lengths of 8 byt
 extern "C" {
 #endif
 
-/* The refusals, in the order of documents 01 and 02. A call gives only those named with it. */
+/* The refusals, in the order of documents 01 and 02; 9 is none any more. A call gives only those named with it. */
 enum {
-    PIRROZKETA_NOT_RULESET = 0,   /* the memory is none: under 13,316 bytes, over 512 rules, a broken rule, numbers
-                                     that are equal or not from 1 to `last`; place 0 */
+    PIRROZKETA_NOT_RULESET = 0,   /* the memory is none: under 15,622 bytes, over 512 literal rules, a broken rule or
+                                     class, an undefined one in use, numbers that are equal or not from 1 to `last`,
+                                     a literal total or table that is not theirs; place 0 */
     PIRROZKETA_NAME_BYTE = 1,     /* the name has a byte outside 01 to 3F; place: the first, counted from 0 */
     PIRROZKETA_NAME_LENGTH = 2,   /* the name has over 64 bytes; place 0 */
     PIRROZKETA_NO_FIT = 3,        /* no rule fits at a letter that reading reaches; place: its position in the whole
                                      name, from 1 */
     PIRROZKETA_PHONES_ROOM = 4,   /* too few bytes lent for the phones; place: bytes that the whole name needs */
     PIRROZKETA_NUMBERS_ROOM = 5,  /* too few numbers lent for the rules applied; place: numbers that it needs */
-    PIRROZKETA_SHAPE = 6,         /* the added rule breaks the shape, as 63 in it does, or is not 24 bytes; place 0 */
+    PIRROZKETA_SHAPE = 6,         /* the added rule breaks the shape, as 63 in it or a class in its target does, or is not 24
+                                     bytes; place 0 */
     PIRROZKETA_PLACE = 7,         /* the place lies beyond the list; place 0 */
     PIRROZKETA_NO_NUMBER = 8,     /* no rule has the number; place 0 */
-    PIRROZKETA_FULL = 9,          /* 512 rules are held; place 0 */
     PIRROZKETA_LAST_ISSUED = 10,  /* `last` is 65,535; place 0 */
     PIRROZKETA_WORDS_ROOM = 11,   /* too few words lent for the tables; place: words needed */
     PIRROZKETA_SETS_ROOM = 12,    /* too few set words lent; place: set words needed */
@@ -116,12 +128,16 @@ enum {
                                      over 64, or one of them 00; place 0 */
     PIRROZKETA_NOT_LISTED = 18,   /* the name to remove is not listed; place 0 */
     PIRROZKETA_LIST_FULL = 19,    /* over 1,000 names or 4,096 states after the change; place 0 */
+    PIRROZKETA_BAD_CLASS = 20,    /* the class has a symbol outside 64 to 95, no letters, over 32, letters outside 1 to 62 or
+                                     not strictly ascending, or is in use; or the added rule uses one that is undefined;
+                                     place 0 */
+    PIRROZKETA_FULL = 21,         /* over 512 literal rules after the addition; place 0 */
     PIRROZKETA_ACCEPTED = 255
 };
 
 /* The least to lend. More may be lent, and is not looked at. */
 enum {
-    PIRROZKETA_IMAGE = 13316,       /* bytes of a ruleset */
+    PIRROZKETA_IMAGE = 15622,       /* bytes of a ruleset */
     PIRROZKETA_LIST = 35886         /* words of 32 bits of a list: 143,544 bytes, for the largest */
 };
 
@@ -138,7 +154,8 @@ enum {
     PIRROZKETA_NAME = 64,           /* bytes of a name; a longer one is refusal 2 */
     PIRROZKETA_PHONES = 2048,       /* phones that one name can give, by 32 listed words; by rules alone 256 */
     PIRROZKETA_NUMBERS = 64,        /* rules that one name can apply */
-    PIRROZKETA_FILE = 29199,        /* bytes of the longest rule file */
+    PIRROZKETA_FILE = 31535,        /* bytes of the longest rule file */
+    PIRROZKETA_CLASS = 32,          /* letters of a class */
     PIRROZKETA_LISTED_PHONES = 64,  /* phones of a listed name */
     PIRROZKETA_READ_OUT = 130000    /* bytes of the longest read-out */
 };
@@ -154,14 +171,21 @@ enum {
 /* ---- the ruleset: `image` is PIRROZKETA_IMAGE bytes or more. Tables built before a change of it are old. */
 
 /*
- * Its layout: the rule count (2 bytes), `last` (2), then 512 slots of 26 bytes in the order of the rules:
- * number (2), lengths of left context, target, right context and phones (1 each), then 6, 4, 6 and 4 bytes
- * for them. All numbers high byte first. Bytes past a length mean nothing: an added rule keeps what was
- * handed in, a rule that was read has zeros. Slots past the count mean nothing and keep what they held. So
- * compare rulesets by their files, not by these bytes.
+ * Its layout, all numbers high byte first:
+ *        0  the rule count (2 bytes), `last` (2)
+ *        4  512 slots of 26 bytes in the order of the rules: number (2), lengths of left context, target, right context and
+ *           phones (1 each), then 6, 4, 6 and 4 bytes for them
+ *   13,316  the 32 classes 64 to 95, 8 bytes each: bit c of the number is set where letter c is in the class; 0 is undefined
+ *   13,572  how many literal rules there are (2)
+ *   13,574  512 places of 4 bytes, one for each literal rule in order: the place of its rule in the list (2), and which of
+ *           that rule's literal rules it is, from 0 (2)
+ * Bytes past a length mean nothing: an added rule keeps what was handed in, a rule that was read has zeros. Slots past the
+ * count and places past the literal rules mean nothing and keep what they held. So compare rulesets by their files, not by
+ * these bytes. The calls keep the literal rules in step with the rest; a host that writes these bytes itself has to, or
+ * every call refuses them with 0.
  */
 
-/* Makes the memory, whatever it holds, the empty ruleset with `last` 0. Refusal 0 where it is too short. */
+/* Makes the memory, whatever it holds, the empty ruleset with `last` 0 and no classes. Refusal 0 where it is too short. */
 PIRROZKETA_MUST_CHECK
 uint8_t pirrozketa_clear(uint8_t *image, size_t image_len);
 
@@ -176,7 +200,7 @@ uint16_t pirrozketa_last(const uint8_t *image, size_t image_len);
 
 /* Adds a rule before place p, counted from 0; p equal to the count puts it at the end. The rule is 24
    bytes: the lengths of left context, target, right context and phones, then 6, 4, 6 and 4 bytes for
-   them. *place: the refusal's place, or 0. Refusals 0, 6, 7, 9, 10. */
+   them. *place: the refusal's place, or 0. Refusals 0, 6, 20 (a class that is undefined), 7, 21, 10. */
 PIRROZKETA_MUST_CHECK
 uint8_t pirrozketa_add(uint8_t *image, size_t image_len, const uint8_t *rule, size_t rule_len, size_t p, size_t *place);
 
@@ -188,9 +212,15 @@ uint8_t pirrozketa_drop(uint8_t *image, size_t image_len, uint16_t number, size_
 PIRROZKETA_MUST_CHECK
 uint8_t pirrozketa_move(uint8_t *image, size_t image_len, uint16_t number, size_t p, size_t *place);
 
+/* Gives the class of a symbol, 64 to 95, these letters, 1 to 32 of them, strictly ascending, in place of those that it had. `last`
+   stays, and so do the tables (TABLES above). *place as above. Refusals 0, 20 (a fault of the class, or a rule uses it). */
+PIRROZKETA_MUST_CHECK
+uint8_t pirrozketa_set_class(uint8_t *image, size_t image_len, uint8_t symbol, const uint8_t *letters, size_t letters_len,
+                             size_t *place);
+
 /* ---- the rule file */
 
-/* Reads a rule file into the memory, whatever it holds; build the tables next. *place: the refusal's
+/* Reads a rule file, its classes too, into the memory, whatever it holds; build the tables next. *place: the refusal's
    place, or 0. Refusals 0 (memory too short), 13, 14. */
 PIRROZKETA_MUST_CHECK
 uint8_t pirrozketa_read_file(const uint8_t *file, size_t file_len, uint8_t *image, size_t image_len, size_t *place);
@@ -238,7 +268,7 @@ uint8_t pirrozketa_list_read_out(const uint32_t *list, size_t list_len, uint8_t 
 
 /* ---- the tables */
 
-/* Builds the tables of the ruleset as it is now: build again after every edit and every read of a file
+/* Builds the tables of the ruleset as it is now: build again after every add, drop and move and every read of a file
    (TABLES above). Lend no words to learn how many are needed, by refusal 11; the pointer is not null all
    the same. *place: the refusal's place, or 0. Refusals 0, 11, 12. */
 PIRROZKETA_MUST_CHECK

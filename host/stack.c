@@ -11,11 +11,11 @@
 #include <stdlib.h>
 #include <string.h>
 
-enum { LIMIT = 32768, STACK = 1 << 20, PAGE = 4096, PAINT = 0xA5, RULES = 512 };
+enum { LIMIT = 32768, STACK = 1 << 20, PAGE = 4096, PAINT = 0xA5, RULES = 512, CLASS = 64 };
 
 static uint8_t image[PIRROZKETA_IMAGE], copy[PIRROZKETA_IMAGE], file[PIRROZKETA_FILE];
 static uint32_t list[PIRROZKETA_LIST], full[PIRROZKETA_LIST];
-static uint8_t out[PIRROZKETA_READ_OUT];
+static uint8_t out[PIRROZKETA_READ_OUT], letters[PIRROZKETA_CLASS];
 static uint16_t words[PIRROZKETA_WORDS], numbers[PIRROZKETA_NUMBERS];
 static uint64_t sets[PIRROZKETA_SETS];
 static uint8_t names[1 + PIRROZKETA_NAME], *name = names + 1, phones[PIRROZKETA_PHONES];
@@ -80,10 +80,12 @@ static uint8_t speak_many(void)
                                  PIRROZKETA_REPLY, &count);
 }
 
+static uint8_t set_class(void) { return pirrozketa_set_class(copy, sizeof copy, CLASS + 1, letters, sizeof letters, &place); }
+
 /* In this order: `add` has room after `drop`, `read_file` reads what `write_file` wrote, `build_least` needs the counts. */
 static const struct { const char *name; uint8_t (*call)(void); } calls[] = {
     { "clear", clear }, { "check", check }, { "count", count_rules }, { "last", last }, { "drop", drop }, { "add", add },
-    { "move", move_rule }, { "write_file", write_file }, { "read_file", read_file }, { "build", build },
+    { "move", move_rule }, { "set_class", set_class }, { "write_file", write_file }, { "read_file", read_file }, { "build", build },
     { "build, least", build_least }, { "list_check", list_check }, { "list_names", list_names },
     { "list_states", list_states }, { "list_add", list_add }, { "list_read_out", list_read_out },
     { "list_remove", list_remove }, { "list_full", list_full }, { "list_clear", list_clear }, { "read_name", read_name },
@@ -127,14 +129,14 @@ static size_t used(uint8_t (*call)(void), uint8_t *stack)
 /* Long names, as many as the states have room for. */
 static void prepare_list(uint32_t *filled, size_t most)
 {
-    uint8_t letters[PIRROZKETA_NAME], said[PIRROZKETA_LISTED_PHONES];
+    uint8_t long_name[PIRROZKETA_NAME], said[PIRROZKETA_LISTED_PHONES];
     must(PIRROZKETA_OK(pirrozketa_list_clear(filled, PIRROZKETA_LIST)), "no empty list");
     memset(said, 9, sizeof said);
     for (size_t k = 0; k < most; k++) {
         uint8_t code;
-        for (size_t i = 0; i < sizeof letters; i++)
-            letters[i] = (uint8_t)(1 + rand() % 63);
-        code = pirrozketa_list_add(filled, PIRROZKETA_LIST, letters, sizeof letters, said, sizeof said, &place);
+        for (size_t i = 0; i < sizeof long_name; i++)
+            long_name[i] = (uint8_t)(1 + rand() % 63);
+        code = pirrozketa_list_add(filled, PIRROZKETA_LIST, long_name, sizeof long_name, said, sizeof said, &place);
         if (code == PIRROZKETA_LIST_FULL)
             return;
         must(PIRROZKETA_OK(code), "a name is not listed");
@@ -154,15 +156,19 @@ static void prepare_name(void)
          "a word is not listed");
 }
 
-/* 512 long rules; the last fits every a of the name. */
+/* 512 long rules with as many literal ones, since their class has one letter; the last fits every a of the name. */
 static void prepare(void)
 {
+    for (size_t k = 0; k < sizeof letters; k++)
+        letters[k] = (uint8_t)(1 + k);
     must(PIRROZKETA_OK(pirrozketa_clear(image, sizeof image)), "no empty ruleset");
+    must(PIRROZKETA_OK(pirrozketa_set_class(image, sizeof image, CLASS, letters, 1, &place)), "no class");
     srand(1);
     for (size_t k = 0; k < RULES; k++) {
         uint8_t longest[PIRROZKETA_RULE] = { 6, 4, 6, 4 };
         for (size_t i = 4; i < sizeof longest; i++)
             longest[i] = (uint8_t)(2 + rand() % 60);
+        longest[4] = CLASS;
         must(PIRROZKETA_OK(pirrozketa_add(image, sizeof image, k + 1 < RULES ? longest : rule, sizeof rule, k, &place)),
              "a rule is refused");
     }
