@@ -51,17 +51,6 @@ pub fn size_of(masks: &[u8], symbol: u8) -> usize
     size_in(mask_of(masks, symbol))
 }
 
-// Letter d of those that a symbol stands for.
-pub fn letter_of(masks: &[u8], symbol: u8, d: usize) -> u8
-    requires { ⌜ (masksSize ≤ length (now masks)) × (d < length (letters (classesIn (now masks)) symbol)) ⌝ }
-    ensures { λ r. ⌜ r ≡ getD (letters (classesIn (now (masks .entry))) symbol) d 0 ⌝ }
-{
-    if symbol < rules::FIRST_CLASS {
-        return symbol;
-    }
-    letter_in(mask_of(masks, symbol), d)
-}
-
 // The letter that a symbol stands for at q, counted round.
 pub fn letter_round(masks: &[u8], symbol: u8, q: usize) -> u8
     requires { ⌜ (masksSize ≤ length (now masks)) × (1 ≤ length (letters (classesIn (now masks)) symbol)) ⌝ }

@@ -7,7 +7,7 @@ ghost use lib.ListN.{length, take, drop};
 ghost use Rattle.rules.specs.Limits.{maxTarget};
 ghost use Rattle.classes.specs.Masks.{masksSize, classesIn};
 ghost use Rattle.image.specs.Image.{countOf, entriesOf, entryAt, masksIn, classesOf, valid};
-ghost use Rattle.reading.specs.Fitting.{same, starts, ends, sameBy, startsBy, endsBy, fitsBy};
+ghost use Rattle.reading.specs.Fitting.{same, starts, sameBy, startsBy, endsBy, fitsBy};
 ghost use Rattle.reading.specs.Reading.{passing};
 ghost use Rattle.reading.specs.Places.{FitAt};
 
@@ -41,17 +41,6 @@ pub fn starts_at(pattern: &[u8], frame: &[u8], i: usize) -> bool
         return false;
     }
     same_run(pattern, frame, i)
-}
-
-// Whether the frame before `i` ends with a pattern.
-pub fn ends_at(pattern: &[u8], frame: &[u8], i: usize) -> bool
-    requires { ⌜ i ≤ length (now frame) ⌝ }
-    ensures { λ r. ⌜ r ≡ ends (now (pattern .entry)) (take i (now (frame .entry))) ⌝ }
-{
-    if i < pattern.len() {
-        return false;
-    }
-    same_run(pattern, frame, i - pattern.len())
 }
 
 // Whether the symbols of a context stand for the letters of the frame from `at` on.
