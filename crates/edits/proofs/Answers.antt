@@ -9,7 +9,7 @@ use borrow.Author.Tests.{eq-eqb, ne-eqb, le-leb, lt-leb, lt-ltb, le-ltb}
 use lib.ListN.{length, take, drop}
 use lib.Dec.{leb}
 use Rattle.numbers.specs.Numbers.{bytes8}
-use Rattle.rules.specs.Limits.{maxRules, maxNumber, firstClass, maxSymbol}
+use Rattle.rules.specs.Limits.{maxRules, maxNumber, maxEdits, firstClass, maxSymbol}
 use Rattle.rules.specs.Memory.{overAt}
 use Rattle.rules.specs.Refusals.{Reply, accepted, declined}
 use Rattle.rules.specs.declared.Rule.{Rule}
@@ -18,7 +18,7 @@ use Rattle.classes.specs.Classes.{isClass, classShape}
 use Rattle.classes.specs.Masks.{maskSize, maskStart, maskOf, withMask}
 use Rattle.classes.specs.Setting.{listUses, settable}
 use Rattle.image.specs.State.{rulesOf, relist, insertAt, removeAt, relocated}
-use Rattle.image.specs.Image.{classStart, ledgerOf, entriesOf, masksIn, laid, settled, sound, valid, outcome, rulesIn, numberedAt, countOf, lastOf, Filled}
+use Rattle.image.specs.Image.{classStart, ledgerOf, entriesOf, masksIn, laid, settled, sound, valid, outcome, rulesIn, numberedAt, countOf, lastOf, editsOf, Filled}
 use Rattle.image.proofs.Laid.{length-removeAt}
 use Rattle.image.proofs.Scan.{here}
 use Rattle.image.proofs.Stored.{Fine, valid-fine}
@@ -71,10 +71,10 @@ module _ (d : List ℕ) (ok : valid d ≡ true) where
       pub add-below : lastOf d < maxNumber
       add-below = can .last
 
-      pub add-room : (p ≤ countOf d) × (countOf d < maxRules)
+      pub add-room : (p ≤ countOf d) × ((countOf d < maxRules) × (editsOf d < maxEdits))
       add-room = (
         omega (arith, can .place, long (countOf d) refl),
-        omega (arith, room (ledgerOf d) r p (valid-fine d ok .ruled) can, long (countOf d) refl),
+        (omega (arith, room (ledgerOf d) r p (valid-fine d ok .ruled) can, long (countOf d) refl), can .edits),
       )
 
       module _ (full : Filled r) (last : ℕ) (l : last ≡ lastOf d) (z : List ℕ)
@@ -101,21 +101,26 @@ module _ (d : List ℕ) (ok : valid d ≡ true) where
     unfolding judged
     drop-none u = no (Drop n) 8 0 (rw (found, long count c, le-ltb _ _ u))
 
-    module _ (u : k < count) where
-      drops : judged (ledgerOf d) (Drop n) ≡ accepted
+    module _ (u : k < count) (edits : ℕ) (m : edits ≡ editsOf d) where
+      pub drop-spent : maxEdits ≤ edits → outcome (declined 23 0) d ≡ edited d (Drop n)
       unfolding judged
-      drops = rw (found, long count c, lt-ltb _ _ u)
+      drop-spent v = no (Drop n) 23 0 (rw (found, long count c, lt-ltb _ _ u, ← m, le-ltb _ _ v))
 
-      module _ (z : List ℕ) (e : z ≡ laid (relist (ledgerOf d) (removeAt k (ledgerOf d .list)) (lastOf d)) d) where
-        dropped : z ≡ laid (applied (ledgerOf d) (Drop n)) d
-        dropped = e ∙ ap (λ (i : ℕ). laid (relist (ledgerOf d) (removeAt i (ledgerOf d .list)) (lastOf d)) d) (sym found)
+      module _ (v : edits < maxEdits) where
+        drops : judged (ledgerOf d) (Drop n) ≡ accepted
+        unfolding judged
+        drops = rw (found, long count c, lt-ltb _ _ u, ← m, lt-ltb _ _ v)
 
-        pub drop-sound : sound z ≡ true
-        drop-sound =
-            relisted (removeAt (placeOf n (ledgerOf d .list)) (ledgerOf d .list)) (lastOf d) (drop-fine (ledgerOf d) (valid-fine d ok) n drops) z dropped
+        module _ (z : List ℕ) (e : z ≡ laid (relist (ledgerOf d) (removeAt k (ledgerOf d .list)) (lastOf d)) d) where
+          dropped : z ≡ laid (applied (ledgerOf d) (Drop n)) d
+          dropped = e ∙ ap (λ (i : ℕ). laid (relist (ledgerOf d) (removeAt i (ledgerOf d .list)) (lastOf d)) d) (sym found)
 
-        pub drop-yes : (w : List ℕ) → w ≡ settled z → outcome accepted w ≡ edited d (Drop n)
-        drop-yes w q = yes (Drop n) drops w (q ∙ ap settled dropped)
+          pub drop-sound : sound z ≡ true
+          drop-sound =
+              relisted (removeAt (placeOf n (ledgerOf d .list)) (ledgerOf d .list)) (lastOf d) (drop-fine (ledgerOf d) (valid-fine d ok) n drops) z dropped
+
+          pub drop-yes : (w : List ℕ) → w ≡ settled z → outcome accepted w ≡ edited d (Drop n)
+          drop-yes w q = yes (Drop n) drops w (q ∙ ap settled dropped)
 
     module _ (p : ℕ) where
       pub move-none : count ≤ k → outcome (declined 8 0) d ≡ edited d (Move n p)
@@ -127,22 +132,27 @@ module _ (d : List ℕ) (ok : valid d ≡ true) where
         unfolding judged
         move-place v = no (Move n p) 7 0 (rw (found, long count c, lt-ltb _ _ u, rest u, lt-leb p (count - 1) (omega arith)))
 
-        module _ (v : p < count) where
-          moves : judged (ledgerOf d) (Move n p) ≡ accepted
+        module _ (v : p < count) (edits : ℕ) (m : edits ≡ editsOf d) where
+          pub move-spent : maxEdits ≤ edits → outcome (declined 23 0) d ≡ edited d (Move n p)
           unfolding judged
-          moves = rw (found, long count c, lt-ltb _ _ u, rest u, le-leb p (count - 1) (omega arith))
+          move-spent w = no (Move n p) 23 0 (rw (found, long count c, lt-ltb _ _ u, rest u, le-leb p (count - 1) (omega arith), ← m, le-ltb _ _ w))
 
-          module _ (z : List ℕ) (e : z ≡ laid (relist (ledgerOf d) (relocated k p (ledgerOf d .list)) (lastOf d)) d) where
-            moved : z ≡ laid (applied (ledgerOf d) (Move n p)) d
-            moved = e ∙ ap (λ (i : ℕ). laid (relist (ledgerOf d) (relocated i p (ledgerOf d .list)) (lastOf d)) d) (sym found)
+          module _ (w : edits < maxEdits) where
+            moves : judged (ledgerOf d) (Move n p) ≡ accepted
+            unfolding judged
+            moves = rw (found, long count c, lt-ltb _ _ u, rest u, le-leb p (count - 1) (omega arith), ← m, lt-ltb _ _ w)
 
-            pub move-sound : sound z ≡ true
-            move-sound =
-                relisted (relocated (placeOf n (ledgerOf d .list)) p (ledgerOf d .list)) (lastOf d)
-                (move-fine (ledgerOf d) (valid-fine d ok) n p moves) z moved
+            module _ (z : List ℕ) (e : z ≡ laid (relist (ledgerOf d) (relocated k p (ledgerOf d .list)) (lastOf d)) d) where
+              moved : z ≡ laid (applied (ledgerOf d) (Move n p)) d
+              moved = e ∙ ap (λ (i : ℕ). laid (relist (ledgerOf d) (relocated i p (ledgerOf d .list)) (lastOf d)) d) (sym found)
 
-            pub move-yes : (w : List ℕ) → w ≡ settled z → outcome accepted w ≡ edited d (Move n p)
-            move-yes w q = yes (Move n p) moves w (q ∙ ap settled moved)
+              pub move-sound : sound z ≡ true
+              move-sound =
+                  relisted (relocated (placeOf n (ledgerOf d .list)) p (ledgerOf d .list)) (lastOf d)
+                  (move-fine (ledgerOf d) (valid-fine d ok) n p moves) z moved
+
+              pub move-yes : (t : List ℕ) → t ≡ settled z → outcome accepted t ≡ edited d (Move n p)
+              move-yes t q = yes (Move n p) moves t (q ∙ ap settled moved)
 
   module _ (c : ℕ) (l : List ℕ) where
     unsettable : settable (rulesOf (ledgerOf d)) c l ≡ false → outcome (declined 20 0) d ≡ edited d (SetClass c l)

@@ -9,7 +9,7 @@ use borrow.Author.Tests.{le-leb, leb-true, ltb-true}
 use lib.ListN.{length, getD, length-map}
 use lib.Dec.{leb, ltb}
 use Rattle.rules.proofs.Cases.{and-l, and-r, and-i}
-use Rattle.rules.specs.Limits.{maxRules, maxNumber}
+use Rattle.rules.specs.Limits.{maxRules, maxNumber, maxEdits}
 use Rattle.rules.specs.Shape.{shape, view, Entry, entryOf}
 use Rattle.rules.specs.Refusals.{Reply, accepted, declined}
 use Rattle.rules.specs.declared.Rule.{Rule}
@@ -96,6 +96,7 @@ pub record Addable (g : Ledger) (r : Rule) (p : ℕ) : Type 0 where
   pub place : p ≤ length (g .list)
   pub few : literalCount (g .classes) (view r) + literalTotal (g .classes) (rulesOf g) ≤ maxRules
   pub last : g .last < maxNumber
+  pub edits : g .edits < maxEdits
 
 pub addable : (g : Ledger) (r : Rule) (p : ℕ) → judged g (Add r p) ≡ accepted → Addable g r p
 unfolding judged
@@ -110,6 +111,7 @@ addable g r p j =
       place = leb-true _ _ (acc-l (leb p (length (g .list))) _ _ _ b);
       few = leb-true _ _ (acc-l t _ _ _ c);
       last = ltb-true _ _ (acc-l (ltb (g .last) maxNumber) _ _ _ (acc-r t _ _ _ c));
+      edits = ltb-true _ _ (acc-l (ltb (g .edits) maxEdits) _ _ _ (acc-r (ltb (g .last) maxNumber) _ _ _ (acc-r t _ _ _ c)));
     }
 
 -- a rule that brings a literal rule more needs a slot more, and there is one

@@ -11,7 +11,7 @@ use lib.Seq.{length-take-le}
 use lib.Dec.{leb}
 use Rattle.rules.proofs.Cases.{byBool}
 use Rattle.rules.proofs.Laws.{length-first, first-take}
-use Rattle.rules.specs.Limits.{maxRules, maxNumber, maxContext}
+use Rattle.rules.specs.Limits.{maxRules, maxNumber, maxEdits, maxContext}
 use Rattle.rules.specs.Shape.{shape, view}
 use Rattle.rules.specs.Refusals.{accepted, declined}
 use Rattle.rules.specs.declared.Rule.{Rule}
@@ -21,7 +21,7 @@ use Rattle.classes.specs.Expansion.{size, literalCount, literalTotal}
 use Rattle.classes.specs.Masks.{masksSize, classesIn}
 use Rattle.classes.proofs.Counts.{defined-count}
 use Rattle.image.specs.State.{Ledger, rulesOf}
-use Rattle.image.specs.Image.{imageSize, classStart, ledgerOf, entriesOf, classesOf, masksIn, valid, countOf, totalOf}
+use Rattle.image.specs.Image.{headSize, imageSize, classStart, ledgerOf, entriesOf, classesOf, masksIn, valid, countOf, totalOf}
 use Rattle.image.proofs.Entries.{shaped}
 use Rattle.image.proofs.Origins.{tabled-total}
 use Rattle.image.proofs.Scan.{length-listed}
@@ -101,13 +101,18 @@ module _ (g : Ledger) (r : Rule) (p : ℕ) where
           unfolding judged
           add-last y = rw (h, has, ← l, le-leb p count v, ← t, few, ← e, le-ltb last maxNumber y)
 
-          pub add-accepted : last < maxNumber → accepted ≡ judged g (Add r p)
-          unfolding judged
-          add-accepted y = rw (h, has, ← l, le-leb p count v, ← t, few, ← e, lt-ltb last maxNumber y)
+          module _ (y : last < maxNumber) (edits : ℕ) (m : edits ≡ g .edits) where
+            pub add-spent : maxEdits ≤ edits → declined 23 0 ≡ judged g (Add r p)
+            unfolding judged
+            add-spent z = rw (h, has, ← l, le-leb p count v, ← t, few, ← e, lt-ltb last maxNumber y, ← m, le-ltb edits maxEdits z)
+
+            pub add-accepted : edits < maxEdits → accepted ≡ judged g (Add r p)
+            unfolding judged
+            add-accepted z = rw (h, has, ← l, le-leb p count v, ← t, few, ← e, lt-ltb last maxNumber y, ← m, lt-ltb edits maxEdits z)
 
 -- count and total of an image are those of its rules
 pub count-is : (d : List ℕ) → countOf d ≡ length (ledgerOf d .list)
-count-is d = sym (length-listed (countOf d) (drop 4 d))
+count-is d = sym (length-listed (countOf d) (drop headSize d))
 
 pub total-is : (d : List ℕ) → valid d ≡ true → totalOf d ≡ literalTotal (classesOf d) (rulesOf (ledgerOf d))
 unfolding entriesOf

@@ -1,4 +1,4 @@
-// The edits of a ruleset in lent memory, in place (document 01, "The ledger"; document 02, request 5).
+// The edits of a ruleset in lent memory, in place (document 01, "The ledger"; document 02, requests 5 and 6).
 use rules::Answer;
 use rules::Numbered;
 use rules::Refusal;
@@ -65,6 +65,9 @@ fn judge_add(image: &[u8], rule: Rule, p: usize) -> Answer
     if rules::MAX_NUMBER <= image::last_issued(image) {
         return Answer::Refused(Refusal::LastIssued(0));
     }
+    if rules::MAX_EDITS <= image::edit_count(image) {
+        return Answer::Refused(Refusal::EditsSpent(0));
+    }
     Answer::Accepted
 }
 
@@ -98,6 +101,9 @@ pub fn drop_rule(image: &mut [u8], number: u16) -> Answer
     if count <= k {
         return Answer::Refused(Refusal::NoNumber(0));
     }
+    if rules::MAX_EDITS <= image::edit_count(image) {
+        return Answer::Refused(Refusal::EditsSpent(0));
+    }
     image::slots::remove(image, k);
     image::table::settle(image);
     Answer::Accepted
@@ -117,6 +123,9 @@ pub fn move_rule(image: &mut [u8], number: u16, p: usize) -> Answer
     }
     if count <= p {
         return Answer::Refused(Refusal::Place(0));
+    }
+    if rules::MAX_EDITS <= image::edit_count(image) {
+        return Answer::Refused(Refusal::EditsSpent(0));
     }
     image::slots::relocate(image, k, p);
     image::table::settle(image);

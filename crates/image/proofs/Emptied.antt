@@ -13,7 +13,7 @@ use Rattle.classes.specs.Classes.{noClasses}
 use Rattle.classes.specs.Masks.{masksSize, masksOf}
 use Rattle.classes.proofs.Bytes.{masks-none, length-masks}
 use Rattle.image.specs.State.{start}
-use Rattle.image.specs.Image.{imageSize, classStart, totalStart, tableStart, countOf, rulesIn, entriesOf, classesOf, tableBytes, withHead, withClasses, settled, whole}
+use Rattle.image.specs.Image.{headSize, imageSize, classStart, totalStart, tableStart, countOf, rulesIn, entriesOf, classesOf, tableBytes, withHead, withClasses, settled, whole}
 use Rattle.image.proofs.Front.{two-same}
 use Rattle.image.proofs.Settling.{over-front, at-front}
 
@@ -26,13 +26,13 @@ over-after a b x y d e h =
 
 module _ (d : List ℕ) (h : imageSize ≤ length d) where
   abbrev headed : List ℕ
-  headed = withHead 0 0 d
+  headed = withHead 0 0 0 d
 
   abbrev classless : List ℕ
   classless = withClasses noClasses headed
 
   headed-long : imageSize ≤ length headed
-  headed-long = omega (arith, length-drop 4 d)
+  headed-long = omega (arith, length-drop headSize d)
 
   none-counted : countOf classless ≡ 0
   none-counted =

@@ -6,12 +6,12 @@ use mathlib.Core.List.{List, [], _∷_}
 use native.Mathlib.Omega.{arith}
 use lib.ListN.{length, getD, take, drop}
 use lib.Seq.{getD-take, take-nil, drop-nil, take-take, drop-drop}
-use Rattle.numbers.specs.Numbers.{two}
+use Rattle.numbers.specs.Numbers.{two, four}
 use Rattle.rules.specs.Limits.{maxRules}
 use Rattle.rules.specs.declared.Numbered.{Numbered}
 use Rattle.classes.specs.Masks.{classesIn}
 use Rattle.image.specs.State.{Ledger}
-use Rattle.image.specs.Image.{headSize, slotSize, classStart, totalStart, slotOf, listed, rulesIn, countOf, lastOf, masksIn, classesOf, ledgerOf}
+use Rattle.image.specs.Image.{headSize, slotSize, classStart, totalStart, slotOf, listed, rulesIn, countOf, lastOf, editsOf, masksIn, classesOf, ledgerOf}
 
 take-drop : (n m : ℕ) (l : List ℕ) → take m (drop n l) ≡ drop n (take (n + m) l)
 take-drop zero m l = let e : 0 + m ≡ m = omega arith in ap (λ (k : ℕ). take k l) (sym e)
@@ -33,6 +33,10 @@ module _ (N : ℕ) (z d : List ℕ) (e : take N z ≡ take N d) where
 
   pub two-same : (k : ℕ) → k + 1 < N → two k z ≡ two k d
   two-same k h = ap₂ (λ (a b : ℕ). 256 * a + b) (byte-same k (omega arith)) (byte-same (k + 1) h)
+
+  pub four-same : (k : ℕ) → k + 3 < N → four k z ≡ four k d
+  four-same k h =
+      rw (byte-same k (omega arith), byte-same (k + 1) (omega arith), byte-same (k + 2) (omega arith), byte-same (k + 3) h)
 
 slot-same : (s t : List ℕ) → take slotSize s ≡ take slotSize t → slotOf s ≡ slotOf t
 unfolding slotOf
@@ -61,7 +65,7 @@ listed-same (suc n) s t e =
     (listed-same n (drop slotSize s) (drop slotSize t) (part-same (slotSize * suc n) s t e slotSize (slotSize * n) (omega arith)))
 
 module _ (z d : List ℕ) (few : countOf d ≤ maxRules) where
-  -- the same bytes before the classes: the same rules and last number
+  -- the same bytes before the classes: the same rules, last number and edit count
   module _ (e : take classStart z ≡ take classStart d) where
     pub count-same : countOf z ≡ countOf d
     count-same = two-same classStart z d e 0 (omega arith)
@@ -69,13 +73,16 @@ module _ (z d : List ℕ) (few : countOf d ≤ maxRules) where
     pub last-same : lastOf z ≡ lastOf d
     last-same = two-same classStart z d e 2 (omega arith)
 
+    pub edits-same : editsOf z ≡ editsOf d
+    edits-same = four-same classStart z d e 4 (omega arith)
+
     pub rules-same : rulesIn (countOf z) z ≡ rulesIn (countOf d) d
     rules-same =
         ap (λ (n : ℕ). rulesIn n z) count-same
         ∙ listed-same (countOf d) (drop headSize z) (drop headSize d) (part-same classStart z d e headSize (slotSize * countOf d) (omega arith))
 
     pub ledger-by : classesOf z ≡ classesOf d → ledgerOf z ≡ ledgerOf d
-    ledger-by k = rw (rules-same, last-same, k)
+    ledger-by k = rw (rules-same, last-same, k, edits-same)
 
   -- the same bytes before the table: the same state
   pub ledger-same : take totalStart z ≡ take totalStart d → ledgerOf z ≡ ledgerOf d

@@ -9,7 +9,7 @@ use lib.Seq.{paste, take-paste, drop-paste, take-at, drop-at, take-take, take-ad
 use Rattle.rules.specs.Limits.{maxRules}
 use Rattle.rules.specs.declared.Numbered.{Numbered}
 use Rattle.image.specs.State.{Ledger, relist, noNumbered, insertAt, removeAt, relocated}
-use Rattle.image.specs.Image.{headSize, slotSize, imageSize, slotOf, bytesOf, slotStart, listed, flat, headOf, ledgerOf, laid, withHead, withRule, rulesIn, numberedAt, countOf, lastOf}
+use Rattle.image.specs.Image.{headSize, slotSize, imageSize, slotOf, bytesOf, slotStart, listed, flat, headOf, ledgerOf, laid, withHead, withRule, rulesIn, numberedAt, countOf, lastOf, editsOf}
 use Rattle.image.proofs.Scan.{length-listed, slot-get}
 
 -- each element is a byte
@@ -121,15 +121,15 @@ run img a m = take (slotSize * m) (drop (slotStart a) img)
 
 module _ (img : List ℕ) (small : Small img) (n : ℕ) (fits : slotStart n ≤ length img) where
   -- the slots of the first p rules
-  front : (p : ℕ) → p ≤ n → flat (take p (rulesIn n img)) ≡ take (slotSize * p) (drop 4 img)
+  front : (p : ℕ) → p ≤ n → flat (take p (rulesIn n img)) ≡ take (slotSize * p) (drop headSize img)
   front p h =
-      ap flat (take-listed p n (drop 4 img) h)
-      ∙ flat-listed p (drop 4 img) (small-drop 4 img small) (simp length-drop (omega arith))
+      ap flat (take-listed p n (drop headSize img) h)
+      ∙ flat-listed p (drop headSize img) (small-drop headSize img small) (simp length-drop (omega arith))
 
   back-at : (a m : ℕ) → a + m ≡ n → drop a (rulesIn n img) ≡ listed m (drop (slotStart a) img)
   back-at a m e =
-      ap (λ (k : ℕ). drop a (listed k (drop 4 img))) (sym e)
-      ∙ (drop-listed a m (drop 4 img) ∙ ap (listed m) (drop-drop (slotSize * a) 4 img))
+      ap (λ (k : ℕ). drop a (listed k (drop headSize img))) (sym e)
+      ∙ (drop-listed a m (drop headSize img) ∙ ap (listed m) (drop-drop (slotSize * a) headSize img))
 
   middle : (a q m : ℕ) → a + m ≡ n → q ≤ m → flat (take q (drop a (rulesIn n img))) ≡ run img a q
   middle a q m e h =
@@ -148,48 +148,48 @@ module _ (img : List ℕ) (small : Small img) (n : ℕ) (fits : slotStart n ≤ 
 
   -- the body of the image once a rule was put in, was taken out, or was moved
   pub insert-body : (p m : ℕ) (x : Numbered) → p + m ≡ n
-      → flat (insertAt p x (rulesIn n img)) ≡ take (slotSize * p) (drop 4 img) ++ (bytesOf x ++ run img p m)
+      → flat (insertAt p x (rulesIn n img)) ≡ take (slotSize * p) (drop headSize img) ++ (bytesOf x ++ run img p m)
   insert-body p m x e =
-      ap flat (insert-split p x (rulesIn n img) (omega (arith, length-listed n (drop 4 img))))
+      ap flat (insert-split p x (rulesIn n img) (omega (arith, length-listed n (drop headSize img))))
       ∙ (flat-append (take p (rulesIn n img)) (x ∷ drop p (rulesIn n img))
       ∙ ap₂ (λ (u v : List ℕ). u ++ (bytesOf x ++ v)) (front p (omega arith))
       (ap flat (back-at p m e) ∙ flat-listed m (drop (slotStart p) img) (small-drop (slotStart p) img small) (simp length-drop (omega arith))))
 
   pub remove-body : (k m : ℕ) → suc k + m ≡ n
-      → flat (removeAt k (rulesIn n img)) ≡ take (slotSize * k) (drop 4 img) ++ run img (suc k) m
+      → flat (removeAt k (rulesIn n img)) ≡ take (slotSize * k) (drop headSize img) ++ run img (suc k) m
   remove-body k m e =
-      ap flat (remove-split k (rulesIn n img) (omega (arith, length-listed n (drop 4 img))))
+      ap flat (remove-split k (rulesIn n img) (omega (arith, length-listed n (drop headSize img))))
       ∙ (flat-append (take k (rulesIn n img)) (drop (suc k) (rulesIn n img))
       ∙ ap₂ _++_ (front k (omega arith))
       (ap flat (back-at (suc k) m e) ∙ flat-listed m (drop (slotStart (suc k)) img) (small-drop (slotStart (suc k)) img small) (simp length-drop (omega arith))))
 
   pub up-body : (k q : ℕ) (x : Numbered) → k + q < n
       → flat (insertAt (k + q) x (removeAt k (rulesIn n img))) ++ drop (slotStart n) img
-      ≡ take (slotSize * k) (drop 4 img) ++ (run img (suc k) q ++ (bytesOf x ++ drop (slotStart (suc (k + q))) img))
+      ≡ take (slotSize * k) (drop headSize img) ++ (run img (suc k) q ++ (bytesOf x ++ drop (slotStart (suc (k + q))) img))
   up-body k q x h =
       let l : List Numbered = rulesIn n img in
-      ap (λ (t : List Numbered). flat t ++ drop (slotStart n) img) (move-up k q x l (omega (arith, length-listed n (drop 4 img))))
+      ap (λ (t : List Numbered). flat t ++ drop (slotStart n) img) (move-up k q x l (omega (arith, length-listed n (drop headSize img))))
       ∙ (ap (λ (t : List ℕ). t ++ drop (slotStart n) img)
       (flat-append (take k l) (take q (drop (suc k) l) ++ (x ∷ drop (suc (k + q)) l))
       ∙ ap₂ _++_ (front k (omega arith))
       (flat-append (take q (drop (suc k) l)) (x ∷ drop (suc (k + q)) l)
       ∙ ap (λ (t : List ℕ). t ++ (bytesOf x ++ flat (drop (suc (k + q)) l))) (middle (suc k) q (n - suc k) (omega arith) (omega arith))))
       ∙ (simp append-assoc
-      (ap (λ (t : List ℕ). take (slotSize * k) (drop 4 img) ++ (run img (suc k) q ++ (bytesOf x ++ t))) (rest (suc (k + q)) (n - suc (k + q)) (omega arith)))))
+      (ap (λ (t : List ℕ). take (slotSize * k) (drop headSize img) ++ (run img (suc k) q ++ (bytesOf x ++ t))) (rest (suc (k + q)) (n - suc (k + q)) (omega arith)))))
 
   pub down-body : (p q : ℕ) (x : Numbered) → p + q < n
       → flat (insertAt p x (removeAt (p + q) (rulesIn n img))) ++ drop (slotStart n) img
-      ≡ take (slotSize * p) (drop 4 img) ++ (bytesOf x ++ (run img p q ++ drop (slotStart (suc (p + q))) img))
+      ≡ take (slotSize * p) (drop headSize img) ++ (bytesOf x ++ (run img p q ++ drop (slotStart (suc (p + q))) img))
   down-body p q x h =
       let l : List Numbered = rulesIn n img in
-      ap (λ (t : List Numbered). flat t ++ drop (slotStart n) img) (move-down p q x l (omega (arith, length-listed n (drop 4 img))))
+      ap (λ (t : List Numbered). flat t ++ drop (slotStart n) img) (move-down p q x l (omega (arith, length-listed n (drop headSize img))))
       ∙ (ap (λ (t : List ℕ). t ++ drop (slotStart n) img)
       (flat-append (take p l) (x ∷ (take q (drop p l) ++ drop (suc (p + q)) l))
       ∙ ap₂ (λ (u v : List ℕ). u ++ (bytesOf x ++ v)) (front p (omega arith))
       (flat-append (take q (drop p l)) (drop (suc (p + q)) l)
       ∙ ap (λ (t : List ℕ). t ++ flat (drop (suc (p + q)) l)) (middle p q (n - p) (omega arith) (omega arith))))
       ∙ (simp append-assoc
-      (ap (λ (t : List ℕ). take (slotSize * p) (drop 4 img) ++ (bytesOf x ++ (run img p q ++ t))) (rest (suc (p + q)) (n - suc (p + q)) (omega arith)))))
+      (ap (λ (t : List ℕ). take (slotSize * p) (drop headSize img) ++ (bytesOf x ++ (run img p q ++ t))) (rest (suc (p + q)) (n - suc (p + q)) (omega arith)))))
 
 -- ---- the bytes after the copies
 
@@ -205,17 +205,17 @@ drop-from d at t n u =
     ∙ drop-at (take at d) (take n t ++ drop (at + n) d) at (length-take-le at d u)
 
 -- the head goes
-headless : (d : List ℕ) (q : ℕ) (r : List ℕ) → 4 + q ≤ length d → drop 4 (take (4 + q) d ++ r) ≡ take q (drop 4 d) ++ r
+headless : (d : List ℕ) (q : ℕ) (r : List ℕ) → headSize + q ≤ length d → drop headSize (take (headSize + q) d ++ r) ≡ take q (drop headSize d) ++ r
 headless d q r h =
-    let l : length (take 4 d) ≡ 4 = length-take-le 4 d (omega arith) in
-    ap (λ (t : List ℕ). drop 4 (t ++ r)) (take-add 4 q d)
-    ∙ (ap (drop 4) (append-assoc (take 4 d) (take q (drop 4 d)) r) ∙ drop-at (take 4 d) (take q (drop 4 d) ++ r) 4 l)
+    let l : length (take headSize d) ≡ headSize = length-take-le headSize d (omega arith) in
+    ap (λ (t : List ℕ). drop headSize (t ++ r)) (take-add headSize q d)
+    ∙ (ap (drop headSize) (append-assoc (take headSize d) (take q (drop headSize d)) r) ∙ drop-at (take headSize d) (take q (drop headSize d) ++ r) headSize l)
 
 -- q slots from place p on are moved up by one, and y is put at p
 pub opened : (d e f : List ℕ) (p q m : ℕ) (y : List ℕ) → slotStart (suc (p + q)) ≤ length d → m ≡ slotSize * q
     → e ≡ paste d (slotStart p + 26) (drop (slotStart p) d) m
     → f ≡ take (slotStart p) e ++ (y ++ drop (slotStart p + 26) e)
-    → drop 4 f ≡ take (slotSize * p) (drop 4 d) ++ (y ++ (run d p q ++ drop (slotStart (suc (p + q))) d))
+    → drop headSize f ≡ take (slotSize * p) (drop headSize d) ++ (y ++ (run d p q ++ drop (slotStart (suc (p + q))) d))
 opened d e f p q m y h z u v =
     let w : slotStart p + 26 + m ≡ slotStart (suc (p + q)) = omega arith in
     let a : take (slotStart p) e ≡ take (slotStart p) d =
@@ -223,26 +223,26 @@ opened d e f p q m y h z u v =
     let b : drop (slotStart p + 26) e ≡ run d p q ++ drop (slotStart (suc (p + q))) d =
     ap (drop (slotStart p + 26)) u ∙ (drop-from d (slotStart p + 26) (drop (slotStart p) d) m (omega arith)
     ∙ ap₂ (λ (i j : ℕ). take i (drop (slotStart p) d) ++ drop j d) z w) in
-    ap (drop 4) (v ∙ ap₂ (λ (s t : List ℕ). s ++ (y ++ t)) a b)
+    ap (drop headSize) (v ∙ ap₂ (λ (s t : List ℕ). s ++ (y ++ t)) a b)
     ∙ headless d (slotSize * p) (y ++ (run d p q ++ drop (slotStart (suc (p + q))) d)) (omega arith)
 
 -- q slots after place k are moved down by one
 pub closed : (d e : List ℕ) (k q m : ℕ) → slotStart (suc (k + q)) ≤ length d → m ≡ slotSize * q
     → e ≡ paste d (slotStart k) (drop (slotStart k + 26) d) m
-    → drop 4 e ≡ take (slotSize * k) (drop 4 d) ++ (run d (suc k) q ++ drop (slotStart (k + q)) d)
+    → drop headSize e ≡ take (slotSize * k) (drop headSize d) ++ (run d (suc k) q ++ drop (slotStart (k + q)) d)
 closed d e k q m h z u =
     let w : slotStart k + m ≡ slotStart (k + q) = omega arith in
     let s : slotStart k + 26 ≡ slotStart (suc k) = omega arith in
-    ap (drop 4) (u ∙ (append-assoc (take (slotStart k) d) (take m (drop (slotStart k + 26) d)) (drop (slotStart k + m) d)
+    ap (drop headSize) (u ∙ (append-assoc (take (slotStart k) d) (take m (drop (slotStart k + 26) d)) (drop (slotStart k + m) d)
     ∙ ap₂ (λ (i j : ℕ). take (slotStart k) d ++ (take m (drop i d) ++ drop j d)) s w))
     ∙ (headless d (slotSize * k) (take m (drop (slotStart (suc k)) d) ++ drop (slotStart (k + q)) d) (omega arith)
-    ∙ ap (λ (i : ℕ). take (slotSize * k) (drop 4 d) ++ (take i (drop (slotStart (suc k)) d) ++ drop (slotStart (k + q)) d)) z)
+    ∙ ap (λ (i : ℕ). take (slotSize * k) (drop headSize d) ++ (take i (drop (slotStart (suc k)) d) ++ drop (slotStart (k + q)) d)) z)
 
 -- the same, with y then put where they end
 pub closed-put : (d e f : List ℕ) (k q m : ℕ) (y : List ℕ) → slotStart (suc (k + q)) ≤ length d → m ≡ slotSize * q
     → e ≡ paste d (slotStart k) (drop (slotStart k + 26) d) m
     → f ≡ take (slotStart (k + q)) e ++ (y ++ drop (slotStart (k + q) + 26) e)
-    → drop 4 f ≡ take (slotSize * k) (drop 4 d) ++ (run d (suc k) q ++ (y ++ drop (slotStart (suc (k + q))) d))
+    → drop headSize f ≡ take (slotSize * k) (drop headSize d) ++ (run d (suc k) q ++ (y ++ drop (slotStart (suc (k + q))) d))
 closed-put d e f k q m y h z u v =
     let w : slotStart k + m ≡ slotStart (k + q) = omega arith in
     let s : slotStart k + 26 ≡ slotStart (suc k) = omega arith in
@@ -255,41 +255,41 @@ closed-put d e f k q m y h z u v =
     ap₂ drop (sym w) u ∙ (drop-paste d (slotStart k) (drop (slotStart k + 26) d) m (omega arith) g ∙ ap (λ (i : ℕ). drop i d) w) in
     let b′ : drop (slotStart (k + q) + 26) e ≡ drop (slotStart (suc (k + q))) d =
     sym (drop-drop slotSize (slotStart (k + q)) e) ∙ (ap (drop 26) b ∙ (drop-drop slotSize (slotStart (k + q)) d ∙ ap (λ (i : ℕ). drop i d) o)) in
-    ap (drop 4) (v ∙ (ap₂ (λ (i j : List ℕ). i ++ (y ++ j)) a b′ ∙ append-assoc (take (slotStart k) d) (run d (suc k) q) (y ++ drop (slotStart (suc (k + q))) d)))
+    ap (drop headSize) (v ∙ (ap₂ (λ (i j : List ℕ). i ++ (y ++ j)) a b′ ∙ append-assoc (take (slotStart k) d) (run d (suc k) q) (y ++ drop (slotStart (suc (k + q))) d)))
     ∙ headless d (slotSize * k) (run d (suc k) q ++ (y ++ drop (slotStart (suc (k + q))) d)) (omega arith)
 
 -- ---- the state laid in the image
 
-laid-by : (g : Ledger) (d f e : List ℕ) (n l : ℕ) → length (g .list) ≡ n → g .last ≡ l → e ≡ headOf n l ++ drop 4 f
-    → drop 4 f ≡ flat (g .list) ++ drop (slotStart n) d → e ≡ laid g d
-laid-by g d f e n l a b h u =
-    h ∙ (ap (λ (t : List ℕ). headOf n l ++ t) u
-    ∙ ap₂ (λ (i j : ℕ). headOf i j ++ (flat (g .list) ++ drop (slotStart i) d)) (sym a) (sym b))
+laid-by : (g : Ledger) (d f e : List ℕ) (n : ℕ) → length (g .list) ≡ n → e ≡ headOf n (g .last) (g .edits) ++ drop headSize f
+    → drop headSize f ≡ flat (g .list) ++ drop (slotStart n) d → e ≡ laid g d
+laid-by g d f e n a h u =
+    h ∙ (ap (λ (t : List ℕ). headOf n (g .last) (g .edits) ++ t) u
+    ∙ ap (λ (i : ℕ). headOf i (g .last) (g .edits) ++ (flat (g .list) ++ drop (slotStart i) d)) (sym a))
 
-module _ (d : List ℕ) (small : Small d) (fits : imageSize ≤ length d) (count : ℕ) (c : count ≡ countOf d) where
+module _ (d : List ℕ) (small : Small d) (fits : imageSize ≤ length d) (count : ℕ) (c : count ≡ countOf d) (edits : ℕ) (m : edits ≡ editsOf d) where
   same-list : rulesIn count d ≡ ledgerOf d .list
   same-list = ap (λ (n : ℕ). rulesIn n d) c
 
   -- the state that stands in the memory afterwards, by its list from the first `count` slots
-  laid-as : (change : List Numbered → List Numbered) (last : ℕ) (f z : List ℕ) (n : ℕ) → length (change (rulesIn count d)) ≡ n → z ≡ withHead n last f
+  laid-as : (change : List Numbered → List Numbered) (last : ℕ) (f z : List ℕ) (n : ℕ) → length (change (rulesIn count d)) ≡ n → z ≡ withHead n last (edits + 1) f
       → drop headSize f ≡ flat (change (rulesIn count d)) ++ drop (slotStart n) d → z ≡ laid (relist (ledgerOf d) (change (ledgerOf d .list)) last) d
   laid-as change last f z n long hz u =
-      laid-by (relist (ledgerOf d) (change (rulesIn count d)) last) d f z n last long refl hz u
+      laid-by (relist (ledgerOf d) (change (rulesIn count d)) last) d f z n long (hz ∙ ap (λ (i : ℕ). withHead n last (i + 1) f) m) u
       ∙ ap (λ (l : List Numbered). laid (relist (ledgerOf d) (change l) last) d) same-list
 
   pub insert-laid : (x : Numbered) (last p : ℕ) (e f z : List ℕ) → p ≤ count → count < maxRules
       → e ≡ paste d (slotStart p + slotSize) (drop (slotStart p) d) (slotSize * (count - p))
       → f ≡ withRule p x e
-      → z ≡ withHead (count + 1) last f
+      → z ≡ withHead (count + 1) last (edits + 1) f
       → z ≡ laid (relist (ledgerOf d) (insertAt p x (ledgerOf d .list)) last) d
   insert-laid x last p e f z hp hn he hf hz =
       let k : p + (count - p) ≡ count = omega arith in
       let s : slotStart (suc (p + (count - p))) ≡ slotStart (count + 1) = omega arith in
       laid-as (insertAt p x) last f z (count + 1)
-      (length-insertAt p x (rulesIn count d) (omega (arith, length-listed count (drop 4 d))) ∙ ap (λ (i : ℕ). i + 1) (length-listed count (drop 4 d)))
+      (length-insertAt p x (rulesIn count d) (omega (arith, length-listed count (drop headSize d))) ∙ ap (λ (i : ℕ). i + 1) (length-listed count (drop headSize d)))
       hz
       (opened d e f p (count - p) (slotSize * (count - p)) (bytesOf x) (omega arith) refl he hf
-      ∙ (ap (λ (i : ℕ). take (slotSize * p) (drop 4 d) ++ (bytesOf x ++ (run d p (count - p) ++ drop i d))) s
+      ∙ (ap (λ (i : ℕ). take (slotSize * p) (drop headSize d) ++ (bytesOf x ++ (run d p (count - p) ++ drop i d))) s
       ∙ (simp append-assoc refl
       ∙ ap (λ (t : List ℕ). t ++ drop (slotStart (count + 1)) d) (sym (insert-body d small count (omega arith) p (count - p) x k)))))
 
@@ -298,22 +298,22 @@ module _ (d : List ℕ) (small : Small d) (fits : imageSize ≤ length d) (count
     same-last list = ap (λ (n : ℕ). laid (relist (ledgerOf d) list n) d) l
 
     removed-long : length (removeAt k (rulesIn count d)) ≡ count - 1
-    removed-long = length-removeAt k (rulesIn count d) (omega (arith, length-listed count (drop 4 d))) ∙ ap (λ (i : ℕ). i - 1) (length-listed count (drop 4 d))
+    removed-long = length-removeAt k (rulesIn count d) (omega (arith, length-listed count (drop headSize d))) ∙ ap (λ (i : ℕ). i - 1) (length-listed count (drop headSize d))
 
     pub remove-laid : (e z : List ℕ) → e ≡ paste d (slotStart k) (drop (slotStart k + slotSize) d) (slotSize * (count - 1 - k))
-        → z ≡ withHead (count - 1) last e
+        → z ≡ withHead (count - 1) last (edits + 1) e
         → z ≡ laid (relist (ledgerOf d) (removeAt k (ledgerOf d .list)) (lastOf d)) d
     remove-laid e z he hz =
         let s : slotStart (k + (count - 1 - k)) ≡ slotStart (count - 1) = omega arith in
         let j : suc k + (count - 1 - k) ≡ count = omega arith in
         laid-as (removeAt k) last e z (count - 1) removed-long hz
         (closed d e k (count - 1 - k) (slotSize * (count - 1 - k)) (omega arith) refl he
-        ∙ (ap (λ (i : ℕ). take (slotSize * k) (drop 4 d) ++ (run d (suc k) (count - 1 - k) ++ drop i d)) s
-        ∙ (sym (append-assoc (take (slotSize * k) (drop 4 d)) (run d (suc k) (count - 1 - k)) (drop (slotStart (count - 1)) d))
+        ∙ (ap (λ (i : ℕ). take (slotSize * k) (drop headSize d) ++ (run d (suc k) (count - 1 - k) ++ drop i d)) s
+        ∙ (sym (append-assoc (take (slotSize * k) (drop headSize d)) (run d (suc k) (count - 1 - k)) (drop (slotStart (count - 1)) d))
         ∙ ap (λ (t : List ℕ). t ++ drop (slotStart (count - 1)) d) (sym (remove-body d small count (omega arith) k (count - 1 - k) j)))))
         ∙ same-last (removeAt k (ledgerOf d .list))
 
-    module _ (p : ℕ) (hp : p < count) (x : Numbered) (is : x ≡ numberedAt d k) (f z : List ℕ) (hz : z ≡ withHead count last f) where
+    module _ (p : ℕ) (hp : p < count) (x : Numbered) (is : x ≡ numberedAt d k) (f z : List ℕ) (hz : z ≡ withHead count last (edits + 1) f) where
       move-by : drop headSize f ≡ flat (insertAt p x (removeAt k (rulesIn count d))) ++ drop (slotStart count) d
           → z ≡ laid (relist (ledgerOf d) (relocated k p (ledgerOf d .list)) (lastOf d)) d
       move-by u =

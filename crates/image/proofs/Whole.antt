@@ -30,9 +30,9 @@ use Rattle.classes.proofs.Bytes.{with-mask, with-mask-long, length-masks, masks
 use Rattle.classes.proofs.Ordinal.{length-origins}
 use Rattle.classes.proofs.Setting.{total-kept, origins-kept}
 use Rattle.image.specs.State.{Ledger, relist, rulesOf, rulesetOf, entries, distinct, isRuleset}
-use Rattle.image.specs.Image.{imageSize, classStart, originSize, totalStart, tableStart, originsAt, originBytes, tableBytes, totalOf, countOf, lastOf, masksIn, ledgerOf, entriesOf, classesOf, originsOf, laid, withClasses, withClassAt, Slots, sound, tabled, valid, settled, whole}
+use Rattle.image.specs.Image.{headSize, imageSize, classStart, originSize, totalStart, tableStart, originsAt, originBytes, tableBytes, totalOf, countOf, lastOf, editsOf, masksIn, ledgerOf, entriesOf, classesOf, originsOf, laid, withClasses, withClassAt, Slots, sound, tabled, valid, settled, whole}
 use Rattle.image.proofs.Scan.{length-listed}
-use Rattle.image.proofs.Front.{front-same, rules-same, last-same, part-same}
+use Rattle.image.proofs.Front.{front-same, rules-same, last-same, edits-same, part-same}
 use Rattle.image.proofs.Settling.{at-front, bytes-long, same-ledger, same-classes, same-entries, few-literals}
 use Rattle.image.proofs.Stored.{Each, Fine, fine-held, sound-by, laid-long, laid-state, sound-fine}
 use Rattle.image.proofs.Origins.{tabled-total}
@@ -160,12 +160,12 @@ module _ (d : List ℕ) (ok : valid d ≡ true) (c : ℕ) (symbol : isClass c �
       ∙ with-mask (masksIn d) (omega (arith, masks-long)) c symbol l set
 
   abbrev reset : Ledger
-  reset = record { list = ledgerOf d .list; last = lastOf d; classes = withClass (classesOf d) c l }
+  reset = record { list = ledgerOf d .list; last = lastOf d; classes = withClass (classesOf d) c l; edits = editsOf d }
 
   pub class-ledger : ledgerOf (withClassAt c l d) ≡ reset
   class-ledger =
       let few = sound-count d (valid-sound d ok) in
-      rw (rules-same (withClassAt c l d) d few class-front, last-same (withClassAt c l d) d few class-front, classes-are)
+      rw (rules-same (withClassAt c l d) d few class-front, last-same (withClassAt c l d) d few class-front, edits-same (withClassAt c l d) d few class-front, classes-are)
 
   entries-are : entriesOf (withClassAt c l d) ≡ entriesOf d
   unfolding entriesOf
@@ -208,12 +208,12 @@ module _ (d : List ℕ) (long : imageSize ≤ length d) (g : Ledger) (fine : Fin
   classed-front : take classStart classed ≡ take classStart based
   classed-front = at-front classStart classStart (masksOf (g .classes)) based (omega arith) (omega (arith, based-long))
 
-  based-state : ledgerOf based ≡ record { list = g .list; last = g .last; classes = classesOf d }
+  based-state : ledgerOf based ≡ record { list = g .list; last = g .last; classes = classesOf d; edits = g .edits }
   based-state = laid-state d long g (fine-held g fine) (fine .filled)
 
   based-few : countOf based ≤ maxRules
   based-few =
-      omega (arith, length-listed (countOf based) (drop 4 based), ap (λ (x : Ledger). length (x .list)) based-state, fine-held g fine)
+      omega (arith, length-listed (countOf based) (drop headSize based), ap (λ (x : Ledger). length (x .list)) based-state, fine-held g fine)
 
   g-shaped : classesShaped (g .classes) ≡ true
   unfolding isRuleset
@@ -227,7 +227,7 @@ module _ (d : List ℕ) (long : imageSize ≤ length d) (g : Ledger) (fine : Fin
 
   classed-ledger : ledgerOf classed ≡ g
   classed-ledger =
-      rw (rules-same classed based based-few classed-front ∙ ap (λ (x : Ledger). x .list) based-state, last-same classed based based-few classed-front ∙ ap (λ (x : Ledger). x .last) based-state, classes-read)
+      rw (rules-same classed based based-few classed-front ∙ ap (λ (x : Ledger). x .list) based-state, last-same classed based based-few classed-front ∙ ap (λ (x : Ledger). x .last) based-state, edits-same classed based based-few classed-front ∙ ap (λ (x : Ledger). x .edits) based-state, classes-read)
 
   pub classed-sound : sound classed ≡ true
   classed-sound = sound-by classed g classed-ledger (omega (arith, classed-long)) fine

@@ -1,4 +1,4 @@
-// Rules put in, taken out and moved in place: the slots after them move by one.
+// Rules put in, taken out and moved in place: the slots after them move by one. Each is an edit, and the edit count rises by one.
 use crate::HEAD;
 use crate::SLOT;
 use rules::Numbered;
@@ -6,9 +6,9 @@ ghost use mathlib.Core.Path.{_≡_};
 ghost use Prim.Native.Nat.{ℕ, _+_, _-_, _*_, _<_, _≤_};
 ghost use lib.ListN.{length, drop};
 ghost use lib.Seq.{paste};
-ghost use Rattle.rules.specs.Limits.{maxRules};
+ghost use Rattle.rules.specs.Limits.{maxRules, maxEdits};
 ghost use Rattle.image.specs.State.{relist, insertAt, removeAt, relocated};
-ghost use Rattle.image.specs.Image.{imageSize, countOf, lastOf, ledgerOf, laid};
+ghost use Rattle.image.specs.Image.{imageSize, countOf, lastOf, editsOf, ledgerOf, laid};
 
 // `n` bytes from `src` on are copied to `dst`, which lies before it.
 fn copy_down(s: &mut [u8], src: usize, dst: usize, n: usize)
@@ -36,33 +36,36 @@ fn copy_up(s: &mut [u8], src: usize, dst: usize, n: usize)
 
 // A rule more, before place `p`; `last` is the last number issued afterwards.
 pub fn insert(image: &mut [u8], p: usize, x: Numbered, last: u16)
-    requires { ⌜ (imageSize ≤ length (now image)) × ((p ≤ countOf (now image)) × (countOf (now image) < maxRules)) ⌝ }
+    requires { ⌜ (imageSize ≤ length (now image)) × ((p ≤ countOf (now image)) × ((countOf (now image) < maxRules) × (editsOf (now image) < maxEdits))) ⌝ }
     ensures { λ _. ⌜ now (image .exit) ≡ laid (relist (ledgerOf (now (image .entry))) (insertAt p x (ledgerOf (now (image .entry)) .list)) last) (now (image .entry)) ⌝ }
 {
+    let edits = crate::edit_count(image) + 1;
     let count = crate::rule_count(image);
     let at = HEAD + SLOT * p;
     copy_up(image, at, at + SLOT, SLOT * (count - p));
     crate::put_rule(image, p, x);
-    crate::put_head(image, count + 1, last);
+    crate::put_head(image, count + 1, last, edits);
 }
 
 // The rule at place `k` leaves.
 pub fn remove(image: &mut [u8], k: usize)
-    requires { ⌜ (imageSize ≤ length (now image)) × ((k < countOf (now image)) × (countOf (now image) ≤ maxRules)) ⌝ }
+    requires { ⌜ (imageSize ≤ length (now image)) × ((k < countOf (now image)) × ((countOf (now image) ≤ maxRules) × (editsOf (now image) < maxEdits))) ⌝ }
     ensures { λ _. ⌜ now (image .exit) ≡ laid (relist (ledgerOf (now (image .entry))) (removeAt k (ledgerOf (now (image .entry)) .list)) (lastOf (now (image .entry)))) (now (image .entry)) ⌝ }
 {
+    let edits = crate::edit_count(image) + 1;
     let count = crate::rule_count(image);
     let last = crate::last_issued(image);
     let at = HEAD + SLOT * k;
     copy_down(image, at + SLOT, at, SLOT * (count - 1 - k));
-    crate::put_head(image, count - 1, last);
+    crate::put_head(image, count - 1, last, edits);
 }
 
 // The rule at place `k` is put before place `p` of the rest.
 pub fn relocate(image: &mut [u8], k: usize, p: usize)
-    requires { ⌜ (imageSize ≤ length (now image)) × ((k < countOf (now image)) × ((p < countOf (now image)) × (countOf (now image) ≤ maxRules))) ⌝ }
+    requires { ⌜ (imageSize ≤ length (now image)) × ((k < countOf (now image)) × ((p < countOf (now image)) × ((countOf (now image) ≤ maxRules) × (editsOf (now image) < maxEdits)))) ⌝ }
     ensures { λ _. ⌜ now (image .exit) ≡ laid (relist (ledgerOf (now (image .entry))) (relocated k p (ledgerOf (now (image .entry)) .list)) (lastOf (now (image .entry)))) (now (image .entry)) ⌝ }
 {
+    let edits = crate::edit_count(image) + 1;
     let count = crate::rule_count(image);
     let last = crate::last_issued(image);
     let x = crate::rule_at(image, k);
@@ -71,10 +74,10 @@ pub fn relocate(image: &mut [u8], k: usize, p: usize)
     if k < p {
         copy_down(image, from + SLOT, from, SLOT * (p - k));
         crate::put_rule(image, p, x);
-        crate::put_head(image, count, last);
+        crate::put_head(image, count, last, edits);
     } else {
         copy_up(image, to, to + SLOT, SLOT * (k - p));
         crate::put_rule(image, p, x);
-        crate::put_head(image, count, last);
+        crate::put_head(image, count, last, edits);
     }
 }

@@ -60,7 +60,7 @@ pub fn two_at(s: &[u8], at: usize) -> u16
 }
 
 // Four bytes.
-fn four_at(s: &[u8], at: usize) -> u64
+pub fn four_at(s: &[u8], at: usize) -> u64
     requires { ⌜ at + 4 ≤ length (now s) ⌝ }
     ensures { λ r. ⌜ (r ≡ four at (now (s .entry))) × (r < 4294967296) ⌝ }
 {

@@ -5,7 +5,7 @@ use native.Mathlib.Omega.{arith}
 use borrow.Author.Needs.{needs}
 use borrow.Author.Tests.{not-true, not-false}
 use Rattle.image.proofs.Tests.{valid-long, valid-count}
-use Rattle.edits.proofs.Answers.{invalid, drop-none, drop-sound, drop-yes}
+use Rattle.edits.proofs.Answers.{invalid, drop-none, drop-spent, drop-sound, drop-yes}
 use Rattle.edits.proofs.drop_rule.Statement.{statement}
 use Rattle.edits.proofs.drop_rule.Tie as tie
 
@@ -30,17 +30,26 @@ same-length-2 c = search needs
 returns-2 : tie.Need-returns-2
 returns-2 c = drop-none (c .before .before .before .before .before .before .before .before .before .args .image .now) (sym (c .before .before .before .before .before .before .is-ruleset .ensures) ∙ not-false _ (c .before .before .before .before .before .if1 .left)) _ (c .before .before .before .rule-count .ensures .0) (c .before .before .before .before .before .before .before .before .before .args .number) _ (c .before .place-of .ensures) (c .if2 .taken)
 
-remove-requires : tie.Need-remove-requires
-remove-requires c κs = (valid-long (c .before .before .before .before .before .before .before .before .before .before .args .image .now) (sym (c .before .before .before .before .before .before .before .is-ruleset .ensures) ∙ not-false _ (c .before .before .before .before .before .before .if1 .left)), (omega (arith, c .before .before .before .before .rule-count .ensures .0, c .before .if2 .left), valid-count (c .before .before .before .before .before .before .before .before .before .before .args .image .now) (sym (c .before .before .before .before .before .before .before .is-ruleset .ensures) ∙ not-false _ (c .before .before .before .before .before .before .if1 .left))))
-
-settle-requires : tie.Need-settle-requires
-settle-requires c κs = drop-sound (c .before .before .before .before .before .before .before .before .before .before .before .before .before .before .args .image .now) (sym (c .before .before .before .before .before .before .before .before .before .before .before .is-ruleset .ensures) ∙ not-false _ (c .before .before .before .before .before .before .before .before .before .before .if1 .left)) _ (c .before .before .before .before .before .before .before .before .rule-count .ensures .0) (c .before .before .before .before .before .before .before .before .before .before .before .before .before .before .args .number) _ (c .before .before .before .before .before .before .place-of .ensures) (c .before .before .before .before .before .if2 .left) _ (c .before .before .before .remove .ensures)
+edit-count-requires : tie.Need-edit-count-requires
+edit-count-requires c κs = valid-long (c .before .before .before .before .before .before .before .before .before .before .args .image .now) (sym (c .before .before .before .before .before .before .before .is-ruleset .ensures) ∙ not-false _ (c .before .before .before .before .before .before .if1 .left))
 
 same-length-3 : tie.Need-same-length-3
 same-length-3 c = search needs
 
 returns-3 : tie.Need-returns-3
-returns-3 c = drop-yes (c .before .before .before .before .before .before .before .before .before .before .before .before .before .before .before .before .before .args .image .now) (sym (c .before .before .before .before .before .before .before .before .before .before .before .before .before .before .is-ruleset .ensures) ∙ not-false _ (c .before .before .before .before .before .before .before .before .before .before .before .before .before .if1 .left)) _ (c .before .before .before .before .before .before .before .before .before .before .before .rule-count .ensures .0) (c .before .before .before .before .before .before .before .before .before .before .before .before .before .before .before .before .before .args .number) _ (c .before .before .before .before .before .before .before .before .before .place-of .ensures) (c .before .before .before .before .before .before .before .before .if2 .left) _ (c .before .before .before .before .before .before .remove .ensures) _ (c .before .before .settle .ensures)
+returns-3 c = drop-spent (c .before .before .before .before .before .before .before .before .before .before .before .before .args .image .now) (sym (c .before .before .before .before .before .before .before .before .before .is-ruleset .ensures) ∙ not-false _ (c .before .before .before .before .before .before .before .before .if1 .left)) _ (c .before .before .before .before .before .before .rule-count .ensures .0) (c .before .before .before .before .before .before .before .before .before .before .before .before .args .number) _ (c .before .before .before .before .place-of .ensures) (c .before .before .before .if2 .left) _ (c .before .edit-count .ensures) (c .if3 .taken)
+
+remove-requires : tie.Need-remove-requires
+remove-requires c κs = (valid-long (c .before .before .before .before .before .before .before .before .before .before .before .before .before .args .image .now) (sym (c .before .before .before .before .before .before .before .before .before .before .is-ruleset .ensures) ∙ not-false _ (c .before .before .before .before .before .before .before .before .before .if1 .left)), (omega (arith, c .before .before .before .before .before .before .before .rule-count .ensures .0, c .before .before .before .before .if2 .left), (valid-count (c .before .before .before .before .before .before .before .before .before .before .before .before .before .args .image .now) (sym (c .before .before .before .before .before .before .before .before .before .before .is-ruleset .ensures) ∙ not-false _ (c .before .before .before .before .before .before .before .before .before .if1 .left)), omega (arith, c .before .before .edit-count .ensures, c .before .if3 .left))))
+
+settle-requires : tie.Need-settle-requires
+settle-requires c κs = drop-sound (c .before .before .before .before .before .before .before .before .before .before .before .before .before .before .before .before .before .args .image .now) (sym (c .before .before .before .before .before .before .before .before .before .before .before .before .before .before .is-ruleset .ensures) ∙ not-false _ (c .before .before .before .before .before .before .before .before .before .before .before .before .before .if1 .left)) _ (c .before .before .before .before .before .before .before .before .before .before .before .rule-count .ensures .0) (c .before .before .before .before .before .before .before .before .before .before .before .before .before .before .before .before .before .args .number) _ (c .before .before .before .before .before .before .before .before .before .place-of .ensures) (c .before .before .before .before .before .before .before .before .if2 .left) _ (c .before .before .before .before .before .before .edit-count .ensures) (c .before .before .before .before .before .if3 .left) _ (c .before .before .before .remove .ensures)
+
+same-length-4 : tie.Need-same-length-4
+same-length-4 c = search needs
+
+returns-4 : tie.Need-returns-4
+returns-4 c = drop-yes (c .before .before .before .before .before .before .before .before .before .before .before .before .before .before .before .before .before .before .before .before .args .image .now) (sym (c .before .before .before .before .before .before .before .before .before .before .before .before .before .before .before .before .before .is-ruleset .ensures) ∙ not-false _ (c .before .before .before .before .before .before .before .before .before .before .before .before .before .before .before .before .if1 .left)) _ (c .before .before .before .before .before .before .before .before .before .before .before .before .before .before .rule-count .ensures .0) (c .before .before .before .before .before .before .before .before .before .before .before .before .before .before .before .before .before .before .before .before .args .number) _ (c .before .before .before .before .before .before .before .before .before .before .before .before .place-of .ensures) (c .before .before .before .before .before .before .before .before .before .before .before .if2 .left) _ (c .before .before .before .before .before .before .before .before .before .edit-count .ensures) (c .before .before .before .before .before .before .before .before .if3 .left) _ (c .before .before .before .before .before .before .remove .ensures) _ (c .before .before .settle .ensures)
 
 pub drop-rule-spec : {M : Type 1} → statement M
 drop-rule-spec =
@@ -53,7 +62,10 @@ drop-rule-spec =
     place-of-requires
     same-length-2
     returns-2
+    edit-count-requires
+    same-length-3
+    returns-3
     remove-requires
     settle-requires
-    same-length-3
-    returns-3)
+    same-length-4
+    returns-4)

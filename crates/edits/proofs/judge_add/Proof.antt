@@ -5,7 +5,7 @@ use borrow.Author.Needs.{needs}
 use borrow.Author.Tests.{not-true, not-false}
 use Rattle.image.proofs.Tests.{valid-long}
 use Rattle.image.specs.Image.{ledgerOf}
-use Rattle.edits.proofs.Judging.{add-shape, add-class, add-place, add-full, add-last, add-accepted, count-is, total-is}
+use Rattle.edits.proofs.Judging.{add-shape, add-class, add-place, add-full, add-last, add-spent, add-accepted, count-is, total-is}
 use Rattle.edits.proofs.judge_add.Statement.{statement}
 use Rattle.edits.proofs.judge_add.Tie as tie
 
@@ -42,8 +42,14 @@ last-issued-requires c κs = valid-long (c .before .before .before .before .befo
 returns-5 : tie.Need-returns-5
 returns-5 c = add-last (ledgerOf (c .before .before .before .before .before .before .before .before .before .before .before .args .image .now)) (c .before .before .before .before .before .before .before .before .before .before .before .args .rule) (c .before .before .before .before .before .before .before .before .before .before .before .args .p) (sym (c .before .before .before .before .before .before .before .before .before .well-shaped .ensures) ∙ not-false _ (c .before .before .before .before .before .before .before .before .if1 .left)) _ (c .before .before .before .before .before .before .before .literals-of .ensures .0) (c .before .before .before .before .before .before .if2 .left) _ (c .before .before .before .before .before .rule-count .ensures .0 ∙ count-is (c .before .before .before .before .before .before .before .before .before .before .before .args .image .now)) (c .before .before .before .before .if3 .left) _ (c .before .before .before .literal-total .ensures .0 ∙ total-is (c .before .before .before .before .before .before .before .before .before .before .before .args .image .now) (c .before .before .before .before .before .before .before .before .before .before .before .pre)) (c .before .before .if4 .left) _ (c .before .last-issued .ensures) (c .if5 .taken)
 
+edit-count-requires : tie.Need-edit-count-requires
+edit-count-requires c κs = valid-long (c .before .before .before .before .before .before .before .before .before .before .before .args .image .now) (c .before .before .before .before .before .before .before .before .before .before .before .pre)
+
 returns-6 : tie.Need-returns-6
-returns-6 c = add-accepted (ledgerOf (c .before .before .before .before .before .before .before .before .before .before .before .args .image .now)) (c .before .before .before .before .before .before .before .before .before .before .before .args .rule) (c .before .before .before .before .before .before .before .before .before .before .before .args .p) (sym (c .before .before .before .before .before .before .before .before .before .well-shaped .ensures) ∙ not-false _ (c .before .before .before .before .before .before .before .before .if1 .left)) _ (c .before .before .before .before .before .before .before .literals-of .ensures .0) (c .before .before .before .before .before .before .if2 .left) _ (c .before .before .before .before .before .rule-count .ensures .0 ∙ count-is (c .before .before .before .before .before .before .before .before .before .before .before .args .image .now)) (c .before .before .before .before .if3 .left) _ (c .before .before .before .literal-total .ensures .0 ∙ total-is (c .before .before .before .before .before .before .before .before .before .before .before .args .image .now) (c .before .before .before .before .before .before .before .before .before .before .before .pre)) (c .before .before .if4 .left) _ (c .before .last-issued .ensures) (c .if5 .left)
+returns-6 c = add-spent (ledgerOf (c .before .before .before .before .before .before .before .before .before .before .before .before .before .args .image .now)) (c .before .before .before .before .before .before .before .before .before .before .before .before .before .args .rule) (c .before .before .before .before .before .before .before .before .before .before .before .before .before .args .p) (sym (c .before .before .before .before .before .before .before .before .before .before .before .well-shaped .ensures) ∙ not-false _ (c .before .before .before .before .before .before .before .before .before .before .if1 .left)) _ (c .before .before .before .before .before .before .before .before .before .literals-of .ensures .0) (c .before .before .before .before .before .before .before .before .if2 .left) _ (c .before .before .before .before .before .before .before .rule-count .ensures .0 ∙ count-is (c .before .before .before .before .before .before .before .before .before .before .before .before .before .args .image .now)) (c .before .before .before .before .before .before .if3 .left) _ (c .before .before .before .before .before .literal-total .ensures .0 ∙ total-is (c .before .before .before .before .before .before .before .before .before .before .before .before .before .args .image .now) (c .before .before .before .before .before .before .before .before .before .before .before .before .before .pre)) (c .before .before .before .before .if4 .left) _ (c .before .before .before .last-issued .ensures) (c .before .before .if5 .left) _ (c .before .edit-count .ensures) (c .if6 .taken)
+
+returns-7 : tie.Need-returns-7
+returns-7 c = add-accepted (ledgerOf (c .before .before .before .before .before .before .before .before .before .before .before .before .before .args .image .now)) (c .before .before .before .before .before .before .before .before .before .before .before .before .before .args .rule) (c .before .before .before .before .before .before .before .before .before .before .before .before .before .args .p) (sym (c .before .before .before .before .before .before .before .before .before .before .before .well-shaped .ensures) ∙ not-false _ (c .before .before .before .before .before .before .before .before .before .before .if1 .left)) _ (c .before .before .before .before .before .before .before .before .before .literals-of .ensures .0) (c .before .before .before .before .before .before .before .before .if2 .left) _ (c .before .before .before .before .before .before .before .rule-count .ensures .0 ∙ count-is (c .before .before .before .before .before .before .before .before .before .before .before .before .before .args .image .now)) (c .before .before .before .before .before .before .if3 .left) _ (c .before .before .before .before .before .literal-total .ensures .0 ∙ total-is (c .before .before .before .before .before .before .before .before .before .before .before .before .before .args .image .now) (c .before .before .before .before .before .before .before .before .before .before .before .before .before .pre)) (c .before .before .before .before .if4 .left) _ (c .before .before .before .last-issued .ensures) (c .before .before .if5 .left) _ (c .before .edit-count .ensures) (c .if6 .left)
 
 pub judge-add-spec : {M : Type 1} → statement M
 judge-add-spec =
@@ -60,4 +66,6 @@ judge-add-spec =
     returns-4
     last-issued-requires
     returns-5
-    returns-6)
+    edit-count-requires
+    returns-6
+    returns-7)

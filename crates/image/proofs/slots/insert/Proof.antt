@@ -6,6 +6,12 @@ use borrow.Author.Needs.{needs}
 use Rattle.image.proofs.slots.insert.Statement.{statement}
 use Rattle.image.proofs.slots.insert.Tie as tie
 
+edit-count-requires : tie.Need-edit-count-requires
+edit-count-requires c κs = search needs
+
+add-edits : tie.Need-add-edits
+add-edits c = search needs
+
 rule-count-requires : tie.Need-rule-count-requires
 rule-count-requires c κs = search needs
 
@@ -40,12 +46,14 @@ same-length : tie.Need-same-length
 same-length c = search needs
 
 returns : tie.Need-returns
-returns c = let st = c .before .before .before .before .before .before .before .before .before .before .before .before .before .before .before in insert-laid (st .args .image .now) (λ k. c .before .before .before .before .before .before .before .before .before .before .before .before .before .before .slice-known .given k .fits) (st .pre .0) _ (c .before .before .before .before .before .before .before .before .before .before .before .before .rule-count .ensures .0) (st .args .x) (st .args .last) (st .args .p) _ _ _ (omega (arith, c .before .before .before .before .before .before .before .before .before .before .before .before .rule-count .ensures .0)) (omega (arith, c .before .before .before .before .before .before .before .before .before .before .before .before .rule-count .ensures .0)) (c .before .before .before .before .before .before .before .before .before .before .copy-up .ensures) (c .before .before .before .before .before .before .put-rule .ensures) (c .before .before .put-head .ensures)
+returns c = let st = c .before .before .before .before .before .before .before .before .before .before .before .before .before .before .before .before .before in insert-laid (st .args .image .now) (λ k. c .before .before .before .before .before .before .before .before .before .before .before .before .before .before .before .before .slice-known .given k .fits) (st .pre .0) _ (c .before .before .before .before .before .before .before .before .before .before .before .before .rule-count .ensures .0) _ (c .before .before .before .before .before .before .before .before .before .before .before .before .before .before .edit-count .ensures) (st .args .x) (st .args .last) (st .args .p) _ _ _ (omega (arith, c .before .before .before .before .before .before .before .before .before .before .before .before .rule-count .ensures .0)) (omega (arith, c .before .before .before .before .before .before .before .before .before .before .before .before .rule-count .ensures .0)) (c .before .before .before .before .before .before .before .before .before .before .copy-up .ensures) (c .before .before .before .before .before .before .put-rule .ensures) (c .before .before .put-head .ensures)
 
 pub insert-spec : {M : Type 1} → statement M
 insert-spec =
     tie.close
     (tie.spec
+    edit-count-requires
+    add-edits
     rule-count-requires
     mul-at
     add-at

@@ -6,6 +6,12 @@ use borrow.Author.Needs.{needs}
 use Rattle.image.proofs.slots.relocate.Statement.{statement}
 use Rattle.image.proofs.slots.relocate.Tie as tie
 
+edit-count-requires : tie.Need-edit-count-requires
+edit-count-requires c κs = search needs
+
+add-edits : tie.Need-add-edits
+add-edits c = search needs
+
 rule-count-requires : tie.Need-rule-count-requires
 rule-count-requires c κs = search needs
 
@@ -64,18 +70,20 @@ same-length : tie.Need-same-length
 same-length c = search needs
 
 returns : tie.Need-returns
-returns c = let st = c .before .before .before .before .before .before .before .before .before .before .before .before .before .before .before .before .before .before .before .before in up-laid (st .args .image .now) (λ k. c .before .before .before .before .before .before .before .before .before .before .before .before .before .before .before .before .before .before .before .slice-known .given k .fits) (st .pre .0) _ (c .before .before .before .before .before .before .before .before .before .before .before .before .before .before .before .before .before .rule-count .ensures .0) _ (c .before .before .before .before .before .before .before .before .before .before .before .before .before .before .before .last-issued .ensures) (omega (arith, c .before .before .before .before .before .before .before .before .before .before .before .before .before .before .before .before .before .rule-count .ensures .0)) (st .args .k) (omega (arith, c .before .before .before .before .before .before .before .before .before .before .before .before .before .before .before .before .before .rule-count .ensures .0)) (st .args .p) (omega (arith, c .before .before .before .before .before .before .before .before .before .before .before .before .before .before .before .before .before .rule-count .ensures .0)) _ (c .before .before .before .before .before .before .before .before .before .before .before .before .before .rule-at .ensures) _ _ (c .before .before .put-head .ensures) _ (omega arith) (c .before .before .before .before .before .before .before .before .before .before .copy-down .ensures) (c .before .before .before .before .before .before .put-rule .ensures)
+returns c = let st = c .before .before .before .before .before .before .before .before .before .before .before .before .before .before .before .before .before .before .before .before .before .before in up-laid (st .args .image .now) (λ k. c .before .before .before .before .before .before .before .before .before .before .before .before .before .before .before .before .before .before .before .before .before .slice-known .given k .fits) (st .pre .0) _ (c .before .before .before .before .before .before .before .before .before .before .before .before .before .before .before .before .before .rule-count .ensures .0) _ (c .before .before .before .before .before .before .before .before .before .before .before .before .before .before .before .before .before .before .before .edit-count .ensures) _ (c .before .before .before .before .before .before .before .before .before .before .before .before .before .before .before .last-issued .ensures) (omega (arith, c .before .before .before .before .before .before .before .before .before .before .before .before .before .before .before .before .before .rule-count .ensures .0)) (st .args .k) (omega (arith, c .before .before .before .before .before .before .before .before .before .before .before .before .before .before .before .before .before .rule-count .ensures .0)) (st .args .p) (omega (arith, c .before .before .before .before .before .before .before .before .before .before .before .before .before .before .before .before .before .rule-count .ensures .0)) _ (c .before .before .before .before .before .before .before .before .before .before .before .before .before .rule-at .ensures) _ _ (c .before .before .put-head .ensures) _ (omega arith) (c .before .before .before .before .before .before .before .before .before .before .copy-down .ensures) (c .before .before .before .before .before .before .put-rule .ensures)
 
 same-length-2 : tie.Need-same-length-2
 same-length-2 c = search needs
 
 returns-2 : tie.Need-returns-2
-returns-2 c = let st = c .before .before .before .before .before .before .before .before .before .before .before .before .before .before .before .before .before .before .before .before in down-laid (st .args .image .now) (λ k. c .before .before .before .before .before .before .before .before .before .before .before .before .before .before .before .before .before .before .before .slice-known .given k .fits) (st .pre .0) _ (c .before .before .before .before .before .before .before .before .before .before .before .before .before .before .before .before .before .rule-count .ensures .0) _ (c .before .before .before .before .before .before .before .before .before .before .before .before .before .before .before .last-issued .ensures) (omega (arith, c .before .before .before .before .before .before .before .before .before .before .before .before .before .before .before .before .before .rule-count .ensures .0)) (st .args .k) (omega (arith, c .before .before .before .before .before .before .before .before .before .before .before .before .before .before .before .before .before .rule-count .ensures .0)) (st .args .p) (omega (arith, c .before .before .before .before .before .before .before .before .before .before .before .before .before .before .before .before .before .rule-count .ensures .0)) _ (c .before .before .before .before .before .before .before .before .before .before .before .before .before .rule-at .ensures) _ _ (c .before .before .put-head2 .ensures) _ (omega arith) (c .before .before .before .before .before .before .before .before .before .before .copy-up .ensures) (c .before .before .before .before .before .before .put-rule2 .ensures)
+returns-2 c = let st = c .before .before .before .before .before .before .before .before .before .before .before .before .before .before .before .before .before .before .before .before .before .before in down-laid (st .args .image .now) (λ k. c .before .before .before .before .before .before .before .before .before .before .before .before .before .before .before .before .before .before .before .before .before .slice-known .given k .fits) (st .pre .0) _ (c .before .before .before .before .before .before .before .before .before .before .before .before .before .before .before .before .before .rule-count .ensures .0) _ (c .before .before .before .before .before .before .before .before .before .before .before .before .before .before .before .before .before .before .before .edit-count .ensures) _ (c .before .before .before .before .before .before .before .before .before .before .before .before .before .before .before .last-issued .ensures) (omega (arith, c .before .before .before .before .before .before .before .before .before .before .before .before .before .before .before .before .before .rule-count .ensures .0)) (st .args .k) (omega (arith, c .before .before .before .before .before .before .before .before .before .before .before .before .before .before .before .before .before .rule-count .ensures .0)) (st .args .p) (omega (arith, c .before .before .before .before .before .before .before .before .before .before .before .before .before .before .before .before .before .rule-count .ensures .0)) _ (c .before .before .before .before .before .before .before .before .before .before .before .before .before .rule-at .ensures) _ _ (c .before .before .put-head2 .ensures) _ (omega arith) (c .before .before .before .before .before .before .before .before .before .before .copy-up .ensures) (c .before .before .before .before .before .before .put-rule2 .ensures)
 
 pub relocate-spec : {M : Type 1} → statement M
 relocate-spec =
     tie.close
     (tie.spec
+    edit-count-requires
+    add-edits
     rule-count-requires
     last-issued-requires
     rule-at-requires

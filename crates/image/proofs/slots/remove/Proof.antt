@@ -6,6 +6,12 @@ use borrow.Author.Needs.{needs}
 use Rattle.image.proofs.slots.remove.Statement.{statement}
 use Rattle.image.proofs.slots.remove.Tie as tie
 
+edit-count-requires : tie.Need-edit-count-requires
+edit-count-requires c κs = search needs
+
+add-edits : tie.Need-add-edits
+add-edits c = search needs
+
 rule-count-requires : tie.Need-rule-count-requires
 rule-count-requires c κs = search needs
 
@@ -43,12 +49,14 @@ same-length : tie.Need-same-length
 same-length c = search needs
 
 returns : tie.Need-returns
-returns c = let st = c .before .before .before .before .before .before .before .before .before .before .before .before .before in remove-laid (st .args .image .now) (λ k. c .before .before .before .before .before .before .before .before .before .before .before .before .slice-known .given k .fits) (st .pre .0) _ (c .before .before .before .before .before .before .before .before .before .before .rule-count .ensures .0) _ (c .before .before .before .before .before .before .before .before .last-issued .ensures) (omega (arith, c .before .before .before .before .before .before .before .before .before .before .rule-count .ensures .0)) (st .args .k) (omega (arith, c .before .before .before .before .before .before .before .before .before .before .rule-count .ensures .0)) _ _ (c .before .before .before .before .before .before .copy-down .ensures) (c .before .before .put-head .ensures)
+returns c = let st = c .before .before .before .before .before .before .before .before .before .before .before .before .before .before .before in remove-laid (st .args .image .now) (λ k. c .before .before .before .before .before .before .before .before .before .before .before .before .before .before .slice-known .given k .fits) (st .pre .0) _ (c .before .before .before .before .before .before .before .before .before .before .rule-count .ensures .0) _ (c .before .before .before .before .before .before .before .before .before .before .before .before .edit-count .ensures) _ (c .before .before .before .before .before .before .before .before .last-issued .ensures) (omega (arith, c .before .before .before .before .before .before .before .before .before .before .rule-count .ensures .0)) (st .args .k) (omega (arith, c .before .before .before .before .before .before .before .before .before .before .rule-count .ensures .0)) _ _ (c .before .before .before .before .before .before .copy-down .ensures) (c .before .before .put-head .ensures)
 
 pub remove-spec : {M : Type 1} → statement M
 remove-spec =
     tie.close
     (tie.spec
+    edit-count-requires
+    add-edits
     rule-count-requires
     last-issued-requires
     mul-at
