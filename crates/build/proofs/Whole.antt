@@ -11,11 +11,11 @@ use borrow.Author.Tests.{le-leb, lt-leb}
 use Rattle.rules.specs.Memory.{over}
 use Rattle.rules.specs.Shape.{Entry}
 use Rattle.rules.specs.Refusals.{accepted, declined}
-use Rattle.image.specs.Image.{valid, literalsOf, totalOf}
+use Rattle.image.specs.Image.{valid, editsOf, literalsOf, totalOf}
 use Rattle.reading.specs.Fitting.{Str, ends}
 use Rattle.tables.specs.States.{states}
 use Rattle.tables.specs.Tables.{Table, at, tableOf}
-use Rattle.tables.specs.Words.{tab, rowsOf, setsOf, builtWords, builtSets, neededWords, neededSets, wordsFor, setsFor, building, builtFrom, built, rowSize, setSize}
+use Rattle.tables.specs.Words.{tab, wordsHead, rowsOf, setsOf, builtWords, builtSets, neededWords, neededSets, wordsFor, setsFor, building, builtFrom, built, rowSize, setSize}
 use Rattle.tables.proofs.Words.{length-tab}
 use Rattle.side.specs.Patterns.{patternsOf, Patterns, stateCount}
 use Rattle.side.specs.Filled.{atPlace, holds, sideRows, sideSets}
@@ -68,9 +68,9 @@ sets-length t = length-tab (setSize * t .count) _
 -- ---- both sides
 
 module _ (d : List ℕ) (l r : ℕ) (el : l ≡ sideTable d false .count) (er : r ≡ sideTable d true .count) where
-  pub words-are : l ∷ r ∷ (rowsOf (sideTable d false) ++ rowsOf (sideTable d true)) ≡ builtWords (literalsOf d)
+  pub words-are : (edits : ℕ) → edits ≡ editsOf d → wordsHead edits l r ++ (rowsOf (sideTable d false) ++ rowsOf (sideTable d true)) ≡ builtWords (editsOf d) (literalsOf d)
   unfolding builtWords
-  words-are = ap₂ (λ (x y : ℕ). x ∷ y ∷ (rowsOf (sideTable d false) ++ rowsOf (sideTable d true))) el er
+  words-are edits m = rw (m, el, er)
 
   words-needed : neededWords l r ≡ wordsFor (literalsOf d)
   words-needed = ap₂ neededWords el er
@@ -79,19 +79,19 @@ module _ (d : List ℕ) (l r : ℕ) (el : l ≡ sideTable d false .count) (er : 
   sets-needed = ap₂ neededSets el er
 
   module _ (ws ss : List ℕ) where
-    pub few-words : length ws < neededWords l r → building (declined 11 (neededWords l r)) ws ss ≡ builtFrom (literalsOf d) ws ss
+    pub few-words : length ws < neededWords l r → building (declined 11 (neededWords l r)) ws ss ≡ builtFrom (editsOf d) (literalsOf d) ws ss
     few-words h =
         let t : leb (wordsFor (literalsOf d)) (length ws) ≡ false = lt-leb (wordsFor (literalsOf d)) (length ws) (omega (arith, words-needed)) in
         rw t (ap (λ (n : ℕ). building (declined 11 n) ws ss) words-needed)
 
-    pub few-sets : neededWords l r ≤ length ws → length ss < neededSets l r → building (declined 12 (neededSets l r)) ws ss ≡ builtFrom (literalsOf d) ws ss
+    pub few-sets : neededWords l r ≤ length ws → length ss < neededSets l r → building (declined 12 (neededSets l r)) ws ss ≡ builtFrom (editsOf d) (literalsOf d) ws ss
     few-sets h g =
         let t : leb (wordsFor (literalsOf d)) (length ws) ≡ true = le-leb (wordsFor (literalsOf d)) (length ws) (omega (arith, words-needed)) in
         let u : leb (setsFor (literalsOf d)) (length ss) ≡ false = lt-leb (setsFor (literalsOf d)) (length ss) (omega (arith, sets-needed)) in
         rw (t, u) (ap (λ (n : ℕ). building (declined 12 n) ws ss) sets-needed)
 
 pub enough : (d ws ss : List ℕ) → wordsFor (literalsOf d) ≤ length ws → setsFor (literalsOf d) ≤ length ss → (ws′ ss′ : List ℕ)
-    → ws′ ≡ over (builtWords (literalsOf d)) ws → ss′ ≡ over (builtSets (literalsOf d)) ss → building accepted ws′ ss′ ≡ builtFrom (literalsOf d) ws ss
+    → ws′ ≡ over (builtWords (editsOf d) (literalsOf d)) ws → ss′ ≡ over (builtSets (literalsOf d)) ss → building accepted ws′ ss′ ≡ builtFrom (editsOf d) (literalsOf d) ws ss
 enough d ws ss h g ws′ ss′ e f =
     let t : leb (wordsFor (literalsOf d)) (length ws) ≡ true = le-leb (wordsFor (literalsOf d)) (length ws) h in
     let u : leb (setsFor (literalsOf d)) (length ss) ≡ true = le-leb (setsFor (literalsOf d)) (length ss) g in
@@ -106,6 +106,6 @@ pub no-ruleset : (d ws ss : List ℕ) → valid d ≡ false → building (declin
 unfolding built
 no-ruleset d ws ss e = rw e
 
-pub is-ruleset : (d ws ss : List ℕ) → valid d ≡ true → builtFrom (literalsOf d) ws ss ≡ built d ws ss
+pub is-ruleset : (d ws ss : List ℕ) → valid d ≡ true → builtFrom (editsOf d) (literalsOf d) ws ss ≡ built d ws ss
 unfolding built
 is-ruleset d ws ss e = rw e

@@ -1,4 +1,4 @@
-// Both tables of a ruleset, built into lent words (document 01, "The tables").
+// Both tables of a ruleset, built into lent words with its edit count (document 01, "The tables"; document 02, request 6).
 use rules::Answer;
 use rules::Refusal;
 ghost use mathlib.Core.Path.{_≡_};
@@ -11,9 +11,9 @@ ghost use Rattle.rules.specs.Refusals.{replyOf};
 ghost use Rattle.classes.specs.Expansion.{size};
 ghost use Rattle.classes.specs.Masks.{masksSize, classesIn};
 ghost use Rattle.classes.specs.Ordinal.{choiceAt};
-ghost use Rattle.image.specs.Image.{valid, totalOf, literalsOf};
+ghost use Rattle.image.specs.Image.{valid, totalOf, editsOf, literalsOf};
 ghost use Rattle.tables.specs.States.{leftStates, rightStates};
-ghost use Rattle.tables.specs.Words.{rowSize, setSize, rowsOf, setsOf, builtWords, builtSets, wordsFor, setsFor, building, builtFrom, built};
+ghost use Rattle.tables.specs.Words.{headWords, rowSize, setSize, wordsHead, rowsOf, setsOf, builtWords, builtSets, wordsFor, setsFor, building, builtFrom, built};
 ghost use Rattle.side.specs.Patterns.{maxPattern};
 ghost use Rattle.side.specs.Wrote.{Wrote};
 ghost use Rattle.build.specs.Sides.{Put, patternIn, sideTable, Scratch, Laid, Counted};
@@ -140,7 +140,19 @@ fn fill_part(
 
 // ---- both sides
 
-// The left table after the head, directly after it the right table, and the counts that the fillings gave; the left sets, then the right sets.
+// The words before the rows: the edit count, high word first, and the two state counts.
+fn put_counts(words: &mut [u16], edits: u32, left: u16, right: u16)
+    requires { ⌜ headWords ≤ length (now words) ⌝ }
+    ensures { λ _. ⌜ now (words .exit) ≡ over (wordsHead edits left right) (now (words .entry)) ⌝ }
+{
+    words[tables::EDITS_HIGH] = (edits / 65536) as u16;
+    words[tables::EDITS_LOW] = (edits % 65536) as u16;
+    words[tables::LEFT_COUNT] = left;
+    words[tables::RIGHT_COUNT] = right;
+}
+
+// The left table after the head, directly after it the right table, and the head with the edit count and the counts that the fillings gave; the left
+// sets, then the right sets.
 fn fill(
     image: &[u8],
     n: usize,
@@ -150,7 +162,7 @@ fn fill(
     sets: &mut [u64],
 )
     requires { ⌜ (valid (now image) ≡ true) × (n ≡ totalOf (now image)) × (wordsFor (literalsOf (now image)) ≤ length (now words)) × (setsFor (literalsOf (now image)) ≤ length (now sets)) × Scratch (now pats) (now lens) ⌝ }
-    ensures words { λ _. ⌜ now (words .exit) ≡ over (builtWords (literalsOf (now (image .entry)))) (now (words .entry)) ⌝ }
+    ensures words { λ _. ⌜ now (words .exit) ≡ over (builtWords (editsOf (now (image .entry))) (literalsOf (now (image .entry)))) (now (words .entry)) ⌝ }
     ensures sets { λ _. ⌜ now (sets .exit) ≡ over (builtSets (literalsOf (now (image .entry)))) (now (sets .entry)) ⌝ }
 {
     let l = fill_part(
@@ -165,8 +177,7 @@ fn fill(
     let a = tables::HEAD + tables::ROW * l;
     let b = tables::SET * l;
     let r = fill_part(image, n, true, pats, lens, &mut words[a..], &mut sets[b..]);
-    words[tables::LEFT_COUNT] = l as u16;
-    words[tables::RIGHT_COUNT] = r as u16;
+    put_counts(words, image::edit_count(image), l as u16, r as u16);
 }
 
 // No fewer than the states of both sides: each has one for the empty string, and each symbol of a pattern gives one at most.
@@ -197,7 +208,7 @@ fn build_counted(
     sets: &mut [u64],
 ) -> Answer
     requires { ⌜ (valid (now image) ≡ true) × (n ≡ totalOf (now image)) × Scratch (now pats) (now lens) ⌝ }
-    ensures { λ r. ⌜ building (replyOf r) (now (words .exit)) (now (sets .exit)) ≡ builtFrom (literalsOf (now (image .entry))) (now (words .entry)) (now (sets .entry)) ⌝ }
+    ensures { λ r. ⌜ building (replyOf r) (now (words .exit)) (now (sets .exit)) ≡ builtFrom (editsOf (now (image .entry))) (literalsOf (now (image .entry))) (now (words .entry)) (now (sets .entry)) ⌝ }
 {
     let l = count_side(image, n, false, pats, lens);
     let r = count_side(image, n, true, pats, lens);
@@ -223,7 +234,7 @@ fn build_with(
     sets: &mut [u64],
 ) -> Answer
     requires { ⌜ (valid (now image) ≡ true) × Scratch (now pats) (now lens) ⌝ }
-    ensures { λ r. ⌜ building (replyOf r) (now (words .exit)) (now (sets .exit)) ≡ builtFrom (literalsOf (now (image .entry))) (now (words .entry)) (now (sets .entry)) ⌝ }
+    ensures { λ r. ⌜ building (replyOf r) (now (words .exit)) (now (sets .exit)) ≡ builtFrom (editsOf (now (image .entry))) (literalsOf (now (image .entry))) (now (words .entry)) (now (sets .entry)) ⌝ }
 {
     let n = image::table::literal_total(image);
     let most = most_states(image, n);
@@ -238,7 +249,7 @@ fn build_with(
 // stack, and with the check of a ruleset beside them 17 KB, of the 32 KB that a call may have.
 pub fn build_valid(image: &[u8], words: &mut [u16], sets: &mut [u64]) -> Answer
     requires { ⌜ valid (now image) ≡ true ⌝ }
-    ensures { λ r. ⌜ building (replyOf r) (now (words .exit)) (now (sets .exit)) ≡ builtFrom (literalsOf (now (image .entry))) (now (words .entry)) (now (sets .entry)) ⌝ }
+    ensures { λ r. ⌜ building (replyOf r) (now (words .exit)) (now (sets .exit)) ≡ builtFrom (editsOf (now (image .entry))) (literalsOf (now (image .entry))) (now (words .entry)) (now (sets .entry)) ⌝ }
 {
     let mut pats = [0u8; side::PATTERN * rules::MAX_RULES];
     let mut lens = [0u8; rules::MAX_RULES];

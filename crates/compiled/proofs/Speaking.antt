@@ -12,7 +12,7 @@ use Rattle.rules.specs.declared.Answer.the-variants.{Accepted, Refused}
 use Rattle.rules.specs.declared.Refusal.{Refusal}
 use Rattle.rules.specs.declared.Refusal.the-variants.{NotRuleset, BadList}
 use Rattle.exceptions.specs.Judging.{isList, Listing, listingOf}
-use Rattle.image.specs.Image.{valid, literalsOf}
+use Rattle.image.specs.Image.{valid, editsOf, literalsOf}
 use Rattle.reading.specs.Fitting.{Str}
 use Rattle.reading.specs.Speech.{Outcome, atOnce, saidFrom, listedOr, Following, judgedCall, toldOf, Said as Told, saying}
 use Rattle.reading.specs.Places.{SaysListed}
@@ -29,7 +29,7 @@ use Rattle.walk.specs.declared.WalkAnswer.{WalkAnswer}
 
 -- the call comes to o
 pub walked-as : (c : Compiled) (image : List ℕ) (l : Listing) (name : Str) (phones numbers : List ℕ) (o : Outcome)
-    → judgedCall image l name (walkThrough c (literalsOf image) name) ≡ o → (w : Walked) → w ≡ walkedAs o phones numbers → w ≡ walkFor c image l name phones numbers
+    → judgedCall image l name (walkThrough c (editsOf image) (literalsOf image) name) ≡ o → (w : Walked) → w ≡ walkedAs o phones numbers → w ≡ walkFor c image l name phones numbers
 unfolding walkFor
 walked-as c image l name phones numbers o e w q = q ∙ ap (λ (x : Outcome). walkedAs x phones numbers) (sym e)
 
@@ -37,19 +37,19 @@ walked-as c image l name phones numbers o e w q = q ∙ ap (λ (x : Outcome). wa
 pub walked-invalid : (c : Compiled) (image : List ℕ) (l : Listing) (name : Str) (phones numbers : List ℕ) → valid image ≡ false → (r : WalkAnswer)
     → r ≡ record { steps = 0; speech = NotSpoken (NotRuleset 0) } → walkedOf r phones numbers ≡ walkFor c image l name phones numbers
 walked-invalid c image l name phones numbers e r f =
-    walked-as c image l name phones numbers (atOnce 0 0) (call-invalid image name (walkThrough c (literalsOf image) name) l e) _
+    walked-as c image l name phones numbers (atOnce 0 0) (call-invalid image name (walkThrough c (editsOf image) (literalsOf image) name) l e) _
     (ap (λ (y : WalkAnswer). walkedOf y phones numbers) f)
 
 pub walked-none : (c : Compiled) (image list : List ℕ) (name : Str) (phones numbers : List ℕ) → valid image ≡ true → isList list ≡ false → (r : WalkAnswer)
     → r ≡ record { steps = 0; speech = NotSpoken (BadList 0) } → walkedOf r phones numbers ≡ walkFor c image (listingOf list) name phones numbers
 walked-none c image list name phones numbers ok e r f =
     walked-as c image (listingOf list) name phones numbers (atOnce 17 0)
-    (call-none image name (walkThrough c (literalsOf image) name) ok (listingOf list) (listing-none list e)) _ (ap (λ (y : WalkAnswer). walkedOf y phones numbers) f)
+    (call-none image name (walkThrough c (editsOf image) (literalsOf image) name) ok (listingOf list) (listing-none list e)) _ (ap (λ (y : WalkAnswer). walkedOf y phones numbers) f)
 
 module _ (c : Compiled) (image : List ℕ) (ok : valid image ≡ true) (l : Listing) (m : Str → Str) (is : l ≡ some m) (name : Str) (phones numbers : List ℕ)
     (a : Answer) (j : replyOf a ≡ judgedName name) where
   abbrev walked : Following
-  walked = walkThrough c (literalsOf image) name
+  walked = walkThrough c (editsOf image) (literalsOf image) name
 
   pub walked-refused : (x : Refusal) → a ≡ Refused x → (r : WalkAnswer) → r ≡ record { steps = 0; speech = NotSpoken x } → walkedOf r phones numbers ≡ walkFor c image l name phones numbers
   walked-refused x e r f =

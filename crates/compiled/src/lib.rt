@@ -11,7 +11,7 @@ ghost use lib.ListN.{getD};
 ghost use Rattle.rules.specs.Names.{SoundName};
 ghost use Rattle.exceptions.specs.Layout.{wordsOf, phonesFor};
 ghost use Rattle.exceptions.specs.Judging.{isList, listingOf, noList, saysOf};
-ghost use Rattle.image.specs.Image.{valid, literalsOf};
+ghost use Rattle.image.specs.Image.{valid, editsOf, literalsOf};
 ghost use Rattle.reading.specs.Places.{Unsaid};
 ghost use Rattle.reading.specs.Speech.{listedOr};
 ghost use Rattle.tables.specs.Words.{compiledFrom};
@@ -37,7 +37,7 @@ pub fn state_count(words: &[u16], at: usize) -> usize
     numbers::wide16(words[at])
 }
 
-// The lent tables with their state counts as read from the words. Whether they are usable is the walk's to say, with 16.
+// The lent tables with their state counts as read from the words. Whether they are usable is the walk's to say, with 16 and 22.
 pub fn compile<'a>(words: &'a [u16], sets: &'a [u64]) -> Compiled<'a>
     ensures { λ r. ⌜ r ≡ compiledOf (words .entry) (sets .entry) ⌝ }
 {
@@ -62,7 +62,7 @@ pub fn speak<'a>(
     numbers: &mut [u16],
 ) -> WalkAnswer
     requires { ⌜ (valid (now image) ≡ true) × Unsaid (now list) (now name) ⌝ }
-    ensures { λ r. ⌜ walkedOf r (now (phones .exit)) (now (numbers .exit)) ≡ walkedAs (walkThrough (compiledWith (now (compiled .entry .words)) (now (compiled .entry .sets)) (compiled .entry .«left_states») (compiled .entry .«right_states»)) (literalsOf (now (image .entry))) (now (name .entry)) (saysOf (now (list .entry)))) (now (phones .entry)) (now (numbers .entry)) ⌝ }
+    ensures { λ r. ⌜ walkedOf r (now (phones .exit)) (now (numbers .exit)) ≡ walkedAs (walkThrough (compiledWith (now (compiled .entry .words)) (now (compiled .entry .sets)) (compiled .entry .«left_states») (compiled .entry .«right_states»)) (editsOf (now (image .entry))) (literalsOf (now (image .entry))) (now (name .entry)) (saysOf (now (list .entry)))) (now (phones .entry)) (now (numbers .entry)) ⌝ }
 {
     walk::walk_tables(
         compiled.words,
@@ -88,7 +88,7 @@ pub fn speak_words<'a>(
     numbers: &mut [u16],
 ) -> WalkAnswer
     requires { ⌜ (valid (now image) ≡ true) × Unsaid (now list) (now name) ⌝ }
-    ensures { λ r. ⌜ walkedOf r (now (phones .exit)) (now (numbers .exit)) ≡ walkedAs (walkThrough (compiledFrom (now (words .entry)) (now (sets .entry))) (literalsOf (now (image .entry))) (now (name .entry)) (saysOf (now (list .entry)))) (now (phones .entry)) (now (numbers .entry)) ⌝ }
+    ensures { λ r. ⌜ walkedOf r (now (phones .exit)) (now (numbers .exit)) ≡ walkedAs (walkThrough (compiledFrom (now (words .entry)) (now (sets .entry))) (editsOf (now (image .entry))) (literalsOf (now (image .entry))) (now (name .entry)) (saysOf (now (list .entry)))) (now (phones .entry)) (now (numbers .entry)) ⌝ }
 {
     let compiled = compile(words, sets);
     speak(compiled, image, list, name, phones, numbers)
@@ -132,7 +132,7 @@ fn speak_listed<'a>(
     numbers: &mut [u16],
 ) -> WalkAnswer
     requires { ⌜ (valid (now image) ≡ true) × ((isList (now list) ≡ true) × SoundName (now name)) ⌝ }
-    ensures { λ r. ⌜ walkedOf r (now (phones .exit)) (now (numbers .exit)) ≡ walkedAs (listedOr (phonesFor (wordsOf (now (list .entry)))) (now (name .entry)) (walkThrough (compiledFrom (now (words .entry)) (now (sets .entry))) (literalsOf (now (image .entry))) (now (name .entry)) (phonesFor (wordsOf (now (list .entry)))))) (now (phones .entry)) (now (numbers .entry)) ⌝ }
+    ensures { λ r. ⌜ walkedOf r (now (phones .exit)) (now (numbers .exit)) ≡ walkedAs (listedOr (phonesFor (wordsOf (now (list .entry)))) (now (name .entry)) (walkThrough (compiledFrom (now (words .entry)) (now (sets .entry))) (editsOf (now (image .entry))) (literalsOf (now (image .entry))) (now (name .entry)) (phonesFor (wordsOf (now (list .entry)))))) (now (phones .entry)) (now (numbers .entry)) ⌝ }
 {
     let found = delivery::say_listed(list, name, &mut *phones);
     match found {

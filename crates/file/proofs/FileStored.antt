@@ -83,16 +83,16 @@ module _ (file : List ℕ) (ok : verdict (readFile file) ≡ accepted) (line : H
   last-is : line .head .last ≡ b .last
   last-is = sym (ap (λ (q : Ruleset). q .last) (were .whole))
 
-  pub headed-length : (xs : List ℕ) → imageSize ≤ length xs → (w : List ℕ) → w ≡ withHead (line .head .count) (line .head .last) xs → length w ≡ length xs
+  pub headed-length : (xs : List ℕ) → imageSize ≤ length xs → (w : List ℕ) → w ≡ withHead (line .head .count) (line .head .last) 0 xs → length w ≡ length xs
   headed-length xs h w ew =
-      omega (arith, ap length ew, length-append (headOf (line .head .count) (line .head .last)) (drop headSize xs), length-drop headSize xs)
+      omega (arith, ap length ew, length-append (headOf (line .head .count) (line .head .last) 0) (drop headSize xs), length-drop headSize xs)
 
-  module _ (xs : List ℕ) (h : imageSize ≤ length xs) (w z : List ℕ) (ew : w ≡ withHead (line .head .count) (line .head .last) xs)
+  module _ (xs : List ℕ) (h : imageSize ≤ length xs) (w z : List ℕ) (ew : w ≡ withHead (line .head .count) (line .head .last) 0 xs)
       (ez : z ≡ withRules 0 (map numberedOf (described (readFile file) .rules)) w) where
     file-laid : z ≡ laid (ledgerFor b) xs
     file-laid =
         ez ∙ (ap (withRules 0 l) ew
-        ∙ (ap₂ (λ (i j : ℕ). withRules 0 l (withHead i j xs)) count-is last-is
+        ∙ (ap₂ (λ (i j : ℕ). withRules 0 l (withHead i j 0 xs)) count-is last-is
         ∙ rules-laid xs (b .last) (b .classes) (each-numbered (b .rules)) (omega (arith, file-few, count-is))))
 
     written : Written file b

@@ -80,10 +80,10 @@ rules-length {l} p d m h =
 
 -- the head, then the rules: the state is laid
 pub rules-laid : {l : List Numbered} (d : List ℕ) (last : ℕ) (k : Classes) → Each l → slotStart (length l) ≤ length d
-    → withRules 0 l (withHead (length l) last d) ≡ laid (record { list = l; last = last; classes = k }) d
+    → withRules 0 l (withHead (length l) last 0 d) ≡ laid (record { list = l; last = last; classes = k; edits = 0 }) d
 rules-laid {l} d last k m h =
-    let w = withHead (length l) last d in
+    let w = withHead (length l) last 0 d in
     let e : slotStart (0 + length l) ≡ headSize + slotSize * length l = omega arith in
-    rules-are 0 w m (omega (arith, length-append (headOf (length l) last) (drop headSize d), length-drop headSize d))
-    ∙ ap (λ (t : List ℕ). headOf (length l) last ++ (flat l ++ t))
-    (ap (λ (k : ℕ). drop k w) e ∙ (drop-append-add (headOf (length l) last) (drop headSize d) (slotSize * length l) ∙ drop-drop (slotSize * length l) headSize d))
+    rules-are 0 w m (omega (arith, length-append (headOf (length l) last 0) (drop headSize d), length-drop headSize d))
+    ∙ ap (λ (t : List ℕ). headOf (length l) last 0 ++ (flat l ++ t))
+    (ap (λ (k : ℕ). drop k w) e ∙ (drop-append-add (headOf (length l) last 0) (drop headSize d) (slotSize * length l) ∙ drop-drop (slotSize * length l) headSize d))

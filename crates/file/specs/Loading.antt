@@ -33,7 +33,7 @@ use Rattle.file.specs.File.Read.{Accepted, Malformed, Broken}
 
 -- the state that a file describes
 abbrev pub ledgerFor : Ruleset → Ledger
-ledgerFor b = record { list = map numberedOf (b .rules); last = b .last; classes = b .classes }
+ledgerFor b = record { list = map numberedOf (b .rules); last = b .last; classes = b .classes; edits = 0 }
 
 abbrev pub verdict : Read → Reply
 verdict (Accepted b) = accepted

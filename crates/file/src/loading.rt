@@ -132,7 +132,7 @@ pub fn store_file(file: &[u8], image: &mut [u8])
     let head = line.head;
     let mut masks = [0u8; classes::MASKS_SIZE];
     let defined = defining::read_classes(file, line.next, &mut masks);
-    image::put_head(&mut *image, head.count, head.last);
+    image::put_head(&mut *image, head.count, head.last, 0);
     store_rules(file, defined.at, head.count, head.last, &mut *image);
     image::class_bytes::put_classes(&mut *image, &masks);
     image::table::settle(image);

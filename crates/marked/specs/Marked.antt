@@ -37,7 +37,7 @@ literalRules = expand noClasses sixRules
 
 -- the compiled ruleset of the words and set words that a build of the six rules writes
 abbrev pub compiled : Compiled
-compiled = compiledFrom (builtWords literalRules) (builtSets literalRules)
+compiled = compiledFrom (builtWords 0 literalRules) (builtSets literalRules)
 
 -- ---- what is asked
 
@@ -70,7 +70,7 @@ abbrev byRules : Str → Outcome
 byRules name = judgedFor noList name (λ m. answered (plainWords noClasses sixRules name m) 0)
 
 abbrev byTables : Str → Outcome
-byTables name = judgedFor noList name (walkThrough compiled literalRules name)
+byTables name = judgedFor noList name (walkThrough compiled 0 literalRules name)
 
 abbrev pub answer : Question → Answer
 answer (spoken name) = said (resultOf (byRules name)) (resultOf (byTables name)) (stepsOf (byTables name))

@@ -3,33 +3,34 @@
 use Prim.Native.Nat.{ℕ, zero, suc, _+_, _*_, _≤_}
 use native.Mathlib.Omega.{arith}
 use mathlib.Core.Path.{_≡_, refl, sym, ap, ap₂, _∙_}
-use mathlib.Core.Bool.{Bool, true, false, cond, _&&_}
+use mathlib.Core.Bool.{Bool, true, false, cond, not, _&&_, true≢false}
 use mathlib.Core.List.{List, [], _∷_, reverse}
 use mathlib.Core.Option.{Option}
-use lib.Dec.{ltb, leb}
+use lib.Dec.{ltb, leb, eqb}
 use lib.ListN.{length, getD, take, drop}
 use lib.Seq.{getD-drop}
 use borrow.Author.Tests.{ltb-false, ltb-true, leb-true, le-leb, lt-ltb}
 use Rattle.rules.proofs.Cases.{byBool, and-l, and-r}
 use Rattle.rules.specs.Names.{SoundName}
 use Rattle.exceptions.specs.Judging.{saysOf}
-use Rattle.image.specs.Image.{literalsOf}
+use Rattle.rules.specs.Refusals.{Reply, accepted, declined}
+use Rattle.image.specs.Image.{editsOf, literalsOf}
 use Rattle.reading.specs.Fitting.{Str, frame, fits}
 use Rattle.reading.specs.Reading.{Choice, chosen, nothing, unusable, applied, Reading, cons, past, onward, readFrom}
 use Rattle.reading.specs.Words.{Word, wordsIn, readWords, unlisted, wordAt}
-use Rattle.reading.specs.Speech.{atOnce, stepsOf, answered, Said, delivered, saying, toldOf}
+use Rattle.reading.specs.Speech.{Outcome, atOnce, stepsOf, answered, judgedBy, Said, delivered, saying, toldOf}
 use Rattle.reading.specs.Places.{frameSize, partsReading, Parted}
 use Rattle.reading.specs.declared.Reached.{Reached}
 use Rattle.reading.specs.declared.Reached.the-variants.{Rules, Uncovered, BadTables}
 use Rattle.reading.proofs.Loop.{after-none}
 use Rattle.tables.specs.Tables.{Table}
-use Rattle.tables.specs.Words.{headWords, setSize, rightRows, rightSets, neededWords, neededSets, tableAt, Compiled, leftOf, rightOf}
-use Rattle.tables.specs.Walk.{Step as State, step, pass, from, allBelow, lookup, lowest, howMany, places, leftAt, rightAt, walkUsable, walkChoice, walkSteps, walk, lengthsFit, allWords, sumWords, usable, stepsIn, walkWord, allUsable, stepsOver, walkThrough, walkedAs}
+use Rattle.tables.specs.Words.{headWords, editsIn, setSize, rightRows, rightSets, neededWords, neededSets, tableAt, Compiled, leftOf, rightOf}
+use Rattle.tables.specs.Walk.{Step as State, step, pass, from, allBelow, lookup, lowest, howMany, places, leftAt, rightAt, walkUsable, walkChoice, walkSteps, walk, lengthsFit, judgedTables, allWords, sumWords, usable, stepsIn, walkWord, allUsable, stepsOver, judgedPasses, walkThrough, walkedAs}
 use Rattle.tables.proofs.SetWords.{choice-tables, shared-tables}
 use Rattle.tables.proofs.Theorem.{delivered-steps}
 use Rattle.passes.specs.Passes.{rowsAt, Passed, leftRowsOf, rightRowsOf, Memory, passable, stepsOn, AllPassed}
 use Rattle.walk.specs.Letters.{lowestShared, countShared, choiceBy, choicesBy, Held, Tells, NameRead}
-use Rattle.walk.specs.Walked.{walkedOf, compiledWith, stepsWith, Fit, FitsAs}
+use Rattle.walk.specs.Walked.{walkedOf, compiledWith, stepsWith, Fit, verdict, FitsAs}
 use Rattle.passes.specs.declared.Pass.{Pass}
 use Rattle.walk.specs.declared.WalkAnswer.{WalkAnswer}
 
@@ -121,7 +122,22 @@ sum-same : (f g : Str → ℕ) → ((w : Str) → f w ≡ g w) → (vs : List Wo
 sum-same f g h [] = refl
 sum-same f g h (v ∷ vs) = ap₂ _+_ (h (v .letters)) (sum-same f g h vs)
 
-module _ (image ws ss : List ℕ) (l r : ℕ) (fit : Bool) (fits-as : FitsAs ws ss l r fit) (list : List ℕ) (name : Str) (sound : SoundName name) (m : Memory) (p : Pass)
+-- ---- the tables judged
+
+module _ (ws ss : List ℕ) (l r edits : ℕ) (fit stale : Bool) (fits-as : FitsAs ws ss l r edits fit stale) where
+  passes-usable : fit ≡ true → (vs : List Word) → allWords (passable ws l r fit) vs ≡ allUsable (compiledWith ws ss l r) vs
+  unfolding usable
+  passes-usable t = all-same (passable ws l r fit) (usable (compiledWith ws ss l r)) (λ w. rw t (usable-same ws ss l r (frame w) (length w)))
+
+  -- what is judged of the unlisted words is what their passes tell
+  passes-judged : (vs : List Word) → judgedPasses (compiledWith ws ss l r) edits vs ≡ cond (allWords (passable ws l r fit) vs) accepted (verdict false stale)
+  passes-judged [] = refl
+  passes-judged (v ∷ vs) =
+      byBool fit
+      (λ t. rw (fits-as .is, passes-usable t (v ∷ vs), t, fits-as .apart t))
+      (λ t. rw (fits-as .is, t) (byBool stale (λ u. rw u) (λ u. rw u)))
+
+module _ (image ws ss : List ℕ) (l r : ℕ) (fit stale : Bool) (fits-as : FitsAs ws ss l r (editsOf image) fit stale) (list : List ℕ) (name : Str) (sound : SoundName name) (m : Memory) (p : Pass)
     (a : AllPassed ws l r fit list name m p) where
   abbrev c : Compiled
   c = compiledWith ws ss l r
@@ -129,16 +145,19 @@ module _ (image ws ss : List ℕ) (l r : ℕ) (fit : Bool) (fits-as : FitsAs ws 
   abbrev unsaid : List Word
   unsaid = unlisted (saysOf list) (wordsIn name)
 
-  usable-is : p .usable ≡ allUsable c unsaid
-  unfolding usable
-  usable-is =
-      a .usable
-      ∙ all-same (passable ws l r fit) (usable c) (λ w. ap₂ _&&_ (fits-as .is) (usable-same ws ss l r (frame w) (length w))) unsaid
+  -- what is read of the words, with their steps
+  abbrev reads : Outcome
+  reads = answered (readWords (saysOf list) (walkWord c (literalsOf image)) (wordsIn name)) (stepsOver c unsaid)
 
-  pub through-unusable : p .usable ≡ false → atOnce 16 0 ≡ walkThrough c (literalsOf image) name (saysOf list)
+  through-by : (b : Bool) → p .usable ≡ b → walkThrough c (editsOf image) (literalsOf image) name (saysOf list) ≡ judgedBy (cond b accepted (verdict false stale)) reads
   unfolding walkThrough
-  through-unusable e =
-      sym (ap (λ (t : Bool). cond t (answered (readWords (saysOf list) (walkWord c (literalsOf image)) (wordsIn name)) (stepsOver c unsaid)) (atOnce 16 0)) (sym usable-is ∙ e))
+  through-by b e = ap (λ (x : Reply). judgedBy x reads) (passes-judged ws ss l r (editsOf image) fit stale fits-as unsaid ∙ ap (λ (t : Bool). cond t accepted (verdict false stale)) (sym (a .usable) ∙ e))
+
+  pub through-stale : p .usable ≡ false → stale ≡ true → atOnce 22 0 ≡ walkThrough c (editsOf image) (literalsOf image) name (saysOf list)
+  through-stale e t = sym (through-by false e ∙ rw t)
+
+  pub through-unusable : p .usable ≡ false → stale ≡ false → atOnce 16 0 ≡ walkThrough c (editsOf image) (literalsOf image) name (saysOf list)
+  through-unusable e t = sym (through-by false e ∙ rw t)
 
   module _ (e : p .usable ≡ true) (base : ℕ) (is : base ≡ cond fit (rightSets l) 0) where
     based : fit ≡ true → base ≡ rightSets l
@@ -160,12 +179,12 @@ module _ (image ws ss : List ℕ) (l r : ℕ) (fit : Bool) (fits-as : FitsAs ws 
     }
 
     pub through-read : (ps : List ℕ) (x : Reached) → NameRead image ss base name (m .found) (m .left) (m .right) ps x
-        → answered (partsReading image list ps x) (p .steps) ≡ walkThrough c (literalsOf image) name (saysOf list)
-    unfolding walkThrough stepsIn
+        → answered (partsReading image list ps x) (p .steps) ≡ walkThrough c (editsOf image) (literalsOf image) name (saysOf list)
+    unfolding stepsIn
     through-read ps x n =
         ap₂ answered (n list (walkWord c (literalsOf image)) tells .says ∙ after-none (readWords (saysOf list) (walkWord c (literalsOf image)) (wordsIn name)))
         (a .steps e ∙ sum-same (stepsOn ws l r) (stepsIn c) (λ w. steps-same ws ss l r (frame w) (length w)) unsaid)
-        ∙ sym (ap (λ (t : Bool). cond t (answered (readWords (saysOf list) (walkWord c (literalsOf image)) (wordsIn name)) (stepsOver c unsaid)) (atOnce 16 0)) (sym usable-is ∙ e))
+        ∙ sym (through-by true e)
 
     pub parts-read : (ps : List ℕ) (x : Reached) → NameRead image ss base name (m .found) (m .left) (m .right) ps x → Parted image list frameSize ps x
     parts-read ps x n = n list (walkWord c (literalsOf image)) tells .parted
@@ -200,3 +219,23 @@ module _ (ws ss : List ℕ) (l r : ℕ) where
   pub fits-so : Fit (length ws) (length ss) l r → true ≡ lengthsFit (compiledWith ws ss l r)
   fits-so f =
       rw (le-leb headWords (length ws) (omega (arith, f .rows)), lt-ltb 0 l (f .left), lt-ltb 0 r (f .right), le-leb (neededWords l r) (length ws) (f .rows), le-leb (neededSets l r) (length ss) (f .sets-room))
+
+  -- so the tests of the lengths and of the edit count say whether names can be sent through
+  pub tests-fit : (edits : ℕ) (long stale fit : Bool) → long ≡ lengthsFit (compiledWith ws ss l r) → stale ≡ (long && not (eqb (editsIn ws) edits)) → fit ≡ (long && not stale)
+      → FitsAs ws ss l r edits fit stale
+  unfolding judgedTables
+  tests-fit edits long stale fit a b d =
+      byBool long
+      (λ t. byBool (eqb (editsIn ws) edits)
+      (λ e.
+      let u : stale ≡ false = b ∙ rw (t, e) in
+      let v : fit ≡ true = d ∙ rw (t, u) in
+      record { is = rw (← a, t, e, v); apart = λ x. u; facts = λ x. fit-true (sym a ∙ t) })
+      (λ e.
+      let u : stale ≡ true = b ∙ rw (t, e) in
+      let v : fit ≡ false = d ∙ rw (t, u) in
+      record { is = rw (← a, t, e, v, u); apart = λ x. absurd (true≢false (sym x ∙ v)); facts = λ x. absurd (true≢false (sym x ∙ v)) }))
+      (λ t.
+      let u : stale ≡ false = b ∙ rw t in
+      let v : fit ≡ false = d ∙ rw t in
+      record { is = rw (← a, t, v, u); apart = λ x. u; facts = λ x. absurd (true≢false (sym x ∙ v)) })

@@ -1,15 +1,16 @@
--- What the answer of a walk says, the compiled ruleset of lent slices, and the facts that 16's length tests establish.
+-- What the answer of a walk says, the compiled ruleset of lent slices, and the facts that the tests of its lengths and its edit count establish.
 -- Assumes nothing.
 use Prim.Native.Nat.{ℕ, _≤_, _<_}
 use mathlib.Core.Path.{_≡_}
-use mathlib.Core.Bool.{Bool, true}
+use mathlib.Core.Bool.{Bool, true, false}
 use mathlib.Core.List.{List}
 use lib.ListN.{length}
+use Rattle.rules.specs.Refusals.{Reply, accepted, declined}
 use Rattle.reading.specs.Speech.{toldOf, saying}
 use Rattle.reading.specs.declared.Reached.{Reached}
 use Rattle.reading.specs.declared.Reached.the-variants.{Rules, Uncovered, BadTables}
 use Rattle.tables.specs.Words.{neededWords, neededSets, Compiled}
-use Rattle.tables.specs.Walk.{lengthsFit, Walked}
+use Rattle.tables.specs.Walk.{judgedTables, Walked}
 use Rattle.walk.specs.declared.WalkAnswer.{WalkAnswer}
 
 -- all that a walk gives: its answer, and the lent phones and numbers after it
@@ -33,7 +34,14 @@ pub record Fit (words sets l r : ℕ) : Type 0 where
   pub rows : neededWords l r ≤ words
   pub sets-room : neededSets l r ≤ sets
 
--- whether the lengths fit, and the facts where they do
-pub record FitsAs (ws ss : List ℕ) (l r : ℕ) (fit : Bool) : Type 0 where
-  pub is : fit ≡ lengthsFit (compiledWith ws ss l r)
+-- what the tests of the tables come to by two answers: names can be sent through, else the tables are stale or too short
+abbrev pub verdict : Bool → Bool → Reply
+verdict true stale = accepted
+verdict false true = declined 22 0
+verdict false false = declined 16 0
+
+-- they are these, and the facts where names can be sent through
+pub record FitsAs (ws ss : List ℕ) (l r edits : ℕ) (fit stale : Bool) : Type 0 where
+  pub is : judgedTables (compiledWith ws ss l r) edits ≡ verdict fit stale
+  pub apart : fit ≡ true → stale ≡ false
   pub facts : fit ≡ true → Fit (length ws) (length ss) l r

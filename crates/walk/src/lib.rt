@@ -1,4 +1,4 @@
-// The walk of a name through lent tables (document 01, "The walk", and refusal 16): the covered part that the compiled ruleset is taken
+// The walk of a name through lent tables (document 01, "The walk", and refusal 16; document 02, refusal 22): the covered part that the compiled ruleset is taken
 // apart for.
 mod letters;
 
@@ -6,13 +6,15 @@ use reading::Reached;
 use reading::Speech;
 use rules::Refusal;
 ghost use mathlib.Core.Path.{_≡_};
-ghost use mathlib.Core.Bool.{true, cond};
-ghost use Prim.Native.Nat.{_<_};
+ghost use mathlib.Core.Bool.{true, cond, not, _&&_};
+ghost use Prim.Native.Nat.{_<_, _≤_};
+ghost use lib.Dec.{eqb};
+ghost use lib.ListN.{length};
 ghost use Rattle.exceptions.specs.Judging.{saysOf};
-ghost use Rattle.image.specs.Image.{valid, literalsOf};
+ghost use Rattle.image.specs.Image.{valid, editsOf, literalsOf};
 ghost use Rattle.reading.specs.Words.{frameOf};
 ghost use Rattle.reading.specs.Places.{Unsaid};
-ghost use Rattle.tables.specs.Words.{rightSets};
+ghost use Rattle.tables.specs.Words.{headWords, editsIn, rightSets};
 ghost use Rattle.tables.specs.Walk.{lengthsFit, walkThrough, walkedAs};
 ghost use Rattle.walk.specs.Walked.{walkedOf, compiledWith, stepsWith, FitsAs};
 
@@ -52,13 +54,15 @@ fn right_base(fit: bool, left_states: usize) -> usize
     tables::SET * left_states
 }
 
-// The walk over the frame of a name that is not on the list: all passes first, then each reached letter.
+// The walk over the frame of a name that is not on the list: all passes first, then each reached letter. A word that needs the tables is refused with 22
+// where they are stale, and else with 16.
 fn walk_frame<'a>(
     words: &'a [u16],
     sets: &'a [u64],
     left_states: usize,
     right_states: usize,
     fit: bool,
+    stale: bool,
     image: &[u8],
     list: &[u32],
     name: &[u8],
@@ -66,8 +70,8 @@ fn walk_frame<'a>(
     phones: &mut [u8],
     numbers: &mut [u16],
 ) -> WalkAnswer
-    requires { ⌜ FitsAs (now words) (now sets) «left_states» «right_states» fit × (valid (now image) ≡ true) × Unsaid (now list) (now name) × (now frame ≡ frameOf (now name)) ⌝ }
-    ensures { λ r. ⌜ walkedOf r (now (phones .exit)) (now (numbers .exit)) ≡ walkedAs (walkThrough (compiledWith (now (words .entry)) (now (sets .entry)) «left_states» «right_states») (literalsOf (now (image .entry))) (now (name .entry)) (saysOf (now (list .entry)))) (now (phones .entry)) (now (numbers .entry)) ⌝ }
+    requires { ⌜ FitsAs (now words) (now sets) «left_states» «right_states» (editsOf (now image)) fit stale × (valid (now image) ≡ true) × Unsaid (now list) (now name) × (now frame ≡ frameOf (now name)) ⌝ }
+    ensures { λ r. ⌜ walkedOf r (now (phones .exit)) (now (numbers .exit)) ≡ walkedAs (walkThrough (compiledWith (now (words .entry)) (now (sets .entry)) «left_states» «right_states») (editsOf (now (image .entry))) (literalsOf (now (image .entry))) (now (name .entry)) (saysOf (now (list .entry)))) (now (phones .entry)) (now (numbers .entry)) ⌝ }
 {
     let mut found = [0u16; reading::MAX_FRAME];
     let mut left = [0u16; reading::MAX_FRAME];
@@ -85,6 +89,9 @@ fn walk_frame<'a>(
         &mut right,
     );
     if !passes.usable {
+        if stale {
+            return at_once(Refusal::StaleTables(0));
+        }
         return at_once(Refusal::BadTables(0));
     }
     let mut parts = [0u32; reading::MAX_FRAME];
@@ -129,14 +136,15 @@ fn walk_sound<'a>(
     left_states: usize,
     right_states: usize,
     fit: bool,
+    stale: bool,
     image: &[u8],
     list: &[u32],
     name: &[u8],
     phones: &mut [u8],
     numbers: &mut [u16],
 ) -> WalkAnswer
-    requires { ⌜ FitsAs (now words) (now sets) «left_states» «right_states» fit × (valid (now image) ≡ true) × Unsaid (now list) (now name) ⌝ }
-    ensures { λ r. ⌜ walkedOf r (now (phones .exit)) (now (numbers .exit)) ≡ walkedAs (walkThrough (compiledWith (now (words .entry)) (now (sets .entry)) «left_states» «right_states») (literalsOf (now (image .entry))) (now (name .entry)) (saysOf (now (list .entry)))) (now (phones .entry)) (now (numbers .entry)) ⌝ }
+    requires { ⌜ FitsAs (now words) (now sets) «left_states» «right_states» (editsOf (now image)) fit stale × (valid (now image) ≡ true) × Unsaid (now list) (now name) ⌝ }
+    ensures { λ r. ⌜ walkedOf r (now (phones .exit)) (now (numbers .exit)) ≡ walkedAs (walkThrough (compiledWith (now (words .entry)) (now (sets .entry)) «left_states» «right_states») (editsOf (now (image .entry))) (literalsOf (now (image .entry))) (now (name .entry)) (saysOf (now (list .entry)))) (now (phones .entry)) (now (numbers .entry)) ⌝ }
 {
     let mut frame = [0u8; reading::MAX_FRAME];
     reading::words::lay_frame(name, &mut frame);
@@ -147,6 +155,7 @@ fn walk_sound<'a>(
         left_states,
         right_states,
         fit,
+        stale,
         image,
         list,
         name,
@@ -191,6 +200,29 @@ fn lengths_fit<'a>(
     true
 }
 
+// 22, where the lengths fit: whether the words hold another edit count than the ruleset's.
+fn other_count(words: &[u16], long: bool, edits: u32) -> bool
+    requires { ⌜ (long ≡ true → headWords ≤ length (now words)) ⌝ }
+    ensures { λ r. ⌜ r ≡ (long && not (eqb (editsIn (now (words .entry))) edits)) ⌝ }
+{
+    if !long {
+        return false;
+    }
+    let high = numbers::wide16(words[tables::EDITS_HIGH]);
+    let low = numbers::wide16(words[tables::EDITS_LOW]);
+    65536 * high + low != numbers::wide32(edits)
+}
+
+// Whether names can be sent through tables of these lengths with this count.
+fn can_pass(long: bool, stale: bool) -> bool
+    ensures { λ r. ⌜ r ≡ (long && not stale) ⌝ }
+{
+    if stale {
+        return false;
+    }
+    long
+}
+
 // The walk of a sound name, which is not on the list, through lent tables with their state counts, for a caller that knows the image valid and
 // the list one, or lends too few words for any; nothing in it grows with the number of rules.
 pub fn walk_tables<'a>(
@@ -205,15 +237,18 @@ pub fn walk_tables<'a>(
     numbers: &mut [u16],
 ) -> WalkAnswer
     requires { ⌜ (valid (now image) ≡ true) × Unsaid (now list) (now name) ⌝ }
-    ensures { λ r. ⌜ walkedOf r (now (phones .exit)) (now (numbers .exit)) ≡ walkedAs (walkThrough (compiledWith (now (words .entry)) (now (sets .entry)) «left_states» «right_states») (literalsOf (now (image .entry))) (now (name .entry)) (saysOf (now (list .entry)))) (now (phones .entry)) (now (numbers .entry)) ⌝ }
+    ensures { λ r. ⌜ walkedOf r (now (phones .exit)) (now (numbers .exit)) ≡ walkedAs (walkThrough (compiledWith (now (words .entry)) (now (sets .entry)) «left_states» «right_states») (editsOf (now (image .entry))) (literalsOf (now (image .entry))) (now (name .entry)) (saysOf (now (list .entry)))) (now (phones .entry)) (now (numbers .entry)) ⌝ }
 {
-    let fit = lengths_fit(words, sets, left_states, right_states);
+    let long = lengths_fit(words, sets, left_states, right_states);
+    let stale = other_count(words, long, image::edit_count(image));
+    let fit = can_pass(long, stale);
     walk_sound(
         words,
         sets,
         left_states,
         right_states,
         fit,
+        stale,
         image,
         list,
         name,

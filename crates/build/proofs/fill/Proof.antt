@@ -1,10 +1,11 @@
--- `build::fill` meets its contract: the left table and the right one go into their parts of the words; then the counts that the fillings gave are stored.
+-- `build::fill` meets its contract: the left table and the right one go into their parts of the words; then the head with the edit count and the counts that the fillings gave.
 -- Assumes nothing.
 use Prim.Native.Nat.{_*_, _≤_}
 use mathlib.Core.Bool.{false}
 use native.Mathlib.Omega.{arith}
 use borrow.Author.Needs.{needs}
 use lib.ListN.{length}
+use Rattle.image.proofs.Tests.{valid-long}
 use Rattle.tables.specs.Words.{setSize}
 use Rattle.build.specs.Sides.{sideTable}
 use Rattle.build.proofs.Joining as J
@@ -77,25 +78,21 @@ fill-part-requires-2 c κs =
     let f = c .before .before .before .before .before .before .before .before .before .before .before .before .fill-part .ensures in
     (st .pre .0, st .pre .1, J.asks₂ _ (st .args .words .now) (st .pre .2) _ (f .0) _ (f .1 .1 .is), J.set-asks _ (st .args .sets .now) (st .pre .3) _ (f .1 .0) _ (f .1 .1 .is), f .1 .1 .scratch)
 
-cast-words : tie.Need-cast-words
-cast-words c = record { fits = omega (arith, c .before .before .before .before .before .before .before .before .before .before .before .before .before .before .before .before .before .before .before .before .before .fill-part .ensures .1 .1 .few) }
+edit-count-requires : tie.Need-edit-count-requires
+edit-count-requires c κs = valid-long (c .before .before .before .before .before .before .before .before .before .before .before .before .before .before .before .before .before .before .before .before .before .before .before .before .before .before .before .before .before .before .before .before .args .image .now) (c .before .before .before .before .before .before .before .before .before .before .before .before .before .before .before .before .before .before .before .before .before .before .before .before .before .before .before .before .before .before .before .before .pre .0)
 
-slice-write-words : tie.Need-slice-write-words
-slice-write-words c =
-    let st = c .before .before .before .before .before .before .before .before .before .before .before .before .before .before .before .before .before .before .before .before .before .before .before .before .before .before .before .before .before .before .before in
-    let f = c .before .before .before .before .before .before .before .before .before .before .before .before .before .before .before .before .before .before .before .before .before .fill-part .ensures in
-    let g = c .before .before .before .before .before .before .before .before .fill-part2 .ensures in
+cast-put-counts : tie.Need-cast-put-counts
+cast-put-counts c = record { fits = omega (arith, c .before .before .before .before .before .before .before .before .before .before .before .before .before .before .before .before .before .before .before .before .before .before .before .fill-part .ensures .1 .1 .few) }
+
+cast-put-counts-2 : tie.Need-cast-put-counts-2
+cast-put-counts-2 c = record { fits = omega (arith, c .before .before .before .before .before .before .before .before .before .before .fill-part2 .ensures .1 .1 .few) }
+
+put-counts-requires : tie.Need-put-counts-requires
+put-counts-requires c κs = 
+    let st = c .before .before .before .before .before .before .before .before .before .before .before .before .before .before .before .before .before .before .before .before .before .before .before .before .before .before .before .before .before .before .before .before .before in
+    let f = c .before .before .before .before .before .before .before .before .before .before .before .before .before .before .before .before .before .before .before .before .before .before .before .fill-part .ensures in
+    let g = c .before .before .before .before .before .before .before .before .before .before .fill-part2 .ensures in
     omega (arith, st .pre .2, J.length₂ _ (st .args .words .now) (st .pre .2) _ (f .0) _ (f .1 .1 .is) _ (g .0) _ (g .1 .1 .is))
-
-cast-words-2 : tie.Need-cast-words-2
-cast-words-2 c = record { fits = omega (arith, c .before .before .before .before .before .before .before .before .fill-part2 .ensures .1 .1 .few) }
-
-slice-write-words-2 : tie.Need-slice-write-words-2
-slice-write-words-2 c =
-    let st = c .before .before .before .before .before .before .before .before .before .before .before .before .before .before .before .before .before .before .before .before .before .before .before .before .before .before .before .before .before .before .before in
-    let f = c .before .before .before .before .before .before .before .before .before .before .before .before .before .before .before .before .before .before .before .before .before .fill-part .ensures in
-    let g = c .before .before .before .before .before .before .before .before .fill-part2 .ensures in
-    omega (arith, st .pre .2, J.length₃ _ (st .args .words .now) (st .pre .2) _ (f .0) _ (f .1 .1 .is) _ (g .0) _ (g .1 .1 .is))
 
 same-length : tie.Need-same-length
 same-length c = search needs
@@ -105,23 +102,23 @@ same-length-2 c = search needs
 
 same-length-3 : tie.Need-same-length-3
 same-length-3 c =
-    let st = c .before .before .before .before .before .before .before .before .before .before .before .before .before .before .before .before .before .before .before .before .before .before .before .before .before .before .before .before .before .before .before in
-    let f = c .before .before .before .before .before .before .before .before .before .before .before .before .before .before .before .before .before .before .before .before .before .fill-part .ensures in
-    let g = c .before .before .before .before .before .before .before .before .fill-part2 .ensures in
-    J.length₄ _ (st .args .words .now) (st .pre .2) _ (f .0) _ (f .1 .1 .is) _ (g .0) _ (g .1 .1 .is)
+    let st = c .before .before .before .before .before .before .before .before .before .before .before .before .before .before .before .before .before .before .before .before .before .before .before .before .before .before .before .before .before .before .before .before .before .before .before .before in
+    let f = c .before .before .before .before .before .before .before .before .before .before .before .before .before .before .before .before .before .before .before .before .before .before .before .before .before .before .fill-part .ensures in
+    let g = c .before .before .before .before .before .before .before .before .before .before .before .before .before .fill-part2 .ensures in
+    J.headed-length _ (st .args .words .now) (st .pre .2) _ (f .0) _ (f .1 .1 .is) _ (g .0) _ (g .1 .1 .is) _ _ (c .before .before .put-counts .ensures)
 
 same-length-4 : tie.Need-same-length-4
 same-length-4 c =
-    let st = c .before .before .before .before .before .before .before .before .before .before .before .before .before .before .before .before .before .before .before .before .before .before .before .before .before .before .before .before .before .before .before in
-    let f = c .before .before .before .before .before .before .before .before .before .before .before .before .before .before .before .before .before .before .before .before .before .fill-part .ensures in
-    J.sets-kept _ (st .args .sets .now) (st .pre .3) _ (f .1 .0) _ (f .1 .1 .is) _ (c .before .before .before .before .before .before .before .before .fill-part2 .ensures .1 .0)
+    let st = c .before .before .before .before .before .before .before .before .before .before .before .before .before .before .before .before .before .before .before .before .before .before .before .before .before .before .before .before .before .before .before .before .before .before .before .before in
+    let f = c .before .before .before .before .before .before .before .before .before .before .before .before .before .before .before .before .before .before .before .before .before .before .before .before .before .before .fill-part .ensures in
+    J.sets-kept _ (st .args .sets .now) (st .pre .3) _ (f .1 .0) _ (f .1 .1 .is) _ (c .before .before .before .before .before .before .before .before .before .before .before .before .before .fill-part2 .ensures .1 .0)
 
 returns : tie.Need-returns
 returns c =
-    let st = c .before .before .before .before .before .before .before .before .before .before .before .before .before .before .before .before .before .before .before .before .before .before .before .before .before .before .before .before .before .before .before in
-    let f = c .before .before .before .before .before .before .before .before .before .before .before .before .before .before .before .before .before .before .before .before .before .fill-part .ensures in
-    let g = c .before .before .before .before .before .before .before .before .fill-part2 .ensures in
-    (J.words _ (st .args .words .now) (st .pre .2) _ (f .0) _ (f .1 .1 .is) _ (g .0) _ (g .1 .1 .is), J.sets _ (st .args .sets .now) (st .pre .3) _ (f .1 .0) _ (f .1 .1 .is) _ (g .1 .0))
+    let st = c .before .before .before .before .before .before .before .before .before .before .before .before .before .before .before .before .before .before .before .before .before .before .before .before .before .before .before .before .before .before .before .before .before .before .before .before in
+    let f = c .before .before .before .before .before .before .before .before .before .before .before .before .before .before .before .before .before .before .before .before .before .before .before .before .before .before .fill-part .ensures in
+    let g = c .before .before .before .before .before .before .before .before .before .before .before .before .before .fill-part2 .ensures in
+    (J.words _ (st .args .words .now) (st .pre .2) _ (f .0) _ (f .1 .1 .is) _ (g .0) _ (g .1 .1 .is) _ (c .before .before .before .edit-count .ensures) _ (c .before .before .put-counts .ensures), J.sets _ (st .args .sets .now) (st .pre .3) _ (f .1 .0) _ (f .1 .1 .is) _ (g .1 .0))
 
 pub fill-spec : {M : Type 1} → statement M
 fill-spec =
@@ -143,10 +140,10 @@ fill-spec =
     part-fill-part-start-3
     part-fill-part-end-3
     fill-part-requires-2
-    cast-words
-    slice-write-words
-    cast-words-2
-    slice-write-words-2
+    edit-count-requires
+    cast-put-counts
+    cast-put-counts-2
+    put-counts-requires
     same-length
     same-length-2
     same-length-3

@@ -44,7 +44,7 @@ use denote.Triple.Walked.{says, needs, Stays, stay-none, stay-none-slice, gave-s
 use denote.Exit.{yes}
 use denote.Triple.Clauses.{Lasts, ensured, lasts}
 use Rattle.exceptions.specs.Judging.{saysOf}
-use Rattle.image.specs.Image.{valid, literalsOf}
+use Rattle.image.specs.Image.{valid, editsOf, literalsOf}
 use Rattle.reading.specs.Places.{Unsaid}
 use Rattle.tables.specs.Walk.{walkThrough, walkedAs}
 use Rattle.walk.specs.Walked.{walkedOf, compiledWith}
@@ -99,7 +99,7 @@ module _ {M : Type 1} (𝓤 : URA M) (H : Heap 𝓤) (A : Atoms 𝓤) (W : Given
   Asked = (valid (now g) ≡ true) × Unsaid (now l) (now n)
 
   abbrev Says : WalkAnswer → List ℕ → List ℕ → Type 0
-  Says r ps ms = walkedOf r ps ms ≡ walkedAs (walkThrough (compiledWith (now (d .words)) (now (d .sets)) (d .«left_states») (d .«right_states»)) (literalsOf (now g)) (now n) (saysOf (now l))) (now p) (now m)
+  Says r ps ms = walkedOf r ps ms ≡ walkedAs (walkThrough (compiledWith (now (d .words)) (now (d .sets)) (d .«left_states») (d .«right_states»)) (editsOf (now g)) (literalsOf (now g)) (now n) (saysOf (now l))) (now p) (now m)
 
   abbrev Post : Val → SProp 𝓤
   Post = walkOf 𝓤 H A speak.ended stayed (speak.clauses 𝓤 H A mem run) .post ((κs, qs, tt, a, vals), tt)

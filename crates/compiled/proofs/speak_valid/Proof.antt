@@ -11,7 +11,7 @@ use native.Mathlib.Omega.{arith}
 use Rattle.tables.specs.Walk.{walkThrough, walkedAs}
 use Rattle.tables.specs.Words.{compiledFrom}
 use Rattle.reading.specs.Fitting.{Str}
-use Rattle.image.specs.Image.{literalsOf}
+use Rattle.image.specs.Image.{editsOf, literalsOf}
 use borrow.Author.Needs.{needs}
 use Rattle.compiled.proofs.speak_valid.Statement.{statement}
 use Rattle.compiled.proofs.speak_valid.Tie as tie
@@ -44,7 +44,7 @@ same-length-2 : tie.Need-same-length-2
 same-length-2 c = search needs
 
 returns-2 : tie.Need-returns-2
-returns-2 c = walked-sound _ (c .before .before .before .before .before .before .before .before .before .before .before .before .before .before .before .before .before .args .image .now) (c .before .before .before .before .before .before .before .before .before .before .before .before .before .before .before .before .before .pre) noList _ refl (c .before .before .before .before .before .before .before .before .before .before .before .before .before .before .before .before .before .args .name .now) (c .before .before .before .before .before .before .before .before .before .before .before .before .before .before .before .before .before .args .phones .now) (c .before .before .before .before .before .before .before .before .before .before .before .before .before .before .before .before .before .args .numbers .now) _ (c .before .before .before .before .before .before .before .before .before .before .judge-name .ensures) (c .before .before .before .before .before .before .before .before .enum-told .given .1) _ (c .before .before .before .before .speak-words .ensures ∙ ap (λ (m : Str → Str). walkedAs (walkThrough (compiledFrom (c .before .before .before .before .before .before .before .before .before .before .before .before .before .before .before .before .before .args .words .now) (c .before .before .before .before .before .before .before .before .before .before .before .before .before .before .before .before .before .args .sets .now)) (literalsOf (c .before .before .before .before .before .before .before .before .before .before .before .before .before .before .before .before .before .args .image .now)) (c .before .before .before .before .before .before .before .before .before .before .before .before .before .before .before .before .before .args .name .now) m) (c .before .before .before .before .before .before .before .before .before .before .before .before .before .before .before .before .before .args .phones .now) (c .before .before .before .before .before .before .before .before .before .before .before .before .before .before .before .before .before .args .numbers .now)) (says-nothing (0 ∷ []) (omega (arith, size-is))))
+returns-2 c = walked-sound _ (c .before .before .before .before .before .before .before .before .before .before .before .before .before .before .before .before .before .args .image .now) (c .before .before .before .before .before .before .before .before .before .before .before .before .before .before .before .before .before .pre) noList _ refl (c .before .before .before .before .before .before .before .before .before .before .before .before .before .before .before .before .before .args .name .now) (c .before .before .before .before .before .before .before .before .before .before .before .before .before .before .before .before .before .args .phones .now) (c .before .before .before .before .before .before .before .before .before .before .before .before .before .before .before .before .before .args .numbers .now) _ (c .before .before .before .before .before .before .before .before .before .before .judge-name .ensures) (c .before .before .before .before .before .before .before .before .enum-told .given .1) _ (c .before .before .before .before .speak-words .ensures ∙ ap (λ (m : Str → Str). walkedAs (walkThrough (compiledFrom (c .before .before .before .before .before .before .before .before .before .before .before .before .before .before .before .before .before .args .words .now) (c .before .before .before .before .before .before .before .before .before .before .before .before .before .before .before .before .before .args .sets .now)) (editsOf (c .before .before .before .before .before .before .before .before .before .before .before .before .before .before .before .before .before .args .image .now)) (literalsOf (c .before .before .before .before .before .before .before .before .before .before .before .before .before .before .before .before .before .args .image .now)) (c .before .before .before .before .before .before .before .before .before .before .before .before .before .before .before .before .before .args .name .now) m) (c .before .before .before .before .before .before .before .before .before .before .before .before .before .before .before .before .before .args .phones .now) (c .before .before .before .before .before .before .before .before .before .before .before .before .before .before .before .before .before .args .numbers .now)) (says-nothing (0 ∷ []) (omega (arith, size-is))))
 
 pub speak-valid-spec : {M : Type 1} → statement M
 speak-valid-spec =

@@ -39,7 +39,7 @@ use denote.Triple.Walked.{says, needs, Stays, stay-none-slice, gave-slice, walkO
 use denote.Exit.{yes}
 use denote.Triple.Clauses.{Lasts, ensured, lasts}
 use Rattle.exceptions.specs.Judging.{saysOf}
-use Rattle.image.specs.Image.{valid, literalsOf}
+use Rattle.image.specs.Image.{valid, editsOf, literalsOf}
 use Rattle.reading.specs.Places.{Unsaid}
 use Rattle.tables.specs.Words.{compiledFrom}
 use Rattle.tables.specs.Walk.{walkThrough, walkedAs}
@@ -99,7 +99,7 @@ module _ {M : Type 1} (𝓤 : URA M) (H : Heap 𝓤) (A : Atoms 𝓤) (W : Given
 
   -- what `speak` says of its result, with the counts of the struct, and what is to be said
   abbrev Says : WalkAnswer → List ℕ → List ℕ → Type 0
-  Says r ps ms = walkedOf r ps ms ≡ walkedAs (walkThrough (compiledFrom (now w) (now s)) (literalsOf (now g)) (now n) (saysOf (now l))) (now p) (now m)
+  Says r ps ms = walkedOf r ps ms ≡ walkedAs (walkThrough (compiledFrom (now w) (now s)) (editsOf (now g)) (literalsOf (now g)) (now n) (saysOf (now l))) (now p) (now m)
 
   abbrev Post : Val → SProp 𝓤
   Post = walkOf 𝓤 H A this.ended stayed (this.clauses 𝓤 H A mem run) .post ((κs, qs, tt, a, vals), tt)
