@@ -7,7 +7,7 @@ use lib.ListN.{length, getD, take, drop, set}
 use lib.Dec.{leb, ltb, eqb}
 use Rattle.numbers.specs.Numbers.{two, bytes4}
 use Rattle.rules.specs.Limits.{maxRules}
-use Rattle.image.specs.Image.{imageSize, withHead, withNumber, cleared}
+use Rattle.image.specs.Image.{imageSize, countOf, lastOf, editsOf, withHead, withNumber, cleared}
 use Rattle.frames.specs.Output.{fields}
 use Rattle.transcript.specs.Answers.{twos, printed}
 use Rattle.file.specs.Layout.{longestFile}
@@ -18,12 +18,19 @@ use Rattle.commands.specs.Answers.{Effect, leaving, sizedTo, doneLine, m
 abbrev pub renumbered : ℕ → ℕ → List ℕ → List ℕ
 renumbered place number image = cond (ltb place maxRules) (withNumber place number image) image
 
--- 1E, place (2), number (2), count (2), last (2): overwritten with no check
+-- 1E, place (2), number (2), count (2), last (2): overwritten with no check; the edit count stays
 abbrev pub forced : List ℕ → List ℕ → List ℕ
-forced f image = withHead (two 5 f) (two 7 f) (renumbered (two 1 f) (two 3 f) image)
+forced f image = withHead (two 5 f) (two 7 f) (editsOf image) (renumbered (two 1 f) (two 3 f) image)
 
 unfoldable pub forcedBy : List ℕ → List ℕ → Effect
 forcedBy f image = sizedTo (eqb (length f) 9) (leaving doneLine (forced f image)) image
+
+-- 2A, edit count (4): overwritten with no check; rule count and last stay
+abbrev pub recounted : List ℕ → List ℕ → List ℕ
+recounted f image = withHead (countOf image) (lastOf image) (four 1 f) image
+
+unfoldable pub recountedBy : List ℕ → List ℕ → Effect
+recountedBy f image = sizedTo (eqb (length f) 5) (leaving doneLine (recounted f image)) image
 
 -- 1F: the empty ruleset again, without classes
 unfoldable pub clearedBy : List ℕ → List ℕ → Effect
@@ -79,6 +86,10 @@ shownNumbers f numbers = shownIf (eqb (length f) 1) (twos numbers)
 -- 27: show the contested letters of the last name spoken, 1 byte
 unfoldable pub shownContested : List ℕ → ℕ → List ℕ
 shownContested f contested = shownIf (eqb (length f) 1) (contested ∷ [])
+
+-- 29: show the edit count, 4 bytes
+unfoldable pub shownEdits : List ℕ → List ℕ → List ℕ
+shownEdits f image = shownIf (eqb (length f) 1) (bytes4 (editsOf image))
 
 -- what the monitor holds is large enough: a ruleset's image, phones and numbers that an answer has room for, and the longest answer's bytes
 pub record Held (image phones numbers out : ℕ) : Type 0 where

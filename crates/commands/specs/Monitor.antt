@@ -10,7 +10,7 @@ use Rattle.rules.specs.Memory.{over}
 use Rattle.frames.specs.Lines.{Parsed}
 use Rattle.frames.specs.Lines.Parsed.{Bad, Good}
 use Rattle.commands.specs.Answers.{Effect, Effects, SpeechEffect, malformedLine, added, dropped, moved, classSet}
-use Rattle.commands.specs.Memory.{forcedBy, clearedBy, storedWord, storedSet, shownWords, shownSets, shownPhones, shownNumbers, shownContested}
+use Rattle.commands.specs.Memory.{forcedBy, recountedBy, clearedBy, storedWord, storedSet, shownWords, shownSets, shownPhones, shownNumbers, shownContested, shownEdits}
 use Rattle.commands.specs.Lent.{builtBy, walkedBy, plainBy}
 use Rattle.commands.specs.Filing.{loadedBy, writeLine}
 
@@ -61,7 +61,7 @@ onSpeech s e = record { line = e .line; state = holding (s .image) (s .words) (s
 abbrev pub shows : State → List ℕ → Response
 shows s line = record { line = line; state = s }
 
--- 10 to 1F, 27 and 28; `file` is what rules.hex holds, and `list` the lent list, which none of them changes
+-- 10 to 1F and 27 to 2A; `file` is what rules.hex holds, and `list` the lent list, which none of them changes
 unfoldable pub byKind : ℕ → List ℕ → List ℕ → List ℕ → State → Response
 byKind kind f file list s =
     cond (eqb kind 16) (onImage s (added f (s .image)))
@@ -82,7 +82,9 @@ byKind kind f file list s =
     (cond (eqb kind 31) (onImage s (clearedBy f (s .image)))
     (cond (eqb kind 39) (shows s (shownContested f (s .contested)))
     (cond (eqb kind 40) (onImage s (classSet f (s .image)))
-    (shows s malformedLine))))))))))))))))))
+    (cond (eqb kind 41) (shows s (shownEdits f (s .image)))
+    (cond (eqb kind 42) (onImage s (recountedBy f (s .image)))
+    (shows s malformedLine))))))))))))))))))))
 
 -- the answer to a command; a frame of no bytes is none
 unfoldable pub answerTo : List ℕ → List ℕ → List ℕ → State → Response

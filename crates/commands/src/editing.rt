@@ -13,7 +13,7 @@ ghost use Rattle.edits.specs.Ledger.{Edit};
 ghost use Rattle.edits.specs.Edits.{edited};
 ghost use Rattle.commands.specs.Answers.{Answered, added, dropped, moved, classSet};
 ghost use Rattle.commands.specs.Fields.{AddSized, addedRule};
-ghost use Rattle.commands.specs.Memory.{renumbered, forced, forcedBy, clearedBy};
+ghost use Rattle.commands.specs.Memory.{renumbered, forced, forcedBy, recounted, recountedBy, clearedBy};
 
 // 10, p (2), four lengths, their bytes.
 pub fn add(f: &[u8], image: &mut [u8]) -> Answer
@@ -63,8 +63,20 @@ pub fn force(f: &[u8], image: &mut [u8])
     requires { ⌜ (length (now f) ≡ 9) × (imageSize ≤ length (now image)) ⌝ }
     ensures { λ _. ⌜ now (image .exit) ≡ forced (now (f .entry)) (now (image .entry)) ⌝ }
 {
+    let edits = image::edit_count(image);
     renumber(&mut *image, fields::two_at(f, 1), numbers::two_at(f, 3));
-    image::put_head(image, fields::two_at(f, 5), numbers::two_at(f, 7));
+    image::put_head(image, fields::two_at(f, 5), numbers::two_at(f, 7), edits);
+}
+
+// 2A, edit count (4), with no check.
+pub fn recount(f: &[u8], image: &mut [u8])
+    requires { ⌜ (length (now f) ≡ 5) × (imageSize ≤ length (now image)) ⌝ }
+    ensures { λ _. ⌜ now (image .exit) ≡ recounted (now (f .entry)) (now (image .entry)) ⌝ }
+{
+    let count = image::rule_count(image);
+    let last = image::last_issued(image);
+    let edits = fields::four_at(f, 1) as u32;
+    image::put_head(image, count, last, edits);
 }
 
 // 10: add.
@@ -124,6 +136,18 @@ pub fn force_command(f: &[u8], image: &mut [u8], out: &mut [u8]) -> usize
         return answers::malformed(out);
     }
     force(f, &mut *image);
+    answers::done_line(out)
+}
+
+// 2A: another edit count.
+pub fn recount_command(f: &[u8], image: &mut [u8], out: &mut [u8]) -> usize
+    requires { ⌜ (imageSize ≤ length (now image)) × (15 ≤ length (now out)) ⌝ }
+    ensures { λ r. ⌜ Answered (recountedBy (now (f .entry)) (now (image .entry))) (now (image .exit)) r (now (out .entry)) (now (out .exit)) ⌝ }
+{
+    if f.len() != 5 {
+        return answers::malformed(out);
+    }
+    recount(f, &mut *image);
     answers::done_line(out)
 }
 

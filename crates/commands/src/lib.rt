@@ -101,6 +101,8 @@ pub fn answer(
         0x1F => editing::clear_command(f, image, out),
         0x27 => memory::show_contested(f, *contested, out),
         0x28 => editing::class_command(f, image, out),
+        0x29 => memory::show_edits(f, image, out),
+        0x2A => editing::recount_command(f, image, out),
         _ => answers::malformed(out),
     }
 }

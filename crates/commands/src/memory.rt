@@ -1,4 +1,4 @@
-// The commands that reach into the memory of the tables, the phones, the numbers and the contested letters.
+// The commands that reach into the memory of the tables, the phones, the numbers, the contested letters and the edit count.
 use crate::answers;
 use crate::fields;
 use frames::writer;
@@ -7,11 +7,13 @@ ghost use mathlib.Core.Path.{_≡_};
 ghost use mathlib.Core.List.{_∷_};
 ghost use Prim.Native.Nat.{_+_, _*_, _≤_};
 ghost use lib.ListN.{length};
+ghost use Rattle.numbers.specs.Numbers.{bytes4};
 ghost use Rattle.rules.specs.Memory.{over};
+ghost use Rattle.image.specs.Image.{imageSize};
 ghost use Rattle.frames.specs.Output.{output, Sent};
 ghost use Rattle.transcript.specs.Answers.{twos, printed};
 ghost use Rattle.commands.specs.Answers.{Answered};
-ghost use Rattle.commands.specs.Memory.{eights, bytes8, storedWord, storedSet, inside, shownWords, shownSets, shownPhones, shownNumbers, shownContested};
+ghost use Rattle.commands.specs.Memory.{eights, bytes8, storedWord, storedSet, inside, shownWords, shownSets, shownPhones, shownNumbers, shownContested, shownEdits};
 
 // 18, index (4), value (2): one word is stored.
 pub fn store_word(f: &[u8], words: &mut [u16], out: &mut [u8]) -> usize
@@ -179,4 +181,28 @@ pub fn show_contested(f: &[u8], contested: u8, out: &mut [u8]) -> usize
     }
     let bytes = [contested];
     bytes_line(&bytes, out)
+}
+
+// 0A and an edit count (4).
+fn edits_line(edits: u32, out: &mut [u8]) -> usize
+    requires { ⌜ 15 ≤ length (now out) ⌝ }
+    ensures len { λ r. ⌜ r ≡ length (printed (10 ∷ bytes4 edits)) ⌝ }
+    ensures bytes { λ _. ⌜ now (out .exit) ≡ over (printed (10 ∷ bytes4 edits)) (now (out .entry)) ⌝ }
+{
+    let start = writer::begin(0);
+    let kind = writer::put(&mut *out, start, 10);
+    let body = writer::put_four(&mut *out, kind, numbers::wide32(edits));
+    writer::end(out, body)
+}
+
+// 29: the edit count is shown.
+pub fn show_edits(f: &[u8], image: &[u8], out: &mut [u8]) -> usize
+    requires { ⌜ (imageSize ≤ length (now image)) × (15 ≤ length (now out)) ⌝ }
+    ensures len { λ r. ⌜ r ≡ length (shownEdits (now (f .entry)) (now (image .entry))) ⌝ }
+    ensures bytes { λ _. ⌜ now (out .exit) ≡ over (shownEdits (now (f .entry)) (now (image .entry))) (now (out .entry)) ⌝ }
+{
+    if f.len() != 1 {
+        return answers::malformed(out);
+    }
+    edits_line(image::edit_count(image), out)
 }

@@ -12,7 +12,7 @@ use borrow.Author.Tests.{leb-true}
 use Rattle.rules.specs.Memory.{over}
 use Rattle.rules.proofs.Memory.{over-length, put-tail, tail-is}
 use Rattle.rules.proofs.Cases.{byBool}
-use Rattle.image.specs.Image.{valid, literalsOf}
+use Rattle.image.specs.Image.{valid, editsOf, literalsOf}
 use Rattle.exceptions.specs.Judging.{isList, Listing, listingOf}
 use Rattle.reading.specs.Fitting.{Str}
 use Rattle.reading.specs.Speech.{Outcome, speaks, declines, judgedCall, phonesOf, numbersOf, Said, toldOf, saying, delivered, refused}
@@ -195,7 +195,7 @@ delivered-fit (speaks xs steps) phones numbers =
 
 pub walk-fits : (image : List ℕ) (l : Listing) (ws ss : List ℕ) → Fits (walkSaid image l ws ss)
 unfolding walkFor
-walk-fits image l ws ss n phones numbers = delivered-fit (judgedCall image l n (walkThrough (compiledFrom ws ss) (literalsOf image) n)) phones numbers
+walk-fits image l ws ss n phones numbers = delivered-fit (judgedCall image l n (walkThrough (compiledFrom ws ss) (editsOf image) (literalsOf image) n)) phones numbers
 
 -- ---- one name, as the code answers it
 

@@ -7,7 +7,7 @@ use lib.Dec.{leb, eqb}
 use lib.ListN.{length}
 use Rattle.rules.specs.Refusals.{Reply, accepted, declined, replyCode}
 use Rattle.rules.specs.declared.Rule.{Rule}
-use Rattle.image.specs.Image.{imageSize, ruleSize, valid, countOf, lastOf, ruleOf}
+use Rattle.image.specs.Image.{imageSize, ruleSize, valid, countOf, lastOf, editsOf, ruleOf}
 use Rattle.reading.specs.Speech.{Told, spoken, refused}
 
 -- ---- the ruleset
@@ -16,12 +16,15 @@ use Rattle.reading.specs.Speech.{Told, spoken, refused}
 abbrev pub checked : List ℕ → Reply
 checked image = cond (valid image) accepted (declined 0 0)
 
--- the rule count and `last` that memory holds, ruleset or not; 0 where it is too short for a ruleset
+-- the rule count, `last` and the edit count that memory holds, ruleset or not; 0 where it is too short for a ruleset
 abbrev pub countIn : List ℕ → ℕ
 countIn image = cond (leb imageSize (length image)) (countOf image) 0
 
 abbrev pub lastIn : List ℕ → ℕ
 lastIn image = cond (leb imageSize (length image)) (lastOf image) 0
+
+abbrev pub editsHeld : List ℕ → ℕ
+editsHeld image = cond (leb imageSize (length image)) (editsOf image) 0
 
 -- ---- a call that speaks a name
 

@@ -12,7 +12,7 @@ use Rattle.rules.specs.Refusals.{refusalNumber, refusalPlace, Reply, accepted, 
 use Rattle.rules.specs.declared.Refusal.{Refusal}
 use Rattle.rules.specs.declared.Answer.{Answer}
 use Rattle.rules.specs.declared.Answer.the-variants.{Accepted, Refused}
-use Rattle.image.specs.Image.{valid, imageSize, literalsOf, Edited, outcome}
+use Rattle.image.specs.Image.{valid, imageSize, editsOf, literalsOf, Edited, outcome}
 use Rattle.file.specs.Loading.{loaded}
 use Rattle.tables.specs.Words.{Built, building, builtFrom, built}
 use Rattle.loader.specs.Prepared.{maxInput, Prepared, ready, withTables, onward, prepared}
@@ -63,5 +63,5 @@ unfolding built
 accepted-valid image words sets ws ss r e f =
     byBool (valid image) (λ v. v)
     (λ v.
-    let d : built image words sets ≡ building (declined 0 0) words sets = ap (λ (b : Bool). cond b (builtFrom (literalsOf image) words sets) (building (declined 0 0) words sets)) v in
+    let d : built image words sets ≡ building (declined 0 0) words sets = ap (λ (b : Bool). cond b (builtFrom (editsOf image) (literalsOf image) words sets) (building (declined 0 0) words sets)) v in
     never-taken 0 0 (sym (ap (λ (b : Built). b .reply) (e ∙ d)) ∙ f))

@@ -136,7 +136,7 @@ fn main() {
     let mut list = [0u32; exceptions::SIZE];
     exceptions::clear(&mut list);
     let mut text = [238u8; 130000];
-    let mut words = [65535u16; 524418];
+    let mut words = [65535u16; 524420];
     let mut sets = [18446744073709551615u64; 65552];
     let mut phones = [238u8; 256];
     let mut numbers = [61166u16; 64];

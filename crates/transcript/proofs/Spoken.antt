@@ -15,7 +15,7 @@ use Rattle.rules.specs.Limits.{maxName}
 use Rattle.rules.specs.Refusals.{refusalNumber, refusalPlace}
 use Rattle.rules.specs.declared.Refusal.{Refusal}
 use Rattle.exceptions.specs.Judging.{Listing, noList}
-use Rattle.image.specs.Image.{valid, literalsOf}
+use Rattle.image.specs.Image.{valid, editsOf, literalsOf}
 use Rattle.frames.specs.Lines.{soundLine}
 use Rattle.reading.specs.Speech.{Outcome, speaks, declines, atOnce, judgedCall, Told, toldOf, saying, phonesOf, numbersOf, delivered}
 use Rattle.reading.specs.declared.Speech.{Speech}
@@ -39,7 +39,7 @@ pub walk-within : (image : List ℕ) (l : Listing) (words sets letters phones nu
     → ToldWithin (walkSaid image l words sets letters phones numbers .said .told) (length phones) (length numbers)
 unfolding walkFor
 walk-within image l words sets letters phones numbers =
-    delivered-within (judgedCall image l letters (walkThrough (compiledFrom words sets) (literalsOf image) letters)) phones numbers
+    delivered-within (judgedCall image l letters (walkThrough (compiledFrom words sets) (editsOf image) (literalsOf image) letters)) phones numbers
 
 module _ (image words sets : List ℕ) where
   -- the answer to a name over 64 letters
@@ -48,7 +48,7 @@ module _ (image words sets : List ℕ) where
   unfolding walkFor
   overlong letters phones numbers v e =
       ap (λ (o : Outcome). walkedAs o phones numbers)
-      (call-refused image letters (walkThrough (compiledFrom words sets) (literalsOf image) letters) v noList (λ w. []) refl 2 0 (name-long letters (leb-false (length letters) maxName e)))
+      (call-refused image letters (walkThrough (compiledFrom words sets) (editsOf image) (literalsOf image) letters) v noList (λ w. []) refl 2 0 (name-long letters (leb-false (length letters) maxName e)))
 
   cut-line : (letters : List ℕ) → valid image ≡ true → nameLine image words sets (take 65 letters) ≡ nameLine image words sets letters
   unfolding nameLine

@@ -198,7 +198,17 @@ module _ (image ws ss : List ℕ) (l r : ℕ) (fit stale : Bool) (fits-as : Fits
         let y = q .states z .right-small k low high in
         (omega arith, omega arith)
 
--- ---- the lengths
+-- ---- the lengths and the edit count
+
+pub count-differs : (ws : List ℕ) (edits high low e : ℕ) (long : Bool) → long ≡ true → high ≡ getD ws 0 0 → low ≡ getD ws 1 0 → e ≡ edits
+    → not (eqb (65536 * high + low) e) ≡ (long && not (eqb (editsIn ws) edits))
+count-differs ws edits high low e long t a b d = rw (t, a, b, d)
+
+pub none-pass : (long stale : Bool) → stale ≡ true → false ≡ (long && not stale)
+none-pass long stale t = rw t (byBool long (λ u. rw u) (λ u. rw u))
+
+pub all-pass : (long stale : Bool) → stale ≡ false → long ≡ (long && not stale)
+all-pass long stale t = rw t (byBool long (λ u. rw u) (λ u. rw u))
 
 module _ (ws ss : List ℕ) (l r : ℕ) where
   pub fit-true : lengthsFit (compiledWith ws ss l r) ≡ true → Fit (length ws) (length ss) l r
