@@ -39,6 +39,7 @@ use denote.Triple.Table.{entered, cited}
 use denote.Triple.Walked.{says, Stays, stay-none-slice, walkOf, goes-none-slice, Walks, ends-at, walked, walk-meets}
 use denote.Exit.{yes}
 use denote.Triple.Clauses.{ensured, lasts}
+use Rattle.tables.specs.Words.{leftCount, rightCount}
 use Rattle.compiled.specs.declared.Compiled.{Compiled}
 use Rattle.compiled.proofs.Compiled as T
 use Rattle.compiled.proofs.Compiled.Laws as T′
@@ -98,7 +99,7 @@ module _ {M : Type 1} (𝓤 : URA M) (H : Heap 𝓤) (A : Atoms 𝓤) (W : Given
   said : (i r : ℕ) → ent 𝓤 (ensured 𝓤 H A count.ended (count.clauses 𝓤 H A mem run) (κ, tt) (w, (i, tt)) tt r) (fact 𝓤 (r ≡ getD (now w) i 0))
   said i r = exE 𝓤 _ (λ ws. snd∗ 𝓤 (sem 𝓤 H A (lasts count.ended (κ, tt) (w, (i, tt)) ws)) (fact 𝓤 (r ≡ getD (now w) i 0)))
 
-  exits : (l r : ℕ) → l ≡ getD (now w) 0 0 → r ≡ getD (now w) 1 0 → l < 2 ^ 64 → r < 2 ^ 64 → ent 𝓤 (⋆ 𝓤 H A ((‵ (flft κ q) ⊛ ‵ ftrue) ∷ ‵ OwnW ∷ ‵ OwnS ∷ [])) (Post (T′.lowered (made l r)))
+  exits : (l r : ℕ) → l ≡ leftCount (now w) → r ≡ rightCount (now w) → l < 2 ^ 64 → r < 2 ^ 64 → ent 𝓤 (⋆ 𝓤 H A ((‵ (flft κ q) ⊛ ‵ ftrue) ∷ ‵ OwnW ∷ ‵ OwnS ∷ [])) (Post (T′.lowered (made l r)))
   exits l r el er fl fr =
       qed W ((‵ (flft κ q) ⊛ ‵ ftrue) ∷ ‵ OwnW ∷ ‵ OwnS ∷ []) ∵
       suffices ! _ (ends-at 𝓤 H A this.ended stayed (this.clauses 𝓤 H A mem run) W (((κ, tt), (q, tt), tt, (w, (s, tt)), at), tt) (T′.lowered (made l r)) (made l r) (tt, (tt, tt)) (tt, (tt, tt))) $ says ! (λ i. made (el i) (er i)) $
@@ -119,18 +120,18 @@ module _ {M : Type 1} (𝓤 : URA M) (H : Heap 𝓤) (A : Atoms 𝓤) (W : Given
         -- [_4; …; _3; …; _2; …; _1; …; room for _0; …; the token; what words and sets own]
         move ! (11 ∷ []) $ fsplit ! $ move ! (1 ∷ []) $ fsplit ! $ move ! (1 ∷ []) $ drop ! $
         -- [S; W; _4; …; the token]
-        move ! (12 ∷ 1 ∷ []) $ use3 W (raw (Count 𝓤 H A mem run .pre (to 0)) ⊛ ‵ OwnW ⊛ ‵ OwnS) (goes 0 (lit< tt)) $ split ! $ move ! (1 ∷ []) $ split ! $ move ! (2 ∷ []) $
-        calls-at ! fm (Count 𝓤 H A mem run) known (to 0) (and-then ! (load ! (from ! (stop !)) (look ! 9 refl)) (and-then ! (lit ! tt) (no-more !))) (λ u.
-        use1 W (later (some (λ (l : ℕ). ((‵ (flft κ q) ⊛ ‵ ftrue) ⊛ ‵ (usize .own l (u ∷ []))) ⊛ raw (ensured 𝓤 H A count.ended (count.clauses 𝓤 H A mem run) (κ, tt) (w, (0, tt)) tt l)))) (id⊢ 𝓤 _) $ await ! tt $ pick ! (λ l.
-        split ! $ move ! (1 ∷ []) $ use1 W (raw (fact 𝓤 (l ≡ getD (now w) 0 0))) (said 0 l) $ heard ! (l ≡ getD (now w) 0 0) (λ el. split ! $ move ! (1 ∷ []) $
+        move ! (12 ∷ 1 ∷ []) $ use3 W (raw (Count 𝓤 H A mem run .pre (to 2)) ⊛ ‵ OwnW ⊛ ‵ OwnS) (goes 2 (lit< tt)) $ split ! $ move ! (1 ∷ []) $ split ! $ move ! (2 ∷ []) $
+        calls-at ! fm (Count 𝓤 H A mem run) known (to 2) (and-then ! (load ! (from ! (stop !)) (look ! 9 refl)) (and-then ! (lit ! tt) (no-more !))) (λ u.
+        use1 W (later (some (λ (l : ℕ). ((‵ (flft κ q) ⊛ ‵ ftrue) ⊛ ‵ (usize .own l (u ∷ []))) ⊛ raw (ensured 𝓤 H A count.ended (count.clauses 𝓤 H A mem run) (κ, tt) (w, (2, tt)) tt l)))) (id⊢ 𝓤 _) $ await ! tt $ pick ! (λ l.
+        split ! $ move ! (1 ∷ []) $ use1 W (raw (fact 𝓤 (l ≡ leftCount (now w)))) (said 2 l) $ heard ! (l ≡ leftCount (now w)) (λ el. split ! $ move ! (1 ∷ []) $
         -- [the count; the token; W; S; _4; …; _3; …; _2; …; _1; …; room for _0; …]
         peeks ! usize (Is usize) (shows 𝓤 H A usize) l (u ∷ []) (λ il.
         land ! (from ! (stop !)) (init ! 6 refl (uint-lawful 𝓤 H A W w64 .typed l _ il .0)) $ rewrite ! 6 (λ (v : Val). ‵ (fat fullShare (tyInt w64) l₃ 0 v)) (ap only (il .0)) refl $ drop ! $
         -- [the token; W; S; _4; …]
-        use3 W (raw (Count 𝓤 H A mem run .pre (to 1)) ⊛ ‵ OwnW ⊛ ‵ OwnS) (goes 1 (lit< tt)) $ split ! $ move ! (1 ∷ []) $ split ! $ move ! (2 ∷ []) $
-        calls-at ! fm (Count 𝓤 H A mem run) known (to 1) (and-then ! (load ! (from ! (stop !)) (look ! 9 refl)) (and-then ! (lit ! tt) (no-more !))) (λ v.
-        use1 W (later (some (λ (r : ℕ). ((‵ (flft κ q) ⊛ ‵ ftrue) ⊛ ‵ (usize .own r (v ∷ []))) ⊛ raw (ensured 𝓤 H A count.ended (count.clauses 𝓤 H A mem run) (κ, tt) (w, (1, tt)) tt r)))) (id⊢ 𝓤 _) $ await ! tt $ pick ! (λ r.
-        split ! $ move ! (1 ∷ []) $ use1 W (raw (fact 𝓤 (r ≡ getD (now w) 1 0))) (said 1 r) $ heard ! (r ≡ getD (now w) 1 0) (λ er. split ! $ move ! (1 ∷ []) $
+        use3 W (raw (Count 𝓤 H A mem run .pre (to 3)) ⊛ ‵ OwnW ⊛ ‵ OwnS) (goes 3 (lit< tt)) $ split ! $ move ! (1 ∷ []) $ split ! $ move ! (2 ∷ []) $
+        calls-at ! fm (Count 𝓤 H A mem run) known (to 3) (and-then ! (load ! (from ! (stop !)) (look ! 9 refl)) (and-then ! (lit ! tt) (no-more !))) (λ v.
+        use1 W (later (some (λ (r : ℕ). ((‵ (flft κ q) ⊛ ‵ ftrue) ⊛ ‵ (usize .own r (v ∷ []))) ⊛ raw (ensured 𝓤 H A count.ended (count.clauses 𝓤 H A mem run) (κ, tt) (w, (3, tt)) tt r)))) (id⊢ 𝓤 _) $ await ! tt $ pick ! (λ r.
+        split ! $ move ! (1 ∷ []) $ use1 W (raw (fact 𝓤 (r ≡ rightCount (now w)))) (said 3 r) $ heard ! (r ≡ rightCount (now w)) (λ er. split ! $ move ! (1 ∷ []) $
         peeks ! usize (Is usize) (shows 𝓤 H A usize) r (v ∷ []) (λ ir.
         land ! (from ! (stop !)) (init ! 4 refl (uint-lawful 𝓤 H A W w64 .typed r _ ir .0)) $ rewrite ! 4 (λ (x : Val). ‵ (fat fullShare (tyInt w64) l₄ 0 x)) (ap only (ir .0)) refl $ drop ! $
         -- [the token; W; S; _4; …; _3; …; _2; …; _1; …; room for _0; …]
