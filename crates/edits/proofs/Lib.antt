@@ -3,3 +3,4 @@ pub mod Applied
 pub mod Judging
 pub mod Answers
 pub mod History
+pub mod Counted

@@ -86,3 +86,15 @@ issuedBy (declined x y) e n l = l
 abbrev pub issued : Ledger → List Edit → List ℕ
 issued g [] = []
 issued g (e ∷ es) = issuedBy (judged g e) e (after g e .last) (issued (after g e) es)
+
+-- how many of the edits are accepted additions, drops and moves
+abbrev pub countedBy : Reply → Edit → ℕ
+countedBy accepted (Add r p) = 1
+countedBy accepted (Drop n) = 1
+countedBy accepted (Move n p) = 1
+countedBy accepted (SetClass c l) = 0
+countedBy (declined x y) e = 0
+
+abbrev pub counted : Ledger → List Edit → ℕ
+counted g [] = 0
+counted g (e ∷ es) = countedBy (judged g e) e + counted (after g e) es

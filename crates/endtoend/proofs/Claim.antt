@@ -59,7 +59,7 @@ unfolding built
 enough-built image ws ss v w s = rw (v, le-leb _ _ w, le-leb _ _ s)
 
 -- the literal rules of the image are those of the ledger after the edits
-state-literals : (image : List ℕ) (g : Ledger) → ledgerOf image ≡ g → literalsOf image ≡ expand (g .classes) (rulesOf g)
+pub state-literals : (image : List ℕ) (g : Ledger) → ledgerOf image ≡ g → literalsOf image ≡ expand (g .classes) (rulesOf g)
 unfolding literalsOf entriesOf
 state-literals image g e = ap (λ (x : Ledger). expand (x .classes) (rulesOf x)) e
 

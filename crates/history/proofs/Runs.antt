@@ -20,9 +20,10 @@ use Rattle.image.specs.State.{Ledger, start, expandable, isRuleset}
 use Rattle.image.specs.Image.{imageSize, ledgerOf, valid, Edited, outcome, cleared}
 use Rattle.image.proofs.Stored.{Fine, none}
 use Rattle.image.proofs.Whole.{whole-ledger, whole-valid}
-use Rattle.edits.specs.Ledger.{Edit, afterAll, answersAll, issued}
+use Rattle.edits.specs.Ledger.{Edit, afterAll, answersAll, issued, counted}
 use Rattle.edits.specs.Ledger.Edit.{Add, Drop, Move, SetClass}
 use Rattle.edits.specs.Edits.{edited, imageAll, outAll, FilledEdit}
+use Rattle.edits.proofs.Counted.{counted-all}
 use Rattle.edits.proofs.History.{history, history-valid, history-issued, issued-rise}
 use Rattle.history.specs.Code.{editWords, byteAt, codedRule, codedLetters, codedEdit, codedEdits}
 use Rattle.history.specs.Replay.{turns, taken, replaying, through, throughBy, replayed, issuedFromEmpty, FromEmpty, Replayed}
@@ -188,6 +189,7 @@ from-empty es w d answers places a =
     record {
       kept = history-valid es w (cleared d .image) (ok .0);
       state = t .1 ∙ ap (λ (g : Ledger). afterAll g es) (ok .1);
+      edits = ap (λ (g : Ledger). g .edits) (t .1 ∙ ap (λ (g : Ledger). afterAll g es) (ok .1)) ∙ (counted-all es start ∙ (let z : 0 + counted start es ≡ counted start es = omega arith in z));
       answers = ap (λ (l : List Reply). over (map replyCode l) answers) o;
       places = ap (λ (l : List Reply). over (map replyPlace l) places) o;
       numbers = n;

@@ -8,8 +8,8 @@ use lib.ListN.{length, getD}
 use Rattle.rules.specs.Memory.{over, Below, wordBound}
 use Rattle.rules.specs.Refusals.{Reply, accepted, declined, replyCode, replyPlace}
 use Rattle.image.specs.State.{start}
-use Rattle.image.specs.Image.{ledgerOf, valid, cleared}
-use Rattle.edits.specs.Ledger.{Edit, afterAll, answersAll, issued}
+use Rattle.image.specs.Image.{editsOf, ledgerOf, valid, cleared}
+use Rattle.edits.specs.Ledger.{Edit, afterAll, answersAll, issued, counted}
 use Rattle.edits.specs.Edits.{outAll, imageAll, issuedIn}
 use Rattle.history.specs.Code.{editWords, codedEdits, poolOf, wordsAll}
 
@@ -52,9 +52,11 @@ issuedFromEmpty image es = issuedIn (cleared image .image) es
 
 -- The claim over the edits es from the empty ruleset, in memory that held image₀, answers₀ and places₀: what is held and what was answered.
 pub record FromEmpty (es : List Edit) (image₀ answers₀ places₀ : List ℕ) (r : Replay) : Type 0 where
-  -- the memory holds a ruleset, whose rules, last and classes are the ledger's
+  -- the memory holds a ruleset, whose rules, last, classes and edit count are the ledger's
   pub kept : valid (r .image) ≡ true
   pub state : ledgerOf (r .image) ≡ afterAll start es
+  -- it counts the accepted additions, drops and moves
+  pub edits : editsOf (r .image) ≡ counted start es
   -- each answer is the ledger's: a refusal's number with its place; what lies past them keeps its contents
   pub answers : r .answers ≡ over (map replyCode (answersAll start es)) answers₀
   pub places : r .places ≡ over (map replyPlace (answersAll start es)) places₀

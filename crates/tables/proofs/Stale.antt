@@ -6,22 +6,18 @@ use mathlib.Core.Bool.{true}
 use mathlib.Core.List.{List, [], _∷_}
 use borrow.Author.Tests.{ne-eqb}
 use Rattle.rules.specs.Names.{SoundName}
-use Rattle.rules.specs.Refusals.{Reply, accepted, declined}
+use Rattle.rules.specs.Refusals.{accepted, declined}
 use Rattle.rules.specs.Shape.{Entry}
 use Rattle.exceptions.specs.Judging.{Listing}
 use Rattle.image.specs.Image.{valid, editsOf, literalsOf}
 use Rattle.reading.specs.Fitting.{Str}
-use Rattle.reading.specs.Words.{Word, wordsIn, readWords, unlisted}
-use Rattle.reading.specs.Speech.{Outcome, atOnce, answered, judgedBy, saidOf, Unlisted, refused, saying}
+use Rattle.reading.specs.Words.{Word, wordsIn, unlisted}
+use Rattle.reading.specs.Speech.{Outcome, atOnce, saidOf, Unlisted}
 use Rattle.reading.proofs.Call.{call-unlisted}
 use Rattle.tables.specs.Words.{editsIn, Compiled, compiledFrom, built}
-use Rattle.tables.specs.Walk.{lengthsFit, judgedTables, judgedPasses, walkWord, stepsOver, walkThrough, Walked, walkedAs, walkFor, walkSaid}
-use Rattle.tables.proofs.Theorem.{Accepted, accepted-build}
+use Rattle.tables.specs.Walk.{lengthsFit, judgedTables, judgedPasses, walkThrough, walkedAs, walkFor}
+use Rattle.tables.proofs.Theorem.{accepted-build}
 use Rattle.tables.proofs.Words.{fit-built, edits-built}
-
--- what a walk gives that is refused with 22: its lent memory is as it was
-abbrev pub staleWalk : List ℕ → List ℕ → Walked
-staleWalk phones numbers = record { said = saying (refused 22 0) phones numbers; steps = 0 }
 
 module _ (c : Compiled) (edits : ℕ) (fit : lengthsFit c ≡ true) (other : editsIn (c .words) ≡ edits → ⊥) where
   stale-tables : judgedTables c edits ≡ declined 22 0
@@ -39,7 +35,7 @@ module _ (c : Compiled) (edits : ℕ) (fit : lengthsFit c ≡ true) (other : edi
 -- a sound name that is not on the list and has an unlisted word, through tables of the right lengths with another count
 pub stale-refused : (c : Compiled) (image : List ℕ) (l : Listing) (name : Str) (phones numbers : List ℕ) → valid image ≡ true → SoundName name → Unlisted l name
     → (unlisted (saidOf l) (wordsIn name) ≡ [] → ⊥) → lengthsFit c ≡ true → (editsIn (c .words) ≡ editsOf image → ⊥)
-    → walkFor c image l name phones numbers ≡ staleWalk phones numbers
+    → walkFor c image l name phones numbers ≡ walkedAs (atOnce 22 0) phones numbers
 unfolding walkFor
 stale-refused c image l name phones numbers ok s u need fit other =
     ap (λ (o : Outcome). walkedAs o phones numbers)
