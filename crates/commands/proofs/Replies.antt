@@ -16,7 +16,7 @@ use Rattle.image.specs.Image.{Edited, outcome, lastOf}
 use Rattle.reading.specs.Speech.{Told, toldOf, Said, saying}
 use Rattle.reading.specs.declared.Speech.{Speech}
 use Rattle.reading.specs.declared.Speech.the-variants as speeches
-use Rattle.tables.specs.Words.{Built, building}
+use Rattle.tables.specs.Words.{leftCount, rightCount, Built, building}
 use Rattle.tables.specs.Walk.{Walked}
 use Rattle.transcript.specs.Answers.{printed, toldBody, refusedBody, refusalLine}
 use Rattle.transcript.proofs.Printed.{length-printed}
@@ -89,7 +89,7 @@ speech-not b e xs ys k out out′ len p l h =
 -- ---- tables and names
 
 module _ (a : Answer) (words : List ℕ) (len : ℕ) (out out′ : List ℕ) where
-  pub gives-states : a ≡ Accepted → (l r : ℕ) → l ≡ getD words 0 0 → r ≡ getD words 1 0 → len ≡ 13 → out′ ≡ over (statesLine l r) out
+  pub gives-states : a ≡ Accepted → (l r : ℕ) → l ≡ leftCount words → r ≡ rightCount words → len ≡ 13 → out′ ≡ over (statesLine l r) out
       → Gives (buildLine (replyOf a) words) len out out′
   gives-states p l r el er n h = rw (p, ← el, ← er) (n ∙ sym (length-states l r), h)
 

@@ -10,6 +10,7 @@ use lib.ListN.{length, getD, take, drop, set}
 use lib.Dec.{eqb, ltb}
 use Rattle.rules.proofs.Cases.{and-l, and-r}
 use Rattle.rules.specs.Memory.{over}
+use Rattle.numbers.specs.Numbers.{bytes4}
 use Rattle.transcript.specs.Answers.{printed}
 use Rattle.commands.specs.Fields.{four}
 use Rattle.commands.specs.Answers.{malformedLine, doneLine, leaving, sizedTo, Answered}
@@ -32,6 +33,10 @@ module _ (b : Bool) (bytes : List ℕ) (len : ℕ) (out out′ : List ℕ) where
 
   pub is-shown : b ≡ true → Gives (printed (10 ∷ bytes)) len out out′ → Gives (shownIf b bytes) len out out′
   is-shown p g = rw p g
+
+-- an edit count as it was read
+pub edits-shown : (edits n len : ℕ) (out out′ : List ℕ) → edits ≡ n → Gives (printed (10 ∷ bytes4 edits)) len out out′ → Gives (printed (10 ∷ bytes4 n)) len out out′
+edits-shown edits n len out out′ e g = subst (λ (x : ℕ). Gives (printed (10 ∷ bytes4 x)) len out out′) e g
 
 -- a part that is asked for
 module _ (f : List ℕ) (n : ℕ) (p : inside f n ≡ true) where

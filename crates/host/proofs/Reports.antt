@@ -9,14 +9,14 @@ use borrow.Author.Tests.{eq-eqb, ne-eqb, lt-leb, le-leb}
 use Rattle.rules.specs.Shape.{shape}
 use Rattle.rules.specs.declared.Rule.{Rule}
 use Rattle.rules.specs.Refusals.{Reply, accepted, declined, replyCode, replyPlace, Report}
-use Rattle.image.specs.Image.{imageSize, valid, ledgerOf, Edited, outcome, countOf, lastOf, ruleSize, ruleOf}
+use Rattle.image.specs.Image.{imageSize, valid, ledgerOf, Edited, outcome, countOf, lastOf, editsOf, ruleSize, ruleOf}
 use Rattle.edits.specs.Ledger.{Edit, judged}
 use Rattle.edits.specs.Edits.{edited, outcomeBy}
 use Rattle.reading.specs.Speech.{Told, Said, saying}
 use Rattle.tables.specs.Words.{Built, building}
 use Rattle.file.specs.Loading.{Filed, filing}
 use Rattle.host.specs.Files.{writtenCode, bytesOrPlace}
-use Rattle.host.specs.Codes.{checked, countIn, lastIn, spokenCode, phonesOrPlace, numbersGiven, contestedGiven, blankRule, ruleGiven}
+use Rattle.host.specs.Codes.{checked, countIn, lastIn, editsHeld, spokenCode, phonesOrPlace, numbersGiven, contestedGiven, blankRule, ruleGiven}
 
 -- the numbers of an edit or a reading, and the memory after it
 module _ (a : Reply) (image : List ℕ) (e : Edited) (h : outcome a image ≡ e) where
@@ -45,6 +45,12 @@ last-long image h = ap (λ (t : Bool). cond t (lastOf image) 0) (sym (le-leb ima
 
 pub last-short : (image : List ℕ) → length image < imageSize → 0 ≡ lastIn image
 last-short image h = ap (λ (t : Bool). cond t (lastOf image) 0) (sym (lt-leb imageSize (length image) h))
+
+pub edits-long : (image : List ℕ) → imageSize ≤ length image → editsOf image ≡ editsHeld image
+edits-long image h = ap (λ (t : Bool). cond t (editsOf image) 0) (sym (le-leb imageSize (length image) h))
+
+pub edits-short : (image : List ℕ) → length image < imageSize → 0 ≡ editsHeld image
+edits-short image h = ap (λ (t : Bool). cond t (editsOf image) 0) (sym (lt-leb imageSize (length image) h))
 
 -- a rule from the bytes of a slot without its number
 pub rule-yes : (s : List ℕ) (r : Rule) → r ≡ ruleOf s → length s ≡ ruleSize → r ≡ ruleGiven s

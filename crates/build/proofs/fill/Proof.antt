@@ -88,7 +88,7 @@ cast-put-counts-2 : tie.Need-cast-put-counts-2
 cast-put-counts-2 c = record { fits = omega (arith, c .before .before .before .before .before .before .before .before .before .before .fill-part2 .ensures .1 .1 .few) }
 
 put-counts-requires : tie.Need-put-counts-requires
-put-counts-requires c κs = 
+put-counts-requires c κs =
     let st = c .before .before .before .before .before .before .before .before .before .before .before .before .before .before .before .before .before .before .before .before .before .before .before .before .before .before .before .before .before .before .before .before .before in
     let f = c .before .before .before .before .before .before .before .before .before .before .before .before .before .before .before .before .before .before .before .before .before .before .before .fill-part .ensures in
     let g = c .before .before .before .before .before .before .before .before .before .before .fill-part2 .ensures in

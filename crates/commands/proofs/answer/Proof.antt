@@ -1,7 +1,7 @@
 -- `commands::answer` meets its contract: each command is answered by its own function.
 -- Assumes nothing.
 use borrow.Author.Needs.{needs}
-use Rattle.commands.proofs.Dispatch.{by-none, by-add, by-drop, by-move, by-read, by-write, by-build, by-walk, by-plain, by-store-word, by-store-set, by-show-words, by-show-sets, by-show-phones, by-show-numbers, by-force, by-clear, by-show-contested, by-class, by-other}
+use Rattle.commands.proofs.Dispatch.{by-none, by-add, by-drop, by-move, by-read, by-write, by-build, by-walk, by-plain, by-store-word, by-store-set, by-show-words, by-show-sets, by-show-phones, by-show-numbers, by-force, by-clear, by-show-contested, by-class, by-show-edits, by-recount, by-other}
 use Rattle.commands.proofs.answer.Statement.{statement}
 use Rattle.commands.proofs.answer.Tie as tie
 
@@ -72,6 +72,12 @@ show-contested-requires c κs = search needs
 
 class-command-requires : tie.Need-class-command-requires
 class-command-requires c κs = search needs
+
+show-edits-requires : tie.Need-show-edits-requires
+show-edits-requires c κs = search needs
+
+recount-command-requires : tie.Need-recount-command-requires
+recount-command-requires c κs = search needs
 
 malformed-requires-2 : tie.Need-malformed-requires-2
 malformed-requires-2 c κs = search needs
@@ -298,8 +304,30 @@ returns-19 c =
 same-length-45 : tie.Need-same-length-45
 same-length-45 c = search needs
 
+same-length-46 : tie.Need-same-length-46
+same-length-46 c = search needs
+
 returns-20 : tie.Need-returns-20
 returns-20 c =
+    let a = c .before .before .before .before .before .before .before .before .before .before .before .before .before .before .before .before .before .args in
+    by-show-edits (a .f .now) (a .file .now) (a .list .now) (a .image .now) (a .words .now) (a .sets .now) (a .phones .now) (a .numbers .now) (a .contested .now) _ (a .out .now) _ (c .before .before .before .before .before .match .keys19) (c .before .before .show-edits .ensures)
+
+same-length-47 : tie.Need-same-length-47
+same-length-47 c = search needs
+
+same-length-48 : tie.Need-same-length-48
+same-length-48 c = search needs
+
+returns-21 : tie.Need-returns-21
+returns-21 c =
+    let a = c .before .before .before .before .before .before .before .before .before .before .before .before .before .before .before .before .before .before .before .args in
+    by-recount (a .f .now) (a .file .now) (a .list .now) (a .image .now) (a .words .now) (a .sets .now) (a .phones .now) (a .numbers .now) (a .contested .now) _ (a .out .now) _ _ (c .before .before .before .before .before .before .before .match .keys20) (c .before .before .before .before .recount-command .ensures)
+
+same-length-49 : tie.Need-same-length-49
+same-length-49 c = search needs
+
+returns-22 : tie.Need-returns-22
+returns-22 c =
     let a = c .before .before .before .before .before .before .before .before .before .before .before .before .before .before .before .before .args in
     by-other (a .f .now) (a .file .now) (a .list .now) (a .image .now) (a .words .now) (a .sets .now) (a .phones .now) (a .numbers .now) (a .contested .now) _ (a .out .now) _ (c .before .before .malformed2 .ensures .0) (c .before .before .malformed2 .ensures .1) (c .before .before .before .before .match .rest)
 
@@ -329,6 +357,8 @@ answer-spec =
     clear-command-requires
     show-contested-requires
     class-command-requires
+    show-edits-requires
+    recount-command-requires
     malformed-requires-2
     same-length-2
     same-length-3
@@ -392,4 +422,10 @@ answer-spec =
     same-length-44
     returns-19
     same-length-45
-    returns-20)
+    same-length-46
+    returns-20
+    same-length-47
+    same-length-48
+    returns-21
+    same-length-49
+    returns-22)
