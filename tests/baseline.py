@@ -13,6 +13,7 @@ import tempfile
 
 import generate
 import reference as ref
+import stale
 
 SOURCE = os.path.join(os.path.dirname(os.path.abspath(__file__)), "..", "bench", "baseline.c")
 
@@ -27,8 +28,8 @@ class Literal(c.Structure):
 
 
 class Ruleset(c.Structure):
-    _fields_ = [("count", c.c_uint16), ("last", c.c_uint16), ("total", c.c_uint16), ("rules", Rule * 512),
-                ("classes", c.c_uint64 * 32), ("literals", Literal * 512)]
+    _fields_ = [("count", c.c_uint16), ("last", c.c_uint16), ("total", c.c_uint16), ("edits", c.c_uint32),
+                ("rules", Rule * 512), ("classes", c.c_uint64 * 32), ("literals", Literal * 512)]
 
 
 class Spoken(c.Structure):
@@ -37,7 +38,7 @@ class Spoken(c.Structure):
 
 
 def given_to_c(rs):
-    out = Ruleset(len(rs.rules), rs.last, ref.literal_total(rs))
+    out = Ruleset(len(rs.rules), rs.last, ref.literal_total(rs), rs.edits)
     for symbol, letters in rs.classes:
         out.classes[symbol - ref.CLASS_SYMBOLS[0]] = sum(1 << letter for letter in letters)
     of_rules = ((place, which) for place, (_, rule) in enumerate(rs.rules) for which in range(ref.literal_count(rule, rs.classes)))
@@ -59,7 +60,7 @@ def got_from_c(held):
                   for name, length in zip(("left", "target", "right", "phones"), rule.lengths))
         rules.append(ref.Numbered(rule.number, ref.Rule(*fields)))
     masks = b"".join(mask.to_bytes(8, "big") for mask in held.classes)
-    return ref.Ruleset(tuple(rules), held.last, ref.classes_in(masks))
+    return ref.Ruleset(tuple(rules), held.last, ref.classes_in(masks), held.edits)
 
 
 def literals_of(held):
@@ -73,7 +74,7 @@ def answer(code, out):
 
 
 def compare(base, source, check, words, sets):
-    rs = source.ruleset()
+    rs = source.ruleset()._replace(edits=source.pick(stale.COUNTS))
     held = given_to_c(rs)
     base.base_build(c.byref(held), words, sets)
     built_words, built_sets = ref.build(rs, ref.MONITOR_WORDS, ref.MONITOR_SETS)
@@ -89,11 +90,14 @@ def compare(base, source, check, words, sets):
         check.equal("walk", (answer(code, out), out.steps), (wanted, 2 * len(name) + 2))
         code = base.base_plain(c.byref(held), name, c.c_size_t(len(name)), c.byref(out))
         check.equal("plain", answer(code, out), wanted)
+    later = given_to_c(rs._replace(edits=rs.edits ^ 1 << source.upto(31)))
+    code = base.base_walk(c.byref(later), words, sets, b"", c.c_size_t(0), c.byref(out))
+    check.equal("tables from before an edit", (code, out.steps, out.position), (-1, 0, 0))
     text = (c.c_uint8 * ref.LONGEST_FILE)()
     length = base.base_write(c.byref(held), text)
     check.equal("write", bytes(text[:length]), ref.file_text(rs))
     for data in (ref.file_text(rs), source.file(rs), source.file(rs)):
-        back = Ruleset()
+        back = Ruleset(edits=9)
         code = base.base_read(data, c.c_size_t(len(data)), c.byref(back))
         wanted = ref.read_file(data)
         check.equal("read", got_from_c(back) if code == 0 else None,

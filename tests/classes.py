@@ -5,7 +5,7 @@ Every function that chooses takes a generate.Source, so that a run can be named 
 """
 
 import reference as ref
-from lists import ALL, ASKING, BUILDING, adding, plainly, walking
+from lists import ALL, ASKING, BUILDING, adding, counting, plainly, walking
 from reference import CLASS_SYMBOLS, MAX_CLASS, Class, Rule, four, frame_line, literal_count, two
 
 FIRST, LAST = CLASS_SYMBOLS[0], CLASS_SYMBOLS[-1]
@@ -181,15 +181,16 @@ def orders():
 
 
 def limit():
-    """Exactly 512 literal rules, by rules of many and of one; then one more; dropped, moved, set again and added."""
+    """Exactly 512 literal rules, by rules of many and of one; then one more; dropped, moved, set again and added. The tables are also walked with
+    other rules, under the count that they were built with."""
     thirty_two = Rule(bytes([FIRST]), K, b"", b"\x70")
     bodies = [setting(FIRST, LETTERS[:32]), setting(LAST, NASALS)] + [adding(thirty_two)] * 16 + [WRITING, BUILDING]
     names = [b"\1" + K, b"\x20" + K, b"\x21" + K, K, b"\x0B\x0B"]
     spoken = [body for name in names for body in (walking(name), ASKING, plainly(name), ASKING)]
     tries = [adding(SINGLES[0], 16), adding(thirty_two), adding(thirty_two, 99), setting(FIRST, b"\1"), setting(LAST, b"\1")]
     bodies += spoken + tries + [b"\x11" + two(3)] + [adding(SINGLES[4], 15)] * 33
-    bodies += [b"\x12" + two(9) + two(0), b"\x12" + two(99) + two(0), WRITING, BUILDING]
-    return bodies + spoken + [b"\x11" + two(k) for k in range(1, 17)] + tries + spoken + [BUILDING] + spoken + [WRITING]
+    bodies += [b"\x12" + two(9) + two(0), b"\x12" + two(99) + two(0), WRITING, counting(77), BUILDING]
+    return bodies + spoken + [b"\x11" + two(k) for k in range(1, 17)] + tries + [counting(77)] + spoken + [BUILDING] + spoken + [WRITING]
 
 
 def short_names():

@@ -3,7 +3,7 @@ is, and tables whose sets share other places than those of the rules that fit.""
 
 import lists
 import reference as ref
-from lists import ALL, ASKING, BUILDING, KNEE, SIX, SPACE, plainly, walking
+from lists import ALL, ASKING, ASKING_EDITS, BUILDING, KNEE, SIX, SPACE, counting, plainly, walking
 from reference import LIST_UNITS, MAX_RULES, four, two
 
 
@@ -26,12 +26,13 @@ def sharing(source, held, name):
         return []
     word = source.pick(words)
     try:
-        left_after, right_after, _ = ref.both_passes(held.words, held.sets, word)
+        ref.judge_tables(held.ruleset(), held.words, held.sets)
+        left_after, right_after, _ = ref.both_passes(held.words, word)
     except ref.Unusable:
         return []
     i, j = source.random.randint(1, len(word.letters)), source.upto(7)
     places = source.pick([1 << 63, 1 << source.upto(63), 3 << source.upto(62), 2**64 - 1])
-    starts = 8 * left_after[i - 1], 8 * (held.words[0] + right_after[i])
+    starts = 8 * left_after[i - 1], 8 * (ref.states_in(held.words)[0] + right_after[i])
     return [storing_set(at + j, held.sets[at + j] | places) for at in starts] + asked([walking(name), plainly(name)])
 
 
@@ -47,13 +48,14 @@ def what_leaves_it():
     names = [b"\5" * 65, KNEE + b"\x40", KNEE + b"\1", KNEE + SPACE + b"\1"]
     refused = [call(name) for name in names for call in (walking, plainly)]                                         # 2, 1, 3
     refused += [walking(KNEE, 1), plainly(KNEE, 1), b"\x16" + four(ALL) * 2 + two(256) + two(2) + KNEE]             # 4, 5
-    refused += [walking(KNEE, tables=1)]                                                                            # 16
+    refused += [walking(KNEE, words=1), counting(7), walking(KNEE), counting(6)]                                    # 16, 22
     refused += [lists.lending(LIST_UNITS - 1), walking(KNEE), plainly(KNEE), lists.lending()]                       # 17
     refused += [lists.NO_RULESET, walking(KNEE), plainly(KNEE), lists.SIX_AGAIN]                                    # 0
     others = [lists.adding(ref.SIX_RULES[5], 6), b"\x11" + two(7), b"\x12" + two(1) + two(0), b"\x13", b"\x14" + four(0), BUILDING,
               b"\x18" + four(ref.MONITOR_WORDS - 1) + two(0), storing_set(ref.MONITOR_SETS - 1, 0), b"\x1A" + four(0) + b"\1",
               b"\x1B" + four(0) + b"\1", b"\x1C", b"\x1D", lists.listing(b"\1", b"\x61"), lists.removal(b"\1"), lists.reading_out(),
-              lists.showing(0, 1), lists.storing(0, 0), lists.EMPTYING, ASKING, ASKING + b"\0", b"\x28", b"\x28\x40\1", b"\x29", b"\x03", b"\x1F"]
+              lists.showing(0, 1), lists.storing(0, 0), lists.EMPTYING, ASKING, ASKING + b"\0", b"\x28", b"\x28\x40\1", ASKING_EDITS,
+              counting(0), b"\x2B", b"\x03", b"\x1F"]
     bodies = [ASKING] + asked(refused + [b"\x1F"] + SIX + [BUILDING])       # before the first name
     for spoken in (walking(KNEE), plainly(b"\5")):
         bodies += asked([spoken] + refused + others + SIX + [BUILDING])

@@ -71,8 +71,7 @@ def check_names(check, example_name, alphabet, names):
         reached += len(said.numbers)
         contested += said.contested
         given[name] = said.phones, said.contested
-    states = words[0] + words[1]
-    print(f"{example_name}: {len(rs.rules)} rules, {ref.literal_total(rs)} written out, {states} states, {len(words)} words, "
+    print(f"{example_name}: {len(rs.rules)} rules, {ref.literal_total(rs)} written out, {sum(ref.states_in(words))} states, {len(words)} words, "
           f"{len(applied)} rules applied by the names, {contested} of {reached} reached letters contested")
     return rs, given
 

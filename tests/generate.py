@@ -18,6 +18,7 @@ import classes
 import contested
 import lists
 import reference as ref
+import stale
 from reference import EMPTY, Numbered, Refusal, Rule, Ruleset, four, frame_line, two
 
 
@@ -298,27 +299,16 @@ class Source:
     # Tables and lent lengths -----------------------------------------------------
 
     def lent(self, need):
-        return self.pick([need, need, need, need + 1, need + 1000, max(0, need - 1), 0, 1,
+        return self.pick([need, need, need, need + 1, need + 1000, max(0, need - 1), self.upto(ref.ROWS), self.upto(ref.ROWS),
                           self.upto(need), 0x10000, 0xFFFFFFFF])
 
-    def damaged_tables(self, rs):
-        """Built tables with a few words or set words changed, or garbage."""
-        words, sets = ref.build(rs, ref.MONITOR_WORDS, ref.MONITOR_SETS)
-        words, sets = words[:], sets[:]
-        for _ in range(self.pick([0, 1, 1, 2, 5])):
-            if self.chance(0.5):
-                at, value = self.word_damage(words[0], words[1])
-                words[min(at, len(words) - 1)] = value    # a count may have been changed before
-            else:
-                at = self.upto(len(sets) - 1)
-                sets[at] = self.set_damage(sets[at], ref.literal_total(rs))
-        return words, sets
-
-    def word_damage(self, lefts, rights, symbols=bytes(range(64))):
-        """A count, or an entry under one of the symbols, often of a state near the root."""
+    def word_damage(self, lefts, rights, symbols):
+        """A count, of edits or of states, or an entry under one of the symbols, often of a state near the root."""
         if self.chance(0.1):
-            return self.pick([0, 1]), self.pick([0, 1, lefts, rights, 0xFFFF])
-        base, states = self.pick([(2, lefts), (2 + 64 * lefts, rights)])
+            return stale.word_damage(self)
+        if self.chance(0.1):
+            return self.pick([2, 3]), self.pick([0, 1, lefts, rights, 0xFFFF])
+        base, states = self.pick([(ref.ROWS, lefts), (ref.ROWS + 64 * lefts, rights)])
         state = self.upto(max(0, states - 1)) if self.chance(0.4) else self.upto(min(3, max(0, states - 1)))
         value = self.pick([0, states, states, max(0, states - 1), 0xFFFF, self.upto(states)])
         return base + 64 * state + self.pick(symbols), value
@@ -404,18 +394,22 @@ class Source:
         return rules_hex, lines, answers
 
     def commands(self, held, alphabet):
-        """One command, or several that belong together: a name and the count of its contested letters."""
+        """One command, or several that belong together: a name and the count of its contested letters, a change of the rules and new tables."""
         if self.chance(0.04):
             bodies = contested.sharing(self, held, self.name(held.ruleset()))
             if bodies:
                 return bodies
+        if self.chance(0.2 if held.held.edits == ref.MAX_EDITS else 0.04):      # a spent count refuses all edits: leave it soon
+            return stale.commands(self, held)
         body = self.command(held, alphabet)
+        if body[0] in stale.CHANGING:
+            return [body, *stale.renewed(self, held)]
         return [body, lists.ASKING] if body[0] in (0x16, 0x17) and self.chance(0.6) else [body]
 
     def command(self, held, alphabet):
         rs = held.ruleset()
         valid = ref.is_ruleset(rs)
-        lefts, rights, words, sets = ref.needed(rs) if valid else (1, 1, 130, 16)
+        lefts, rights, words, sets = ref.needed(rs) if valid else (1, 1, 132, 16)
         kind = self.random.random()
         if not valid and self.chance(0.3):      # an impossible ruleset refuses all: leave it soon
             return self.pick([b"\x13", b"\x1F"])
@@ -435,7 +429,8 @@ class Source:
         if kind < 0.78:
             if self.chance(0.5):
                 symbols = b"\0" + b"".join(r.target for _, r in rs.rules)
-                at, value = self.word_damage(min(held.words[0], 3073), min(held.words[1], 5121), symbols)
+                built_lefts, built_rights = ref.states_in(held.words)
+                at, value = self.word_damage(min(built_lefts, 3073), min(built_rights, 5121), symbols)
                 at = self.pick([at, at, at, at, ref.MONITOR_WORDS - 1, ref.MONITOR_WORDS, 0xFFFFFFFF])
                 return b"\x18" + four(at) + two(value)
             at = self.upto(sets - 1) if self.chance(0.5) else 8 * self.upto(min(3, sets // 8 - 1))
@@ -465,8 +460,7 @@ class Source:
         room = two(self.room(phones)) + two(self.room(numbers))
         if self.chance(0.35):
             return b"\x17" + room + name
-        built = held.words[0] != 0xFFFF
-        lent = (self.lent(words), self.lent(sets)) if self.chance(0.2) or not built else (0xFFFFFFFF, sets)
+        lent = (self.lent(words), self.lent(sets)) if self.chance(0.2) or not stale.built(held) else (0xFFFFFFFF, sets)
         return b"\x16" + four(lent[0]) + four(lent[1]) + room + name
 
     def room(self, need):
@@ -564,6 +558,7 @@ def files():
 
 FIXED = {"say": {"short names": short_names, **files()},
          "monitor": {"long lines": long_lines, **conversations(contested.FIXED), **conversations(classes.FIXED),
+                     **conversations(stale.FIXED), "edit counts and files": lambda: conversation(stale.files, ref.SIX_FILE),
                      "many rules": lambda: conversation(contested.many_rules, contested.many_rules_file())},
          "lists": conversations(lists.FIXED)}
 

@@ -51,14 +51,19 @@ def storing(index, value):
 
 
 ASKING = b"\x27"        # for the count of contested letters
+ASKING_EDITS = b"\x29"  # for the edit count
 
 
-def walking(name, phones=256, tables=ALL):
-    return b"\x16" + four(tables) * 2 + two(phones) + two(64) + name
+def counting(edits):
+    return b"\x2A" + four(edits)
+
+
+def walking(name, phones=256, words=ALL, sets=ALL):
+    return b"\x16" + four(words) + four(sets) + two(phones) + two(64) + name
 
 
 def without_tables(name, phones=256):
-    return walking(name, phones, 0)
+    return walking(name, phones, 0, 0)
 
 
 def plainly(name, phones=256):

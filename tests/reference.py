@@ -30,21 +30,24 @@ MAX_RULE_PHONES = 4
 MAX_NAME = 64
 MAX_RULES = 512         # literal rules, and so numbered ones
 MAX_NUMBER = 65_535
+MAX_EDITS = 2**32 - 1
 CLASS_SYMBOLS = range(0x40, 0x60)
 MAX_CLASS = 32          # letters of a class
 
-SLOT = 26               # a rule in lent memory
-MASKS = 4 + MAX_RULES * SLOT                    # 8 bytes for each class
+SLOTS = 8               # where the rules begin in lent memory
+SLOT = 26               # one of them
+MASKS = SLOTS + MAX_RULES * SLOT                # 8 bytes for each class
 TOTAL = MASKS + 8 * len(CLASS_SYMBOLS)          # of literal rules
 LITERALS = TOTAL + 2                            # 4 bytes for each of them
 MEMORY = LITERALS + 4 * MAX_RULES
+ROWS = 4                # where the rows begin in the words
 LONGEST_FILE = 31_535
 LONGEST_INPUT = 32_768  # bytes of either input of `say`
 SAY_WORDS = 32_768
 SAY_SETS = 4_096
 SAY_PHONES = 256
 SAY_NUMBERS = 64
-MONITOR_WORDS = 524_418
+MONITOR_WORDS = 524_420
 MONITOR_SETS = 65_552
 MONITOR_LINE = 4_096
 
@@ -73,10 +76,12 @@ class Class(NamedTuple):
 
 
 class Ruleset(NamedTuple):
-    """The ledger's state: the ordered list, the last number issued, and the classes in ascending order of their symbols."""
+    """The ledger's state: the ordered list, the last number issued, the classes in ascending order of their symbols, and how many
+    additions, drops and moves were accepted."""
     rules: tuple = ()
     last: int = 0
     classes: tuple = ()
+    edits: int = 0
 
 
 class Refusal(NamedTuple):
@@ -439,8 +444,14 @@ def add(rs, rule, p):
     if refused:
         return refused, rs
     number = rs.last + 1
-    rules = rs.rules[:p] + (Numbered(number, rule),) + rs.rules[p:]
-    return None, rs._replace(rules=rules, last=number)
+    return edited(rs, rs.rules[:p] + (Numbered(number, rule),) + rs.rules[p:], number)
+
+
+def edited(rs, rules, last):
+    """Of an addition, drop or move that nothing else refuses: 23, or it is counted."""
+    if rs.edits == MAX_EDITS:
+        return Refusal(23, 0), rs
+    return None, rs._replace(rules=rules, last=last, edits=rs.edits + 1)
 
 
 def drop(rs, number):
@@ -449,7 +460,7 @@ def drop(rs, number):
     rest = tuple(r for r in rs.rules if r.number != number)
     if len(rest) == len(rs.rules):
         return Refusal(8, 0), rs
-    return None, rs._replace(rules=rest)
+    return edited(rs, rest, rs.last)
 
 
 def move(rs, number, p):
@@ -462,11 +473,11 @@ def move(rs, number, p):
         return Refusal(8, 0), rs
     if p > len(rest):
         return Refusal(7, 0), rs
-    return None, rs._replace(rules=rest[:p] + moved + rest[p:])
+    return edited(rs, rest[:p] + moved + rest[p:], rs.last)
 
 
 def set_class(rs, symbol, letters):
-    """A class that a held rule uses stays as it is."""
+    """A class that a held rule uses stays as it is. Setting one is not counted: tables hold none that no rule uses."""
     if not is_ruleset(rs):
         return Refusal(0, 0), rs
     if not is_class(symbol, letters) or any(symbol in uses(rule) for _, rule in rs.rules):
@@ -485,7 +496,7 @@ def replay(edits, rs=EMPTY):
 
 
 # The ruleset in lent memory -------------------------------------------------
-# count (2), last (2), then 512 slots: number (2), four lengths, 6 left,
+# count (2), last (2), edit count (4), then 512 slots: number (2), four lengths, 6 left,
 # 4 target, 6 right, 4 phones; 32 classes as masks of 64 bits, bit c for letter c; the literal
 # total (2) and, for each literal rule, its numbered rule's place (2) and which of that rule's
 # literal rules it is (2). Bytes past a length, slots past the count and literal rules past the
@@ -521,7 +532,7 @@ def literal_bytes(rs):
 
 def memory_of(rs, fill=0):
     """A ruleset's memory, with `fill` in the slots past the count and past the literal rules."""
-    held = two(len(rs.rules)) + two(rs.last) + b"".join(map(slot_bytes, rs.rules))
+    held = two(len(rs.rules)) + two(rs.last) + four(rs.edits) + b"".join(map(slot_bytes, rs.rules))
     held = held.ljust(MASKS, bytes([fill])) + mask_bytes(rs.classes) + literal_bytes(rs)
     return held.ljust(MEMORY, bytes([fill]))
 
@@ -541,9 +552,9 @@ def ruleset_in(memory):
     count = int.from_bytes(memory[0:2], "big")
     if count > MAX_RULES:
         return None
-    slots = (memory[4 + SLOT * k:4 + SLOT * (k + 1)] for k in range(count))
+    slots = (memory[SLOTS + SLOT * k:SLOTS + SLOT * (k + 1)] for k in range(count))
     classes = classes_in(memory[MASKS:TOTAL])
-    rs = Ruleset(tuple(slot_rule(bytes(s)) for s in slots), int.from_bytes(memory[2:4], "big"), classes)
+    rs = Ruleset(tuple(slot_rule(bytes(s)) for s in slots), int.from_bytes(memory[2:4], "big"), classes, int.from_bytes(memory[4:8], "big"))
     return rs if is_ruleset(rs) and memory[TOTAL:].startswith(literal_bytes(rs)) else None
 
 
@@ -740,7 +751,7 @@ def needed(rs):
     """(L, R, words, set words) of a valid ruleset."""
     lefts = len(state_strings(left_pattern(r) for _, r in literal_list(rs)))
     rights = len(state_strings(right_pattern(r) for _, r in literal_list(rs)))
-    return lefts, rights, 2 + SYMBOLS * (lefts + rights), 8 * (lefts + rights)
+    return lefts, rights, ROWS + SYMBOLS * (lefts + rights), 8 * (lefts + rights)
 
 
 def build(rs, word_room, set_room):
@@ -754,13 +765,26 @@ def build(rs, word_room, set_room):
         return Refusal(12, set_count)
     lefts, left_rows, left_sets = one_table(tuple(left_pattern(r) for _, r in literal_list(rs)))
     rights, right_rows, right_sets = one_table(tuple(right_pattern(r) for _, r in literal_list(rs)))
-    return array("H", [lefts, rights]) + left_rows + right_rows, left_sets + right_sets
+    return array("H", [rs.edits >> 16, rs.edits & 0xFFFF, lefts, rights]) + left_rows + right_rows, left_sets + right_sets
+
+
+def edits_in(words):
+    """The edit count of the ruleset that the tables were built from, high word first."""
+    return words[0] << 16 | words[1]
+
+
+def states_in(words):
+    """(L, R)."""
+    return words[2], words[3]
 
 
 # The walk -----------------------------------------------------------------------
 
 class Unusable(Exception):
-    """Refusal 16."""
+    """A refusal of the tables, 16 or 22."""
+
+    def __init__(self, number=16):
+        self.number = number
 
 
 def step(words, base, count, state, symbol):
@@ -773,38 +797,48 @@ def step(words, base, count, state, symbol):
 def walk(rs, words, sets, name, phone_room, number_room, listed=NO_EXCEPTIONS):
     """(answer, steps) over lent words, built or not.
 
-    Order: 0, 17, 2, 1, the whole name on the list with 4; of the words that are not listed 16 for lengths, left pass and
-    right pass; reached letters (3 or 16), 4, 5. Where every word is listed, no table is looked at.
+    Order: 0, 17, 2, 1, the whole name on the list with 4; where some word is not listed 16 for lengths, then 22; of the words that
+    are not listed 16 for left pass and right pass; reached letters (3 or 16), 4, 5. Where every word is listed, no table is looked at.
     """
     answer = answer_before_rules(rs, listed, name, phone_room)
     if answer:
         return answer, 0
+    unlisted = [word for word in words_of(name) if word.letters not in listed.phones]
     try:
-        passes = {word: both_passes(words, sets, word) for word in words_of(name) if word.letters not in listed.phones}
+        if unlisted:
+            judge_tables(rs, words, sets)
+        passes = {word: both_passes(words, word) for word in unlisted}
         answer = speak_words(name, listed, phone_room, number_room,
                              lambda word: walk_word(rs, words, sets, word, passes[word]))
-    except Unusable:
-        return Refusal(16, 0), 0
+    except Unusable as unusable:
+        return Refusal(unusable.number, 0), 0
     return answer, sum(steps for _, _, steps in passes.values())
 
 
-def both_passes(words, sets, word):
-    """(left states by position, right states by position, steps) of a word."""
-    if len(words) < 2:
+def judge_tables(rs, words, sets):
+    """16 for lengths, L or R zero among them; then 22 for tables of another edit count than the ruleset's."""
+    if len(words) < ROWS:
         raise Unusable
-    lefts, rights = words[0], words[1]
-    if (lefts == 0 or rights == 0 or len(words) < 2 + SYMBOLS * (lefts + rights)
+    lefts, rights = states_in(words)
+    if (lefts == 0 or rights == 0 or len(words) < ROWS + SYMBOLS * (lefts + rights)
             or len(sets) < 8 * (lefts + rights)):
         raise Unusable
+    if edits_in(words) != rs.edits:
+        raise Unusable(22)
+
+
+def both_passes(words, word):
+    """(left states by position, right states by position, steps) of a word."""
+    lefts, rights = states_in(words)
     framed, n, steps = word.framed, len(word.letters), 0
     left_after, state = {}, 0
     for position in range(0, n + 1):
-        state = step(words, 2, lefts, state, framed[position])
+        state = step(words, ROWS, lefts, state, framed[position])
         left_after[position] = state
         steps += 1
     right_after, state = {}, 0
     for position in range(n + 1, 0, -1):
-        state = step(words, 2 + SYMBOLS * lefts, rights, state, framed[position])
+        state = step(words, ROWS + SYMBOLS * lefts, rights, state, framed[position])
         right_after[position] = state
         steps += 1
     return left_after, right_after, steps
@@ -812,7 +846,7 @@ def both_passes(words, sets, word):
 
 def walk_word(rs, words, sets, word, passes):
     left_after, right_after, _ = passes
-    lefts, n, i = words[0], len(word.letters), 1
+    (lefts, _), n, i = states_in(words), len(word.letters), 1
     literals = literal_list(rs)
     phones, numbers, contested = b"", [], 0
     while i <= n:
@@ -986,7 +1020,7 @@ class Monitor:
         words, sets = built
         self.words[:len(words)] = words
         self.sets[:len(sets)] = sets
-        return frame_line(b"\x06" + two(words[0]) + two(words[1]))
+        return frame_line(b"\x06" + b"".join(map(two, states_in(words))))
 
     def walk(self, word_room, set_room, phone_room, number_room, name):
         answer, steps = walk(self.ruleset(), self.words[:word_room], self.sets[:set_room], name,
@@ -1088,6 +1122,13 @@ class Monitor:
     def show_contested(self):
         return frame_line(b"\x0A" + bytes([self.contested]))
 
+    def show_edits(self):
+        return frame_line(b"\x0A" + four(self.held.edits))
+
+    def store_edits(self, edits):
+        self.held = self.held._replace(edits=edits)
+        return frame_line(b"\x06")
+
     # First byte: the call and the sizes of its fixed fields.
     COMMANDS = {
         0x10: (add, 2, 1, 1, 1, 1), 0x11: (drop, 2), 0x12: (move, 2, 2), 0x13: (read,),
@@ -1097,6 +1138,7 @@ class Monitor:
         0x1E: (force, 2, 2, 2, 2), 0x1F: (clear,), 0x20: (list_name, 1), 0x21: (unlist_name,),
         0x22: (read_out, 4), 0x23: (show_read_out, 4, 1), 0x24: (clear_list,), 0x25: (lend_units, 4),
         0x26: (store_unit, 4, 4), 0x27: (show_contested,), 0x28: (set_class, 1),
+        0x29: (show_edits,), 0x2A: (store_edits, 4),
     }
 
 
@@ -1139,6 +1181,10 @@ class Check:
             print(f"FAILED {what}: got {got!r}, wanted {wanted!r}")
 
 
+def with_word(words, index, value):
+    return words[:index] + array("H", [value]) + words[index + 1:]
+
+
 def check_edits(check):
     answers, six = replay([("add", rule, at) for at, rule in enumerate(SIX_RULES)])
     check.equal("six additions", answers, [None] * 6)
@@ -1176,16 +1222,18 @@ def check_edits(check):
             ("move: 7 against the remaining list", move(six, 1, 6)[0], (7, 0))]:
         check.equal(what, got, wanted)
     memory = memory_of(six, fill=0xEE)
-    check.equal("memory of a ruleset", len(memory), 15_622)
+    check.equal("memory of a ruleset", len(memory), 15_626)
     check.equal("memory read back", ruleset_in(memory), six)
     check.equal("memory one short", ruleset_in(memory[:-1]), None)
     check.equal("memory longer", ruleset_in(memory + b"\xEE"), six)
+    check.equal("the head of a ruleset's memory", memory[:8].hex(), "0006000600000006")
+    check.equal("any edit count is one of a ruleset", ruleset_in(memory[:4] + b"\xFF\xFF\xFF\xFF" + memory[8:]), six._replace(edits=MAX_EDITS))
     return six
 
 
 def check_file(check, six):
     check.equal("the six-rule file", file_text(six), SIX_FILE)
-    check.equal("and back", read_file(SIX_FILE), six)
+    check.equal("and back, without the edit count", read_file(SIX_FILE), six._replace(edits=0))
     longest = Rule(b"\1" * 6, b"\1" * 4, b"\1" * 6, b"\1" * 4)
     widest = tuple(Class(symbol, bytes(range(1, 33))) for symbol in CLASS_SYMBOLS)
     full = Ruleset(tuple(Numbered(n, longest) for n in range(1, 513)), 512, widest)
@@ -1229,7 +1277,7 @@ def check_file(check, six):
 
 
 def check_reading(check, six):
-    words, sets = build(six, 642, 80)
+    words, sets = build(six, 644, 80)
     room = (256, 64)
 
     def both(what, name, wanted, rooms=room):
@@ -1257,19 +1305,18 @@ def check_reading(check, six):
     check.equal("M5 steps", walk(six, words, sets, b"", *room)[1], 2)
 
     rights = state_strings([right_pattern(r) for _, r in six.rules])
-    check.equal("M10 counts", (words[0], words[1]), (2, 8))
+    check.equal("M10 counts", states_in(words), (2, 8))
     check.equal("M10 strings", list(rights),
                 [b"", letters("n"), letters("nk"), letters("k"), b"\0", b"\0\5", letters("e"), letters("ee")])
-    check.equal("M11", words[2 + 64 * 2 + 64 * 5 + 5], 7)
+    check.equal("M11", words[4 + 64 * 2 + 64 * 5 + 5], 7)
     check.equal("M12", [sets[8 * (2 + q)] for q in (2, 5, 7)], [3, 20, 24])
-    check.equal("11: 641", build(six, 641, 79), (11, 642))
-    check.equal("12: 79", build(six, 642, 79), (12, 80))
-    check.equal("needed", (len(words), len(sets)), (642, 80))
-    for what, lent in [("words of length 1", (words[:1], sets)), ("words one short", (words[:-1], sets)),
-                       ("set words one short", (words, sets[:-1])),
-                       ("L zero", (array("H", [0]) + words[1:], sets)),
-                       ("R zero", (words[:1] + array("H", [0]) + words[2:], sets)),
-                       ("a step past the count", (words[:2] + array("H", [2]) + words[3:], sets)),
+    check.equal("11: 643", build(six, 643, 79), (11, 644))
+    check.equal("12: 79", build(six, 644, 79), (12, 80))
+    check.equal("needed", (len(words), len(sets)), (644, 80))
+    for what, lent in [("words of length 1", (words[:1], sets)), ("words of length 3", (words[:3], sets)),
+                       ("words one short", (words[:-1], sets)), ("set words one short", (words, sets[:-1])),
+                       ("L zero", (with_word(words, 2, 0), sets)), ("R zero", (with_word(words, 3, 0), sets)),
+                       ("a step past the count", (with_word(words, 4, 2), sets)),
                        ("a place past the list", (words, array("Q", [64] * 80))),
                        ("a rule that doesn't fit", (words, array("Q", [1] * 80)))]:
         check.equal("16: " + what, walk(six, *lent, letters("ee"), *room), (Refusal(16, 0), 0))
@@ -1277,7 +1324,7 @@ def check_reading(check, six):
 
 def check_words(check, six):
     """Names of several words, without a list and with one; the steps beside each answer."""
-    words, sets = build(six, 642, 80)
+    words, sets = build(six, 644, 80)
     knee, eke, nab = letters("knee"), letters("eke"), letters("nab")
     listed = Exceptions({knee: b"\1\2", letters("eke nab"): b"\3", letters("e "): b"\4", letters("ab"): b"\5"})
 
@@ -1313,13 +1360,12 @@ def check_words(check, six):
             ("nab ab", Refusal(3, 2), 8, 9), ("ab nab", Refusal(3, 5), 8, 9), ("knee n", Refusal(4, 3), 4, 2)]:
         both(f"'{text}' with a list", letters(text), wanted, steps, (room, 64), listed)
     both("5 of unlisted words", letters("knee eke"), Refusal(5, 3), 8, (9, 2), listed)
-    none, cut = (words[:1], sets), (words[:2] + array("H", [2]) + words[3:], sets)      # no tables; a first step past the count
+    none, cut = (words[:1], sets), (with_word(words, 4, 2), sets)      # no tables; a first step past the count
     both("no tables, every word listed", letters("ab knee"), Spoken(b"\5\1\2", ()), 0, (9, 0), listed, none)
     both("4 without tables", letters("ab knee"), Refusal(4, 3), 0, (2, 0), listed, none)
     both("no tables, a word of no letters", letters("knee "), Refusal(16, 0), 0, (9, 9), listed, none)
     both("no tables, a word not listed", letters("ab e"), Refusal(16, 0), 0, (9, 9), listed, none)
-    late = words[:]
-    late[2 + SYMBOLS * 1 + 26] = 2      # the left state after # steps past the count under z
+    late = with_word(words, ROWS + SYMBOLS * 1 + 26, 2)     # the left state after # steps past the count under z
     both("16 of a later word's pass before 3", nab + letters(" z"), Refusal(16, 0), 0, tables=(late, sets))
     both("3 where no pass does that", nab + letters(" nz"), Refusal(3, 2), 14, tables=(late, sets))
     both("a listed word makes no pass", letters("ab knee"), Spoken(b"\5\1\2", ()), 0, (9, 9), listed, cut)
@@ -1327,7 +1373,7 @@ def check_words(check, six):
 
 def check_contested(check, six):
     """In the walk a letter is contested by the places that its two sets share, whatever the tables are."""
-    words, sets = build(six, 642, 80)
+    words, sets = build(six, 644, 80)
     inside, after_start = 0, 8          # where the left sets begin: after a letter, after #
     n, nk = 8 * (2 + 1), 8 * (2 + 2)    # and two right ones, by their strings (M10)
 
@@ -1412,14 +1458,14 @@ def check_class_memory(check, rs):
     memory = memory_of(rs, fill=0xEE)
     check.equal("classes in memory", ruleset_in(memory), rs)
     # The vowels' mask, the total, and the literal rules of the second numbered rule.
-    check.equal("vowels", memory[13_316:13_324].hex(), "0000000000208222")
-    check.equal("the total", memory[13_572:13_574].hex(), "001a")
-    check.equal("literal rules", memory[13_574 + 4 * 19:13_574 + 4 * 22].hex(), "00000013" "00010000" "00010001")
-    for what, at, some in [("bit 0", 13_323, b"\x23"), ("bit 63", 13_316, b"\x80"), ("33 letters", 13_324, b"\0\0\0\3\xFF\xFF\xFF\xFE"),
-                           ("an undefined class", 13_564, bytes(8)), ("another class", 13_323, b"\x20"), ("the total", 13_573, b"\x19"),
-                           ("a place", 13_574 + 4 * 20 + 1, b"\0"), ("which", 13_574 + 4 * 20 + 3, b"\1"), ("the last", 13_574 + 4 * 25 + 3, b"\1")]:
+    check.equal("vowels", memory[13_320:13_328].hex(), "0000000000208222")
+    check.equal("the total", memory[13_576:13_578].hex(), "001a")
+    check.equal("literal rules", memory[13_578 + 4 * 19:13_578 + 4 * 22].hex(), "00000013" "00010000" "00010001")
+    for what, at, some in [("bit 0", 13_327, b"\x23"), ("bit 63", 13_320, b"\x80"), ("33 letters", 13_328, b"\0\0\0\3\xFF\xFF\xFF\xFE"),
+                           ("an undefined class", 13_568, bytes(8)), ("another class", 13_327, b"\x20"), ("the total", 13_577, b"\x19"),
+                           ("a place", 13_578 + 4 * 20 + 1, b"\0"), ("which", 13_578 + 4 * 20 + 3, b"\1"), ("the last", 13_578 + 4 * 25 + 3, b"\1")]:
         check.equal("0: " + what, ruleset_in(memory[:at] + some + memory[at + len(some):]), None)
-    for what, at, some in [("an unused class", 13_331, b"\2"), ("past the literal rules", 13_574 + 4 * 26, b"\1\1\1\1")]:
+    for what, at, some in [("an unused class", 13_335, b"\2"), ("past the literal rules", 13_578 + 4 * 26, b"\1\1\1\1")]:
         check.equal("no fault: " + what, ruleset_in(memory[:at] + some + memory[at + len(some):]) is not None, True)
 
 
@@ -1427,7 +1473,7 @@ def check_class_file(check, rs):
     text = file_text(rs)
     lines = text.splitlines(keepends=True)
     check.equal("class lines", lines[1:3], [frame_line(b"\7\x40\5\1\5\x09\x0F\x15"), frame_line(b"\7\x5F\2\x0D\x0E")])
-    check.equal("classes read back", read_file(text), rs)
+    check.equal("classes read back", read_file(text), rs._replace(edits=0))
     starts = [sum(map(len, lines[:k])) for k in range(7)]
     line = lambda *body: frame_line(bytes(body))
     for what, some in [("no fields", line(7)), ("no count", line(7, 0x50)), ("no letters", line(7, 0x50, 0)),
@@ -1553,7 +1599,7 @@ def check_list(check, six):
     longest = {bytes([1]) * 54 + bytes(1 + (k >> j & 1) for j in range(10)): b"\1" * 64 for k in range(1_000)}
     check.equal("the longest read-out", len(read_out_of(longest)), LONGEST_READ_OUT)
 
-    words, sets = build(six, 642, 80)
+    words, sets = build(six, 644, 80)
     listed.put(knee, said)
     for what, rs, lent, name, room, wanted in [
             ("a listed name", six, listed, knee, 2, Spoken(said, ())),
@@ -1572,6 +1618,75 @@ def check_list(check, six):
     check.equal("4 before 16", walk(six, words[:1], sets, knee, 0, 0, listed), (Refusal(4, 2), 0))
 
 
+def check_stale(check, six):
+    """Tables from before an edit: what is counted, what the walk compares and when, and the count spent."""
+    knee, vowels = letters("knee"), Class(0x40, letters("aeiou"))
+    words, sets = build(six, 644, 80)
+    check.equal("six additions are counted", (six.edits, list(words[:4])), (6, [0, 6, 2, 8]))
+    wide = build(six._replace(edits=0x00010002), 644, 80)[0]
+    check.equal("high word first", (list(wide[:2]), edits_in(wide)), ([1, 2], 0x00010002))
+    check.equal("the rest is as before", wide[2:], words[2:])
+
+    said = Spoken(b"\x6E\x69", (1, 6, 4), 2), 10
+    stale = Refusal(22, 0), 0
+    for what, edit, edits in [("an addition", ("add", SIX_RULES[5], 6), 7), ("a drop", ("drop", 6), 7), ("a move", ("move", 6, 0), 7),
+                              ("a move to its own place", ("move", 1, 0), 7), ("a class", ("class", *vowels), 6),
+                              ("6", ("add", Rule(), 0), 6), ("20", ("add", Rule(b"\x40", b"\1"), 0), 6), ("7", ("add", SIX_RULES[5], 7), 6),
+                              ("8, drop", ("drop", 9), 6), ("8, move", ("move", 9, 0), 6), ("7, move", ("move", 1, 6), 6), ("20, class", ("class", 0x40, b""), 6)]:
+        _, after = replay([edit], six)
+        check.equal("counted, " + what, after.edits, edits)
+        check.equal("tables after " + what, walk(after, words, sets, knee, 256, 64), said if edits == 6 else stale)
+        check.equal("built again after " + what, walk(after, *build(after, MONITOR_WORDS, MONITOR_SETS), letters("kn"), 256, 64)[0],
+                    plain_reading(after, letters("kn"), 256, 64))
+    back = replay([("move", 1, 5), ("move", 1, 0)], six)[1]
+    check.equal("the same rules again", (back.rules == six.rules, walk(back, words, sets, knee, 256, 64)), (True, stale))
+    other = replay([("drop", 1), ("move", 2, 4)], six)[1]._replace(edits=6)
+    check.equal("another history with an equal count", walk(other, words, sets, knee, 256, 64), (Refusal(16, 0), 0))
+    check.equal("plain reading has no tables", plain_reading(other._replace(edits=9), letters("kn"), 256, 64), Spoken(b"\x6B\x6E", (2, 6)))
+
+    listed = Exceptions({knee: b"\1"})
+    later = six._replace(edits=7)
+    for what, lent in [("3 words", (words[:3], sets)), ("4 words", (words[:4], sets)), ("words one short", (words[:-1], sets)),
+                       ("set words one short", (words, sets[:-1])), ("L zero", (with_word(words, 2, 0), sets)), ("R zero", (with_word(words, 3, 0), sets))]:
+        check.equal("16 before 22: " + what, walk(later, *lent, knee, 256, 64), (Refusal(16, 0), 0))
+    cut = with_word(words, 4, 2), sets
+    check.equal("22 before the passes", walk(later, *cut, knee, 256, 64), stale)
+    check.equal("16 in the passes", walk(six, *cut, knee, 256, 64), (Refusal(16, 0), 0))
+    for what, name, room, wanted in [
+            ("2 before 22", b"\x40" * 65, 0, Refusal(2, 0)), ("1 before 22", b"\x40", 0, Refusal(1, 0)), ("no letters", b"", 0, Refusal(22, 0)),
+            ("22 before 3", letters("nab"), 0, Refusal(22, 0)), ("22 before 4", letters("kn"), 0, Refusal(22, 0)),
+            ("a word not listed", letters("knee e"), 9, Refusal(22, 0)), ("a word of no letters", letters("knee "), 9, Refusal(22, 0)),
+            ("a listed name", knee, 1, Spoken(b"\1", ())), ("a listed name's 4", knee, 0, Refusal(4, 1)),
+            ("listed words", letters("knee knee"), 2, Spoken(b"\1\1", ())), ("their 4", letters("knee knee"), 1, Refusal(4, 2))]:
+        check.equal("stale, " + what, walk(later, words, sets, name, room, 0, listed), (wanted, 0))
+    check.equal("0 before 22", walk(later._replace(last=5), words, sets, knee, 9, 9), (Refusal(0, 0), 0))
+    check.equal("17 before 22", walk(later, words, sets, knee, 9, 9, None), (Refusal(17, 0), 0))
+    for what, index, value in [("the high word", 0, 1), ("the low word", 1, 7), ("the low word alone in the high one", 0, 6)]:
+        check.equal("22 by " + what, walk(six, with_word(words, index, value), sets, knee, 256, 64), stale)
+    check.equal("words exchanged", walk(six, array("H", [6, 0]) + words[2:], sets, knee, 256, 64), stale)
+    check_spent(check, six)
+
+
+def check_spent(check, six):
+    """23 is the last check, and nothing is changed; a class can still be set."""
+    spent, rule = six._replace(edits=MAX_EDITS), SIX_RULES[5]
+    full = Ruleset(tuple(Numbered(n, rule) for n in range(1, 513)), 512, (), MAX_EDITS)
+    for what, rs, edit, wanted in [
+            ("0", spent._replace(last=5), ("add", Rule(), 9), 0), ("6", spent, ("add", Rule(), 9), 6), ("20", spent, ("add", Rule(b"\x40", b"\1"), 9), 20),
+            ("7", spent, ("add", rule, 7), 7), ("21", full, ("add", rule, 512), 21), ("10", spent._replace(last=MAX_NUMBER), ("add", rule, 6), 10),
+            ("23 of an addition", spent, ("add", rule, 6), 23), ("0, drop", spent._replace(last=5), ("drop", 9), 0), ("8, drop", spent, ("drop", 9), 8),
+            ("23 of a drop", spent, ("drop", 1), 23), ("0, move", spent._replace(last=5), ("move", 9, 9), 0), ("8, move", spent, ("move", 9, 9), 8),
+            ("7, move", spent, ("move", 1, 6), 7), ("23 of a move", spent, ("move", 1, 5), 23), ("23 of a move to its own place", spent, ("move", 1, 0), 23),
+            ("20 of a class", spent, ("class", 0x40, b""), 20)]:
+        check.equal("spent, " + what, replay([edit], rs), ([Refusal(wanted, 0)], rs))
+    check.equal("spent, a class", replay([("class", 0x40, b"\1")], spent), ([None], spent._replace(classes=(Class(0x40, b"\1"),))))
+    check.equal("spent, tables", walk(spent, *build(spent, 644, 80), letters("kn"), 9, 9), (Spoken(b"\x6E", (1, 6), 1), 6))
+    last = six._replace(edits=MAX_EDITS - 1)
+    for edit in [("add", rule, 0), ("drop", 1), ("move", 1, 5)]:
+        check.equal("the last edit, " + edit[0], (replay([edit], last)[0], replay([edit], last)[1].edits), ([None], MAX_EDITS))
+    check.equal("a file has no count", (file_text(spent), read_file(file_text(spent)).edits), (SIX_FILE, 0))
+
+
 def check_tables(check):
     """The quick table against the definition, and the bounds on states."""
     rules = [Rule(bytes([0, 1, 2, 1][:k % 5]), bytes([1 + k % 2] * (1 + k % 3)), bytes([2, 1, 0][3 - k % 4:]))
@@ -1585,7 +1700,7 @@ def check_tables(check):
         check.equal("states", count, len(numbered))
 
     check.equal("bounds", (1 + 512 * 6, 1 + 512 * 10), (3073, 5121))
-    check.equal("monitor's memory", (2 + 64 * (3073 + 5121), 8 * (3073 + 5121)), (MONITOR_WORDS, MONITOR_SETS))
+    check.equal("monitor's memory", (4 + 64 * (3073 + 5121), 8 * (3073 + 5121)), (MONITOR_WORDS, MONITOR_SETS))
 
 
 def check_programs(check, six):
@@ -1616,14 +1731,14 @@ def check_programs(check, six):
     for what, body, wanted in [
             ("none contested yet", "27", "0A00"),
             ("plain, empty ruleset", "1701000040050505", "050300000001"),
-            ("walk, unbuilt", "16000802820001001001000040", "08000010" + "00000000"),
+            ("walk, unbuilt", "16000802840001001001000040", "08000010" + "00000000"),
             ("none spoken yet", "27", "0A00"),
             ("read", "13", "060006"),
-            ("build", "15000002820000004F", "050C" + "00000050"),
-            ("build", "150000028200000050", "0600020008"),
-            ("walk", "160000028200000050010000400B0E0505", "04000A00026E6903000100060004"),
+            ("build", "15000002840000004F", "050C" + "00000050"),
+            ("build", "150000028400000050", "0600020008"),
+            ("walk", "160000028400000050010000400B0E0505", "04000A00026E6903000100060004"),
             ("contested in knee", "27", "0A02"),
-            ("walk, phones short", "160000028200000050000100400B0E0505", "08000A04" + "00000002"),
+            ("walk, phones short", "160000028400000050000100400B0E0505", "08000A04" + "00000002"),
             ("the count after a refusal", "27", "0A02"),
             ("a field too many", "2700", "050D00000000"),
             ("set a class", "284001050F", "060006"),
@@ -1637,9 +1752,10 @@ def check_programs(check, six):
             ("set it", "284001050F", "060006"),
             ("plain", "170100004005", "040000000001" + "0003"),
             ("contested in e", "27", "0A01"),
-            ("show words", "1A0000000002", "0A00020008"),
-            ("show past", "1A0000028201", "0AFFFF"),
-            ("outside", "1A0008028201", "050D00000000"),
+            ("show words", "1A0000000004", "0A0000000000020008"),
+            ("show past", "1A0000028401", "0AFFFF"),
+            ("outside", "1A0008008401", "050D00000000"),
+            ("the last word", "1A0008008301", "0AFFFF"),
             ("force", "1E0000000700060006", "06"),
             ("refused by 0", "110001", "050000000000"),
             ("plain, refused by 0", "170100004005", "050000000000"),
@@ -1696,6 +1812,58 @@ def check_programs(check, six):
             ("read out nothing", "2200000000", "0600000000"),
             ("what was read out", "230000000003", "0A020505")]:
         check.equal("monitor: " + what, held.answer(frame_line(bytes.fromhex(body))[:-1]), frame_line(bytes.fromhex(wanted)))
+    held = Monitor(SIX_FILE)
+    for what, body, wanted in [
+            ("no edits yet", "29", "0A00000000"),
+            ("a field too many", "2900", "050D00000000"),
+            ("no count", "2A", "050D00000000"),
+            ("a count of three bytes", "2A000000", "050D00000000"),
+            ("a count of five bytes", "2A0000000000", "050D00000000"),
+            ("the words at the start", "1A0000000004", "0AFFFFFFFFFFFFFFFF"),
+            ("16 before 22 at the start", "16FFFFFFFFFFFFFFFF01000040", "0800001000000000"),
+            ("add", "100000000100010B6B", "060001"),
+            ("counted", "29", "0A00000001"),
+            ("refused", "110009", "050800000000"),
+            ("not counted", "29", "0A00000001"),
+            ("drop", "110001", "060001"),
+            ("counted", "29", "0A00000002"),
+            ("read", "13", "060006"),
+            ("0 after a read", "29", "0A00000000"),
+            ("build", "15FFFFFFFFFFFFFFFF", "0600020008"),
+            ("move", "1200010000", "060006"),
+            ("22", "16FFFFFFFFFFFFFFFF010000400B0E0505", "0800001600000000"),
+            ("plain all the same", "17010000400B0E0505", "04000000026E6903000100060004"),
+            ("the count back", "2A00000000", "06"),
+            ("walk", "16FFFFFFFFFFFFFFFF010000400B0E0505", "04000A00026E6903000100060004"),
+            ("a class", "28400105", "060006"),
+            ("is not counted", "29", "0A00000000"),
+            ("another count", "2A00010002", "06"),
+            ("asked", "29", "0A00010002"),
+            ("words keep theirs", "1A0000000004", "0A0000000000020008"),
+            ("build", "15FFFFFFFFFFFFFFFF", "0600020008"),
+            ("high word first", "1A0000000004", "0A0001000200020008"),
+            ("walk", "16FFFFFFFFFFFFFFFF010000400B0E0505", "04000A00026E6903000100060004"),
+            ("the words exchanged", "2A00020001", "06"),
+            ("22", "16FFFFFFFFFFFFFFFF010000400B0E0505", "0800001600000000"),
+            ("the count of an impossible ruleset", "1E0000000700060006", "06"),
+            ("is kept", "29", "0A00020001"),
+            ("and can be set", "2AFFFFFFFF", "06"),
+            ("0", "110001", "050000000000"),
+            ("a ruleset again", "1E0000000100060006", "06"),
+            ("23", "110001", "051700000000"),
+            ("no overflow", "29", "0AFFFFFFFF"),
+            ("8 before 23", "110009", "050800000000"),
+            ("a class at the last count", "28410105", "060006"),
+            ("clear", "1F", "06"),
+            ("0 after a clear", "29", "0A00000000"),
+            ("22 of no rules", "16FFFFFFFFFFFFFFFF01000040", "0800001600000000"),
+            ("the last count but one", "2AFFFFFFFE", "06"),
+            ("add", "100000000100010B6B", "060001"),
+            ("the last count", "29", "0AFFFFFFFF"),
+            ("23", "100000000100010B6B", "051700000000"),
+            ("build", "15FFFFFFFFFFFFFFFF", "0600010002"),
+            ("walk", "16FFFFFFFFFFFFFFFF010000400B", "0400040001" + "6B" + "010001")]:
+        check.equal("monitor, edits: " + what, held.answer(frame_line(bytes.fromhex(body))[:-1]), frame_line(bytes.fromhex(wanted)))
     too_long = frame_line(bytes.fromhex("050200000000"))
     for digits, wanted in [(4_095, UNSOUND), (4_096, too_long), (4_097, UNSOUND), (4_098, UNSOUND)]:
         line = frame_line(b"\x17" + bytes(4) + b"\5" * (digits // 2 - 6))[:-1].ljust(digits, b"0")
@@ -1711,6 +1879,7 @@ def self_test():
     check_contested(check, six)
     check_classes(check)
     check_list(check, six)
+    check_stale(check, six)
     check_tables(check)
     check_programs(check, six)
     print(f"{check.passed} passed, {check.failed} failed")

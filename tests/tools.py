@@ -162,7 +162,7 @@ def rule_files(tools):
             ("long.hex", f"refused 13 at 32768: {UNSOUND} (the file has 32,769 bytes, `say` takes 32,768)"),
             ("longest.hex", "refused 14 at 145: a sound line breaks the file's form (line 8, under 2 bytes)"),
             # 19 times 26 targets: 1 left state; right the empty string, 26 letters and 494 targets.
-            ("large.rules", "refused 11 at 33410: too few words for the tables (they need 33,410, `say` has 32,768)"),
+            ("large.rules", "refused 11 at 33412: too few words for the tables (they need 33,412, `say` has 32,768)"),
             ("missing.hex", "No such file or directory"),
             ("missing.rules", "No such file or directory"),
             (".", "Is a directory"),
@@ -202,7 +202,7 @@ def contested(tools):
     for name, fault in [
             ("crlf.hex", f"refused 13 at 0: {UNSOUND} (line 1, column 15: byte 0D, but a line ends in 0A alone)"),
             ("long.hex", f"refused 13 at 32768: {UNSOUND} (the file has 32,769 bytes, `say` takes 32,768)"),
-            ("large.rules", "refused 11 at 33410: too few words for the tables (they need 33,410, `say` has 32,768)")]:
+            ("large.rules", "refused 11 at 33412: too few words for the tables (they need 33,412, `say` has 32,768)")]:
         tools.expect(["speak.py", "--contested", "--rules", name, "knee"], 2, err=f"speak: {name}: {fault}\n")
     # 13 bytes before the name and its sum make 4,096 digits of 2,034 letters.
     long = "k" * 2035
@@ -297,7 +297,7 @@ def monitor(tools):
             ("show readout 2 255", "2300000002FFDC"), ("clear list", "24DC"), ("lend 35885", "2500008C2D22"), ("lend all", "25FFFFFFFFDF"),
             ("store unit 1 0xFF", "2600000001000000FFDA"), ("contested", "27D9"), ("repeat 2 remove @", "210101DD\n210102DC"),
             ("repeat 1 exception @@ = @61", "20040101010101016175"), ("class \\40 a e", "2840010592"), ("class \\40", "284098"),
-            ("class k ba", "280B0201CA"), ("add 0 \\40 [k] = 61", "10000001010001400B6141")]:
+            ("class k ba", "280B0201CA"), ("edits", "29D7"), ("edits 0", "2A00000000D6"), ("edits 0x10002", "2A00010002D3"), ("add 0 \\40 [k] = 61", "10000001010001400B6141")]:
         tools.expect(["monitor.py", "--frames"], 0, frames + "\n", given=text.encode())
     tools.expect(["monitor.py"], 0, "> exception k n = 61\ndone, names 1, states 4\n> exception \\1D = 6263\ndone, names 2, states 5\n"
                                     "> exceptions\nk n = 61\n\\1D = 62 63\n> plain k_n\n61 by no rules, 0 steps\n"
@@ -317,6 +317,14 @@ def monitor(tools):
                  "> contested\n0 contested\n> read\ndone, last 6\n> plain eke knee\n65 6B 6E 69 by rules 5 2 3 1 6 4, 0 steps\n"
                  "> contested\n3 contested\n> plain nab\nrefused 3 at 2: no rule fits the letter at that position\n"
                  "> contested\n3 contested\n", given=b"contested\nread\nplain eke knee\ncontested\nplain nab\ncontested\n")
+    tools.expect(["monitor.py", "--rules", "six.hex"], 0,
+                 "> read\ndone, last 6\n> build\ndone, 2 left and 8 right states, 644 words, 80 set words\n> edits\nedit count 0\n"
+                 "> move 1 0\ndone, last 6\n> edits\nedit count 1\n> say kn\n"
+                 "refused 22 at 0: the tables are from before an edit of the rules (0 steps)\n"
+                 "> edits 0xFFFFFFFF\ndone\n> build\ndone, 2 left and 8 right states, 644 words, 80 set words\n"
+                 "> show words 0 4\n0: FFFF FFFF 0002 0008\n> say kn\n6E by rules 1 6, 6 steps\n"
+                 "> drop 1\nrefused 23 at 0: the last edit count, 4,294,967,295, is reached\n> clear\ndone\n> edits\nedit count 0\n",
+                 given=b"read\nbuild\nedits\nmove 1 0\nedits\nsay kn\nedits 0xFFFFFFFF\nbuild\nshow words 0 4\nsay kn\ndrop 1\nclear\nedits\n")
     tools.expect(["monitor.py", "--rules", os.path.join(tools.root, "examples", "basque.hex")], 0,
                  "> exception ñ = 61\ndone, names 1, states 2\n> exceptions\nñ = 61 [a]\n", given="exception ñ = 61\nexceptions\n".encode())
     names = "".join(f"{letter}{letter}{letter} = 61 62 63\n" for letter in "abcdefghijklmnopqrstuvwxyz")
@@ -339,7 +347,8 @@ def monitor(tools):
                         (f"exception {'k' * 256} = 61", "a length has one byte"), ("clear all", "clear or clear list"),
                         ("lend some", "'some' is no number"), ("lend 4294967296", "4294967296 does not fit into 4 bytes"),
                         ("store list 0 0", "store word, store set or store unit"), ("exceptions now", "exceptions has other fields: see help"),
-                        ("contested knee", "contested has other fields: see help"),
+                        ("contested knee", "contested has other fields: see help"), ("edits 1 2", "edits has other fields: see help"),
+                        ("edits none", "'none' is no number"), ("edits 4294967296", "4294967296 does not fit into 4 bytes"),
                         ("show readout", "show words, sets or readout INDEX COUNT, show phones or show numbers")]:
         tools.expect(["monitor.py"], 2, f"> {text}\nmonitor: {fault}\n", given=text.encode() + b"\n")
 

@@ -135,6 +135,9 @@ class Commands:
     def contested(self):
         return b"\x27"
 
+    def edits(self, count=None):
+        return b"\x29" if count is None else b"\x2A" + four(number(count, 32))
+
     def frame(self, *words):
         return ruletext.hex_bytes(" ".join(words))
 

@@ -26,6 +26,8 @@ REFUSALS = {
     19: "the exceptions list would have over 1,000 names or 4,096 states",
     20: "the class is undefined, in use, of a symbol outside 40 to 5F, or of other letters than 1 to 32 from 01 to 3E, ascending",
     21: "there would be over 512 rules, classes written out",
+    22: "the tables are from before an edit of the rules",
+    23: "the last edit count, 4,294,967,295, is reached",
 }
 
 

@@ -14,7 +14,9 @@
     show words INDEX COUNT        show sets INDEX COUNT
     show phones                   show numbers
     force PLACE NUMBER COUNT LAST overwrites the number at a place, the count and last, unchecked
-    clear                         the empty ruleset again, without classes
+    edits                         the ruleset's edit count: how many additions, drops and moves were accepted
+    edits COUNT                   overwrites it, unchecked; tables of another count are from before an edit
+    clear                         the empty ruleset again, without classes, edit count 0
     exception NAME = PHONES       lists a name that follows no rule, e.g. exception knee = 6E 69 (a listed one's phones are replaced)
     remove NAME                   takes it off the list
     exceptions                    the list read out, as names with their phones
@@ -60,6 +62,8 @@ def shown_text(command, data):
     kind = command[0]
     if kind == 0x27:
         return f"{number_of(data)} contested"
+    if kind == 0x29:
+        return f"edit count {number_of(data)}"
     width = {0x1A: 2, 0x1B: 8, 0x1C: 1, 0x1D: 2}.get(kind, 1)
     each = {1: 16, 2: 16, 8: 4}[width]
     start = number_of(command[1:5]) if kind in (0x1A, 0x1B, 0x23) else 0
@@ -82,7 +86,7 @@ def done_text(kind, data):
     if len(fields) == 2 and kind == 0x15:
         lefts, rights = fields
         states = lefts + rights
-        return f"done, {lefts} left and {rights} right states, {2 + 64 * states} words, {8 * states} set words"
+        return f"done, {lefts} left and {rights} right states, {4 + 64 * states} words, {8 * states} set words"
     if len(fields) == 2:
         return f"done, names {fields[0]}, states {fields[1]}"
     return "done" + (f", last {fields[0]}" if fields else "")

@@ -1,13 +1,12 @@
 //! Letter classes, as document 02 tells them: set, used, refused, in the memory, in a file and in the tables; with
 //! the answers and the bytes written out here.
 
-use super::{letters, Loaded, Spoken};
-use crate::lent::{self, Compiled, Lent, Room};
+use super::{add, letters, Loaded, Spoken};
+use crate::lent::{self, Compiled, Lent};
 use crate::random::Random;
 use crate::reference::classes::SYMBOLS;
 use crate::reference::file::{self, line};
-use crate::reference::image::{decode, IMAGE, LITERALS, MASKS, TOTAL};
-use crate::reference::rule::Rule;
+use crate::reference::image::{decode, HEAD, IMAGE, LITERALS, MASKS, TOTAL};
 use crate::reference::{refuse, ACCEPTED};
 use crate::tally::Tally;
 
@@ -58,9 +57,7 @@ impl<'a> Edited<'a> {
     }
 
     fn add(&mut self, parts: [&[u8]; 4], p: usize, code: u8) {
-        let rule = Rule::new(parts).expect("the parts are short enough");
-        let rule = Lent::new(&rule.0, self.random);
-        let given = lent::add(self.tally, &mut self.image, &rule, p);
+        let given = add(self.tally, &mut self.image, parts, p, self.random);
         self.tally.equal("a rule", given, code);
     }
 
@@ -164,7 +161,7 @@ fn orders(tally: &mut Tally, random: &mut Random) {
     edited.add([&[V], &[K], &[], &[]], 2, 7);
     // Impossible, for its number 0: 0 comes before all.
     let mut impossible = edited.image.contents().to_vec();
-    impossible[4..6].fill(0);
+    impossible[HEAD..HEAD + 2].fill(0);
     edited.image = Lent::new(&impossible, edited.random);
     edited.add([&undefined, &[V], &[], &[]], 9, 0);
     edited.set(0, &[], 0);
@@ -367,10 +364,10 @@ fn literal_order(tally: &mut Tally, random: &mut Random) {
         line(&[2, 0, 1, 1, 1, 2, 0, N, K, V, N]),
     ];
     // Left: the empty string, m, n. Right: the empty string, m, ma, mak, n, na, nak, me, mek, ne, nek.
-    let loaded = Loaded::new(tally, &text.concat(), 2 + 64 * 14, 8 * 14, random);
+    let loaded = Loaded::new(tally, &text.concat(), 4 + 64 * 14, 8 * 14, random);
     let (words, sets) = (loaded.compiled.words.contents(), loaded.compiled.sets.contents());
-    tally.equal("L and R", (words[0], words[1]), (3, 11));
-    let entry = |state: usize, symbol: u8| *words.get(2 + 64 * (3 + state) + symbol as usize).unwrap_or(&0);
+    tally.equal("L and R", (words[2], words[3]), (3, 11));
+    let entry = |state: usize, symbol: u8| *words.get(4 + 64 * (3 + state) + symbol as usize).unwrap_or(&0);
     let ends = [(13, 1), (14, 1), (13, 5), (14, 5)];
     let states = ends.map(|(last, vowel)| entry(entry(entry(0, last) as usize, vowel) as usize, K));
     tally.equal("right states", states, [3, 6, 8, 10]);
@@ -396,8 +393,7 @@ fn three(tally: &mut Tally, random: &mut Random) -> Loaded {
 fn spoken(tally: &mut Tally, random: &mut Random) {
     let mut loaded = three(tally, random);
     for (place, letter) in [1, 2, 5, 13, 14].into_iter().enumerate() {
-        let rule = Rule::new([&[], &[letter], &[], &[0x60 + letter]]).expect("the parts are short enough");
-        lent::add(tally, &mut loaded.image, &Lent::new(&rule.0, random), 3 + place);
+        add(tally, &mut loaded.image, [&[], &[letter], &[], &[0x60 + letter]], 3 + place, random);
     }
     lent::build(tally, &loaded.image, &mut loaded.compiled);
     let cases: [(&str, &[u8], &[u16], usize); 8] = [
@@ -461,8 +457,7 @@ fn altered_tables(tally: &mut Tally, random: &mut Random) {
         let mut altered = vec![0; sets.len()];
         altered.iter_mut().skip(place / 64).step_by(8).for_each(|word| *word = 1 << (place % 64));
         let compiled = Compiled::new(words, &altered, random);
-        let (typed, mut room) = (Lent::new(&letters(name), random), Room::any(9, 9, random));
-        let (heard, steps) = lent::speak(tally, &loaded.image, &loaded.list, &compiled, &typed, &mut room);
-        tally.equal(name, Spoken::new(heard, steps, &room), wanted);
+        let said = loaded.speak_by(tally, &compiled, &letters(name), (9, 9), random);
+        tally.equal(name, said, wanted);
     }
 }

@@ -58,9 +58,8 @@ fn shared_places(tally: &mut Tally, random: &mut Random) {
     }
     for (name, changes, wanted) in cases {
         let compiled = altered(&six, &changes, random);
-        let (typed, mut room) = (Lent::new(&letters(name), random), Room::any(9, 9, random));
-        let (heard, steps) = lent::speak(tally, &six.image, &six.list, &compiled, &typed, &mut room);
-        tally.equal(name, Spoken::new(heard, steps, &room), wanted);
+        let said = six.speak_by(tally, &compiled, &letters(name), (9, 9), random);
+        tally.equal(name, said, wanted);
     }
 }
 
@@ -100,7 +99,7 @@ fn far_apart(tally: &mut Tally, random: &mut Random) {
     });
     let set = Ruleset { last: 512, rules: rules.collect(), ..Ruleset::default() };
     // The right strings are the empty one and nine letters.
-    let loaded = Loaded::new(tally, &file::write(&set), 2 + 64 * 11, 8 * 11, random);
+    let loaded = Loaded::new(tally, &file::write(&set), 4 + 64 * 11, 8 * 11, random);
     for ((first, _), letter) in pairs.into_iter().zip(1..) {
         let said = loaded.speak(tally, &[letter], 1, 1, random);
         tally.equal("two rules", said, Spoken::said(&[letter], &[first as u16 + 1], 4, 1));
@@ -114,7 +113,7 @@ fn most(tally: &mut Tally, random: &mut Random) {
     let rule = Rule::new([&[], &[5], &[], &[0x65]]).expect("the parts are short enough");
     let rules = (1..=512).map(|number| (number, rule)).collect();
     let set = Ruleset { last: 512, rules, ..Ruleset::default() };
-    let loaded = Loaded::new(tally, &file::write(&set), 2 + 64 * 3, 8 * 3, random);
+    let loaded = Loaded::new(tally, &file::write(&set), 4 + 64 * 3, 8 * 3, random);
     let said = loaded.speak(tally, &[5; 64], 64, 64, random);
     tally.equal("64 letters", said, Spoken::said(&[0x65; 64], &[1; 64], 130, 64));
     for (phones, numbers) in [(63, 64), (64, 63)] {

@@ -6,7 +6,7 @@ use crate::lent::{self, Compiled, Lent, Room};
 use crate::random::Random;
 use crate::reference::classes::SYMBOLS;
 use crate::reference::file;
-use crate::reference::image::{last, put, IMAGE, SLOT};
+use crate::reference::image::{edits, last, put, IMAGE, SLOT};
 use crate::reference::rule::Rule;
 use crate::reference::ruleset::Ruleset;
 use crate::reference::tables::{sets_needed, words_needed};
@@ -40,11 +40,11 @@ fn greatest(tally: &mut Tally, random: &mut Random) {
     let (left, right) = (1 + 63 + 512 * 5, 1 + 63 + 512 * 9);
     let (words, sets) = (words_needed(left, right), sets_needed(left, right));
     let loaded = Loaded::new(tally, &text, words, sets, random);
-    tally.equal("L and R", loaded.compiled.words.contents()[..2].to_vec(), vec![left as u16, right as u16]);
+    tally.equal("L and R", loaded.compiled.words.contents()[2..4].to_vec(), vec![left as u16, right as u16]);
     Loaded::new(tally, &text, words - 1, sets, random);
     Loaded::new(tally, &text, words, sets - 1, random);
     // As much as the header says to lend at most.
-    Loaded::new(tally, &text, 524_418, 65_552, random);
+    Loaded::new(tally, &text, 524_420, 65_552, random);
     for room in [31_534, 31_535, 31_536] {
         lent::write_file(tally, &loaded.image, &mut Lent::any(room, random));
     }
@@ -92,7 +92,7 @@ fn most_states(tally: &mut Tally, random: &mut Random) {
     let Loaded { image, list, .. } = Loaded::new(tally, &text, 200, 30, random);
     let states = 65_535;
     let mut words = vec![65_534; words_needed(states, states)];
-    (words[0], words[1]) = (65_535, 65_535);
+    words[..4].copy_from_slice(&[0, 0, 65_535, 65_535]);
     let mut sets = vec![0; sets_needed(states, states)];
     (sets[8 * 65_534], sets[8 * (states + 65_534)]) = (1, 1);
     for (fewer_words, fewer_sets) in [(0, 0), (1, 0), (0, 1)] {
@@ -133,6 +133,7 @@ fn every_number(tally: &mut Tally, random: &mut Random) {
         lent::add(tally, &mut image, &rule, k / 2);
     }
     tally.equal("the last number", last(image.contents()), 65_535);
+    tally.equal("the edits", edits(image.contents()), 65_535 + 65_535 - 512);
     lent::add(tally, &mut image, &rule, 0);
     lent::drop(tally, &mut image, 65_535);
     lent::add(tally, &mut image, &rule, 0);

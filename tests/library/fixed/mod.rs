@@ -6,6 +6,7 @@ mod extremes;
 mod lists;
 mod paper;
 mod refusals;
+mod stale;
 mod threads;
 mod words;
 mod wrong;
@@ -13,7 +14,7 @@ mod wrong;
 use crate::lent::{self, Compiled, Heard, Lent, List, Room};
 use crate::random::Random;
 use crate::reference::image::IMAGE;
-use crate::reference::rule::SPACE;
+use crate::reference::rule::{Rule, SPACE};
 use crate::reference::ACCEPTED;
 use crate::tally::Tally;
 
@@ -21,7 +22,7 @@ type Case = fn(&mut Tally, &mut Random);
 
 pub fn fixed(tally: &mut Tally) {
     let random = &mut Random::new(1);
-    let cases: [(&str, Case); 9] = [
+    let cases: [(&str, Case); 10] = [
         ("the paper's marks", paper::paper),
         ("the paper's refusals", refusals::refusals),
         ("the paper's ways to be wrong", wrong::wrong),
@@ -30,6 +31,7 @@ pub fn fixed(tally: &mut Tally) {
         ("names of several words", words::words),
         ("contested letters", contested::contested),
         ("letter classes", classes::classes),
+        ("tables from before an edit", stale::stale),
         ("threads", threads::threads),
     ];
     for (subject, case) in cases {
@@ -65,6 +67,20 @@ impl Loaded {
     fn list(&mut self, tally: &mut Tally, name: &str, phones: &[u8], random: &mut Random) {
         let (name, phones) = (Lent::new(&letters(name), random), Lent::new(phones, random));
         lent::lists::add(tally, &mut self.list, &name, &phones);
+    }
+
+    /// Speaks a name by these tables, with room for so many phones and numbers.
+    fn speak_by(
+        &self,
+        tally: &mut Tally,
+        compiled: &Compiled,
+        name: &[u8],
+        (phones, numbers): (usize, usize),
+        random: &mut Random,
+    ) -> Spoken {
+        let (name, mut room) = (Lent::new(name, random), Room::any(phones, numbers, random));
+        let (heard, steps) = lent::speak(tally, &self.image, &self.list, compiled, &name, &mut room);
+        Spoken::new(heard, steps, &room)
     }
 
     /// Speaks a name by the tables; the plain reading must say the same.
@@ -106,6 +122,12 @@ impl Spoken {
     }
 }
 
+/// Adds the rule of these parts before place p, and gives the library's code.
+fn add(tally: &mut Tally, image: &mut Lent<u8>, parts: [&[u8]; 4], p: usize, random: &mut Random) -> u8 {
+    let rule = Rule::new(parts).expect("the parts are short enough");
+    lent::add(tally, image, &Lent::new(&rule.0, random), p)
+}
+
 /// "a is 01, b is 02, up to z, 1A"; the space bar is 3F.
 fn letters(name: &str) -> Vec<u8> {
     name.bytes().map(|typed| if typed == b' ' { SPACE } else { typed - b'a' + 1 }).collect()
@@ -121,5 +143,5 @@ const SIX_RULES: &[u8] = b"010100060006F2
 ";
 
 /// L = 2 and R = 8 for the six rules.
-const SIX_WORDS: usize = 642;
+const SIX_WORDS: usize = 644;
 const SIX_SETS: usize = 80;

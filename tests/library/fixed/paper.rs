@@ -1,11 +1,10 @@
 //! The six rules: made by edits, their file, the marks M1 to M12, and the two answers of `say`.
 
-use super::{letters, Loaded, Spoken, SIX_RULES, SIX_SETS, SIX_WORDS};
+use super::{add, letters, Loaded, Spoken, SIX_RULES, SIX_SETS, SIX_WORDS};
 use crate::lent::{self, Lent, Room};
 use crate::random::Random;
 use crate::reference::file::{frame, line};
 use crate::reference::image::{decode, IMAGE};
-use crate::reference::rule::Rule;
 use crate::reference::tables;
 use crate::tally::Tally;
 
@@ -41,7 +40,7 @@ fn spoken_marks(tally: &mut Tally, six: &Loaded, random: &mut Random) {
 /// M10 to M12, on the words that the library built.
 fn table_marks(tally: &mut Tally, six: &Loaded) {
     let (words, sets) = (six.compiled.words.contents(), six.compiled.sets.contents());
-    tally.equal("M10, L and R", (words[0], words[1]), (2, 8));
+    tally.equal("M10, L and R", (words[2], words[3]), (2, 8));
     let set = decode(six.image.contents()).unwrap_or_default();
     let strings: [&[u8]; 8] = [&[], &[14], &[14, 11], &[11], &[0], &[0, 5], &[5], &[5, 5]];
     tally.equal(
@@ -49,7 +48,7 @@ fn table_marks(tally: &mut Tally, six: &Loaded) {
         tables::build(&set).right_strings,
         strings.map(<[u8]>::to_vec).to_vec(),
     );
-    tally.equal("M11", words[2 + 64 * 2 + 64 * 5 + 5], 7);
+    tally.equal("M11", words[4 + 64 * 2 + 64 * 5 + 5], 7);
     let first_word = |state: usize| sets[8 * (2 + state)];
     tally.equal("M12", [2, 5, 7].map(first_word), [3, 20, 24]);
 }
@@ -67,8 +66,7 @@ fn by_edits(tally: &mut Tally, random: &mut Random) {
     let mut image = Lent::any(IMAGE, random);
     lent::clear(tally, &mut image);
     for (place, parts) in rules.into_iter().enumerate() {
-        let rule = Rule::new(parts).expect("the parts are short enough");
-        lent::add(tally, &mut image, &Lent::new(&rule.0, random), place);
+        add(tally, &mut image, parts, place, random);
     }
     let mut out = Lent::any(SIX_RULES.len(), random);
     lent::write_file(tally, &image, &mut out);

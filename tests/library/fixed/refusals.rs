@@ -24,7 +24,7 @@ fn short(tally: &mut Tally, random: &mut Random) {
     let (good, bad) = (Lent::new(SIX_RULES, random), Lent::new(b"", random));
     let (name, names) = (Lent::new(&[0x40; 65], random), Lent::new(&[1, 5, 1, 5], random));
     let no_list = List::learned(tally, &[], random);
-    for (length, list) in [(0, &six.list), (3, &no_list), (4, &no_list), (IMAGE - 1, &six.list)] {
+    for (length, list) in [(0, &six.list), (7, &no_list), (8, &no_list), (IMAGE - 1, &six.list)] {
         let mut image = Lent::new(&six.image.contents()[..length], random);
         let mut room = Room::any(256, 64, random);
         lent::clear(tally, &mut image);
@@ -65,16 +65,17 @@ fn names(tally: &mut Tally, random: &mut Random) {
     }
     // Too few words, or no states, are no tables; the name is judged before them.
     let sets = six.compiled.sets.contents();
-    let no_left = [&[0, 10], &six.compiled.words.contents()[2..]].concat();
-    let no_right = [&[10, 0], &six.compiled.words.contents()[2..]].concat();
-    for words in [&[][..], &[1], &[0, 0], &[1, 1], &no_left, &no_right] {
+    let words = six.compiled.words.contents();
+    let no_left = [&[0, 0, 0, 10], &words[4..]].concat();
+    let no_right = [&[0, 0, 10, 0], &words[4..]].concat();
+    let few = [&words[..0], &words[..1], &words[..3], &words[..4], &[0; 4], &words[..SIX_WORDS - 1]];
+    for words in few.into_iter().chain([&no_left[..], &no_right]) {
         let compiled = Compiled::new(words, sets, random);
         let cases: [(&[u8], Spoken); 3] =
             [(&[5], refused(16, 0, 0)), (&[5, 0x40], refused(1, 1, 0)), (&[5; 65], refused(2, 0, 0))];
         for (name, wanted) in cases {
-            let (name, mut room) = (Lent::new(name, random), Room::any(256, 64, random));
-            let (heard, steps) = lent::speak(tally, &six.image, &six.list, &compiled, &name, &mut room);
-            tally.equal("no tables", Spoken::new(heard, steps, &room), wanted);
+            let said = six.speak_by(tally, &compiled, name, (256, 64), random);
+            tally.equal("no tables", said, wanted);
         }
     }
 }
@@ -115,7 +116,7 @@ fn edits(tally: &mut Tally, random: &mut Random) {
 }
 
 fn rooms(tally: &mut Tally, random: &mut Random) {
-    for (words, sets) in [(641, 80), (642, 79), (641, 79), (642, 80), (0, 0)] {
+    for (words, sets) in [(643, 80), (644, 79), (643, 79), (644, 80), (0, 0)] {
         Loaded::new(tally, SIX_RULES, words, sets, random);
     }
     let mut empty = Lent::any(IMAGE, random);

@@ -116,7 +116,7 @@ fn unusable_tables(tally: &mut Tally, random: &mut Random) {
     six.list(tally, "z", &[3], random);
     let (words, sets) = (six.compiled.words.contents(), six.compiled.sets.contents());
     let mut after_start = words.to_vec();
-    after_start[2 + 64 + 26] = 2;
+    after_start[4 + 64 + 26] = 2;
     let none = Compiled::new(&words[..1], sets, random);
     let leaves = Compiled::new(&after_start, sets, random);
     let (said, refused) = (Spoken::said, Spoken::refused);
@@ -133,9 +133,8 @@ fn unusable_tables(tally: &mut Tally, random: &mut Random) {
         (&leaves, "e zz", 0, refused(16, 0, 0)),
     ];
     for (compiled, name, phones, wanted) in cases {
-        let (typed, mut room) = (Lent::new(&letters(name), random), Room::any(phones, 64, random));
-        let (heard, steps) = lent::speak(tally, &six.image, &six.list, compiled, &typed, &mut room);
-        tally.equal(name, Spoken::new(heard, steps, &room), wanted);
+        let said = six.speak_by(tally, compiled, &letters(name), (phones, 64), random);
+        tally.equal(name, said, wanted);
     }
 }
 

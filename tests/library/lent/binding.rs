@@ -5,6 +5,7 @@ extern "C" {
     pub fn pirrozketa_check(image: *const u8, image_len: usize) -> u8;
     pub fn pirrozketa_count(image: *const u8, image_len: usize) -> u16;
     pub fn pirrozketa_last(image: *const u8, image_len: usize) -> u16;
+    pub fn pirrozketa_edits(image: *const u8, image_len: usize) -> u32;
     pub fn pirrozketa_add(
         image: *mut u8,
         image_len: usize,

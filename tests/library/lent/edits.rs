@@ -1,4 +1,4 @@
-//! Clear, check, count and last, and the four edits.
+//! Clear, check, count, last and edits, and the four edits.
 
 use super::binding::*;
 use super::memory::Lent;
@@ -17,7 +17,7 @@ pub fn clear(tally: &mut Tally, image: &mut Lent<u8>) {
     image.check(tally, "clear's image");
 }
 
-/// Check, with the count and `last` that stand in the memory.
+/// Check, with the count, `last` and edit count that stand in the memory.
 pub fn check(tally: &mut Tally, image: &Lent<u8>) {
     let (code, count, last) = unsafe {
         (
@@ -30,10 +30,16 @@ pub fn check(tally: &mut Tally, image: &Lent<u8>) {
     tally.answer("check", code, code, if valid { ACCEPTED } else { 0 });
     tally.equal("count", count, layout::count(image.contents()));
     tally.equal("last", last, layout::last(image.contents()));
+    tally.equal("edits", edits(image), layout::edits(image.contents()));
     image.check(tally, "check's image");
 }
 
-/// Gives the library's code, as `set_class` does.
+/// The edit count that stands in the memory, by the library.
+pub fn edits(image: &Lent<u8>) -> u32 {
+    unsafe { pirrozketa_edits(image.pointer(), image.len()) }
+}
+
+/// Gives the library's code, as each of the edits does.
 pub fn add(tally: &mut Tally, image: &mut Lent<u8>, rule: &Lent<u8>, p: usize) -> u8 {
     let wanted = edited(image, |set| set.add(rule.contents(), p));
     let mut place = UNWRITTEN;
@@ -46,21 +52,23 @@ pub fn add(tally: &mut Tally, image: &mut Lent<u8>, rule: &Lent<u8>, p: usize) -
     code
 }
 
-pub fn drop(tally: &mut Tally, image: &mut Lent<u8>, number: u16) {
+pub fn drop(tally: &mut Tally, image: &mut Lent<u8>, number: u16) -> u8 {
     let wanted = edited(image, |set| set.drop(number));
     let mut place = UNWRITTEN;
     let code = unsafe { pirrozketa_drop(image.pointer_mut(), image.len(), number, &mut place) };
     tally.answer("drop", code, (code, place), code_and_place(&wanted));
     image.check(tally, "drop's image");
+    code
 }
 
 /// The edit Move.
-pub fn shift(tally: &mut Tally, image: &mut Lent<u8>, number: u16, p: usize) {
+pub fn shift(tally: &mut Tally, image: &mut Lent<u8>, number: u16, p: usize) -> u8 {
     let wanted = edited(image, |set| set.shift(number, p));
     let mut place = UNWRITTEN;
     let code = unsafe { pirrozketa_move(image.pointer_mut(), image.len(), number, p, &mut place) };
     tally.answer("move", code, (code, place), code_and_place(&wanted));
     image.check(tally, "move's image");
+    code
 }
 
 pub fn set_class(tally: &mut Tally, image: &mut Lent<u8>, symbol: u8, letters: &Lent<u8>) -> u8 {
@@ -81,9 +89,9 @@ fn edited(image: &mut Lent<u8>, edit: impl FnOnce(&mut Ruleset) -> Answer<()>) -
     let Some(mut set) = layout::decode(image.contents()) else {
         return refuse(0, 0);
     };
-    edit(&mut set)?;
+    let answer = edit(&mut set);
     want(image, &set);
-    Ok(0)
+    answer.map(|()| 0)
 }
 
 /// From now on the image must hold this ruleset; what lies past it must keep its contents.

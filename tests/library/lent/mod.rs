@@ -9,7 +9,7 @@ mod memory;
 mod names;
 mod tables;
 
-pub use edits::{add, check, clear, drop, set_class, shift};
+pub use edits::{add, check, clear, drop, edits, set_class, shift};
 pub use files::{read_file, write_file};
 pub use lists::List;
 pub use memory::Lent;
@@ -30,12 +30,12 @@ fn code_and_place(answer: &Answer<usize>) -> (u8, usize) {
 }
 
 /// The codes that the header names with each call, in rising order.
-pub const NAMED: [(&str, &[u8]); 17] = [
+pub const NAMED: [(&str, &[u8]); 18] = [
     ("clear", &[0, 255]),
     ("check", &[0, 255]),
-    ("add", &[0, 6, 7, 10, 20, 21, 255]),
-    ("drop", &[0, 8, 255]),
-    ("move", &[0, 7, 8, 255]),
+    ("add", &[0, 6, 7, 10, 20, 21, 23, 255]),
+    ("drop", &[0, 8, 23, 255]),
+    ("move", &[0, 7, 8, 23, 255]),
     ("set_class", &[0, 20, 255]),
     ("read_file", &[0, 13, 14, 255]),
     ("write_file", &[0, 15, 255]),
@@ -46,6 +46,7 @@ pub const NAMED: [(&str, &[u8]); 17] = [
     ("list_remove", &[1, 2, 17, 18, 19, 255]),
     ("list_read_out", &[15, 17, 255]),
     ("read_name", &[0, 1, 2, 3, 4, 5, 17, 255]),
-    ("speak", &[0, 1, 2, 3, 4, 5, 16, 17, 255]),
+    ("speak", &[0, 1, 2, 3, 4, 5, 16, 17, 22, 255]),
     ("speak_many", &[0, 17, 255]),
+    ("speak_many's reply", &[1, 2, 3, 4, 5, 16, 22, 255]),
 ];

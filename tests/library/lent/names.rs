@@ -237,6 +237,9 @@ pub fn speak_many(
         )
     };
     tally.answer("speak_many", code, (code, count), (wanted_code, wanted.replies.len() / REPLY));
+    for (reply, wanted) in replies.contents().chunks(REPLY).zip(wanted.replies.chunks(REPLY)) {
+        tally.answer("speak_many's reply", reply[0] as u8, reply, wanted);
+    }
     image.check(tally, "speak_many's image");
     list.check(tally, "speak_many's list");
     compiled.check(tally, "speak_many");

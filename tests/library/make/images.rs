@@ -1,8 +1,9 @@
 //! Rulesets as memory: sound, damaged, or anything.
 
+use super::rules::edits;
 use crate::random::Random;
 use crate::reference::classes::CLASSES;
-use crate::reference::image::{put, HEAD, IMAGE, LITERAL, LITERALS, MASK, MASKS, SLOT, TOTAL};
+use crate::reference::image::{put, EDITS, HEAD, IMAGE, LITERAL, LITERALS, MASK, MASKS, SLOT, TOTAL};
 use crate::reference::rule::SPACE;
 use crate::reference::ruleset::Ruleset;
 
@@ -20,10 +21,10 @@ pub fn damaged(set: &Ruleset, random: &mut Random) -> Vec<u8> {
     let held = set.rules.len();
     let used = HEAD + SLOT * held;
     let slot = HEAD + SLOT * random.below(held.max(1));
-    match random.below(18) {
+    match random.below(19) {
         0 => flip(&mut image[..used], random),
         1 => flip(&mut image[slot..slot + SLOT], random),
-        2 => image.truncate(random.pick(&[0, 1, 3, 4, used.min(IMAGE - 1), IMAGE - 1])),
+        2 => image.truncate(random.pick(&[0, 1, 3, 4, 7, HEAD, used.min(IMAGE - 1), IMAGE - 1])),
         3 => {
             let other = HEAD + SLOT * random.below(held.max(1));
             image.copy_within(other..other + 2, slot);
@@ -41,6 +42,8 @@ pub fn damaged(set: &Ruleset, random: &mut Random) -> Vec<u8> {
         12 | 13 => damage_mask(&mut image, random),
         14 | 15 => damage_table(&mut image, set.literal_total(), random),
         16 => flip(&mut image[MASKS..], random),
+        // Any edit count is one.
+        17 => image[EDITS..HEAD].copy_from_slice(&edits(random).to_be_bytes()),
         _ => {
             // A sound count over random rules.
             image = random.bytes(IMAGE);

@@ -106,7 +106,18 @@ pub fn ruleset(letters: &[u8], seldom: usize, random: &mut Random) -> Ruleset {
     for (slot, number) in rules.iter_mut().zip(numbers) {
         slot.0 = number;
     }
-    Ruleset { last, rules, classes }
+    Ruleset { last, rules, classes, edits: edits(random) }
+}
+
+/// An edit count: none, few, about the first that needs both words, about the most, any.
+pub fn edits(random: &mut Random) -> u32 {
+    match random.below(8) {
+        0 | 1 => 0,
+        2 | 3 => random.within(1, 100) as u32,
+        4 => random.pick(&[0xFFFE, 0xFFFF, 0x1_0000, 0x1_0001]),
+        5 => random.pick(&[u32::MAX - 2, u32::MAX - 1, u32::MAX, u32::MAX]),
+        _ => random.next() as u32,
+    }
 }
 
 /// Numbers that differ and lie from 1 to `last`, with `last` at and near its bounds too.

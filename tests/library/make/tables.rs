@@ -1,8 +1,9 @@
-//! Words and set words for a walk: built, damaged, random.
+//! Words and set words for a walk: built, damaged, random, and with another edit count.
 
+use super::rules::edits;
 use crate::random::Random;
 use crate::reference::ruleset::Ruleset;
-use crate::reference::tables::{build, sets_needed, words_needed};
+use crate::reference::tables::{build, count_words, sets_needed, words_needed, L, R, ROWS};
 
 pub type Words = (Vec<u16>, Vec<u64>);
 
@@ -11,9 +12,9 @@ pub fn built(set: &Ruleset) -> Words {
     (tables.words, tables.sets)
 }
 
-/// Built tables, altered in one way. What lies past the needed words may be anything.
+/// Built tables, altered in one way, with their edit count. What lies past the needed words may be anything.
 pub fn damaged((mut words, mut sets): Words, random: &mut Random) -> Words {
-    let states = [words[0] as usize, words[1] as usize];
+    let states = words[L].max(words[R]) as usize;
     match random.below(12) {
         // Without some of their bits the sets choose later rules that fit as well, or none.
         0 | 1 => sets.iter_mut().for_each(|word| *word &= random.next() | random.next()),
@@ -28,15 +29,15 @@ pub fn damaged((mut words, mut sets): Words, random: &mut Random) -> Words {
             }
         }
         // Other entries, most of them of states there are.
-        4 => scatter(&mut words[2..], random, |entry, random| {
-            *entry = random.below(states[0].max(states[1]) + 1) as u16;
+        4 => scatter(&mut words[ROWS..], random, |entry, random| {
+            *entry = random.below(states + 1) as u16;
         }),
-        5 => scatter(&mut words[2..], random, |entry, random| *entry = random.next() as u16),
+        5 => scatter(&mut words[ROWS..], random, |entry, random| *entry = random.next() as u16),
         6 => {
-            let side = random.below(2);
+            let side = random.pick(&[L, R]);
             words[side] = random.pick(&[0, 1, words[side].wrapping_sub(1), words[side] + 1, 65_535]);
         }
-        7 => words.truncate(random.pick(&[0, 1, 2, 65, words.len() - 1])),
+        7 => words.truncate(random.pick(&[0, 1, 2, ROWS - 1, ROWS, 67, words.len() - 2, words.len() - 1])),
         8 => sets.truncate(random.pick(&[0, 1, sets.len() - 1])),
         _ => {
             words.extend((0..random.within(1, 100)).map(|_| random.next() as u16));
@@ -46,11 +47,31 @@ pub fn damaged((mut words, mut sets): Words, random: &mut Random) -> Words {
     (words, sets)
 }
 
-/// Few states, entries mostly among them, and sets of few or many places.
+/// The count of these edits in place of the words' own, as far as the words go.
+pub fn put_count(words: &mut [u16], edits: u32) {
+    words.iter_mut().zip(count_words(edits)).for_each(|(word, count)| *word = count);
+}
+
+/// Another edit count in the words: the one before or after, of other bits in either word, any. Of the words
+/// exchanged it may be the same.
+pub fn stale(words: &mut [u16], set: &Ruleset, random: &mut Random) {
+    let other = match random.below(6) {
+        0 => set.edits.wrapping_sub(1),
+        1 => set.edits.wrapping_add(1),
+        2 => set.edits ^ 1 << random.below(16),
+        3 => set.edits ^ 1 << random.within(16, 31),
+        4 => set.edits.rotate_left(16),
+        _ => edits(random),
+    };
+    put_count(words, other);
+}
+
+/// Few states, entries mostly among them, and sets of few or many places; with the ruleset's edit count.
 pub fn random(set: &Ruleset, random: &mut Random) -> Words {
     let (left, right) = (random.within(1, 6), random.within(1, 6));
     let wild = random.one_in(3);
-    let mut words = vec![left as u16, right as u16];
+    let mut words = count_words(set.edits).to_vec();
+    words.extend([left as u16, right as u16]);
     for row in 0..left + right {
         let states = if row < left { left } else { right };
         let above = if wild && random.one_in(3) { 1 } else { 0 };
@@ -66,7 +87,7 @@ pub fn random(set: &Ruleset, random: &mut Random) -> Words {
     }
     debug_assert_eq!(words.len(), words_needed(left, right));
     if random.one_in(8) {
-        words.iter_mut().skip(2).for_each(|entry| *entry = random.next() as u16);
+        words.iter_mut().skip(ROWS).for_each(|entry| *entry = random.next() as u16);
     }
     (words, sets)
 }

@@ -1,6 +1,6 @@
 //! Ways to make the reference wrong on purpose, to see that the trials notice: the paper's "Ways to be
 //! wrong that pass a short trial", two more, and ways to mistake the exceptions list, names of several words,
-//! contested letters and letter classes.
+//! contested letters, letter classes and the edit count.
 
 use std::sync::OnceLock;
 
@@ -86,9 +86,37 @@ pub enum Break {
     AnyMask,
     /// The literal total and table of a ruleset handed in are not judged.
     AnyTable,
+    /// The low word of the edit count stands first.
+    LowFirst,
+    /// Only the low word of the edit count is compared.
+    LowWord,
+    /// Tables with a higher edit count than the ruleset's are good.
+    OlderOnly,
+    /// The edit count is compared before the lengths of the tables are judged.
+    StaleFirst,
+    /// The edit count is compared after the passes.
+    StaleLast,
+    /// The edit count is compared although every word is listed.
+    StaleAlways,
+    /// Refusal 22 has the steps of the passes.
+    StaleSteps,
+    /// A refused edit counts.
+    RefusedCounts,
+    /// Setting a class counts.
+    ClassCounts,
+    /// A drop does not count.
+    DropUncounted,
+    /// A move that leaves the rule where it is does not count.
+    IdleMove,
+    /// The rules of a file count as additions.
+    FileCounts,
+    /// Refusal 23 comes before an edit's other refusals.
+    SpentFirst,
+    /// After the highest edit count comes 0.
+    ComesRound,
 }
 
-pub const BREAKS: [(&str, Break); 40] = [
+pub const BREAKS: [(&str, Break); 54] = [
     ("early", Break::Early),
     ("longest", Break::Longest),
     ("inside", Break::Inside),
@@ -129,6 +157,20 @@ pub const BREAKS: [(&str, Break); 40] = [
     ("any-order", Break::AnyOrder),
     ("any-mask", Break::AnyMask),
     ("any-table", Break::AnyTable),
+    ("low-first", Break::LowFirst),
+    ("low-word", Break::LowWord),
+    ("older-only", Break::OlderOnly),
+    ("stale-first", Break::StaleFirst),
+    ("stale-last", Break::StaleLast),
+    ("stale-always", Break::StaleAlways),
+    ("stale-steps", Break::StaleSteps),
+    ("refused-counts", Break::RefusedCounts),
+    ("class-counts", Break::ClassCounts),
+    ("drop-uncounted", Break::DropUncounted),
+    ("idle-move", Break::IdleMove),
+    ("file-counts", Break::FileCounts),
+    ("spent-first", Break::SpentFirst),
+    ("comes-round", Break::ComesRound),
 ];
 
 static CHOSEN: OnceLock<Break> = OnceLock::new();

@@ -67,7 +67,10 @@ pub fn read(file: &[u8]) -> Answer<Ruleset> {
         return refuse(14, 0);
     }
     let classes = classes(file, &mut at)?;
-    let mut set = Ruleset { last: u16::from_be_bytes([last_high, last_low]), rules: Vec::new(), classes };
+    let last = u16::from_be_bytes([last_high, last_low]);
+    // "Reading a file sets it to 0."
+    let edits = if broken(Break::FileCounts) { count as u32 } else { 0 };
+    let mut set = Ruleset { last, rules: Vec::new(), classes, edits };
     for _ in 0..count {
         let (bytes, next) = sound_line(file, at)?;
         let Some((number, rule)) = rule_of(&bytes) else {

@@ -1,5 +1,5 @@
-//! A ruleset as bytes, as the header lays them out: count and `last`, 512 slots of a number and 24 bytes of a
-//! rule, a mask of 64 bits for each of the 32 classes, the literal total, and for each literal rule the place of
+//! A ruleset as bytes, as the header lays them out: count, `last` and edit count, 512 slots of a number and 24 bytes
+//! of a rule, a mask of 64 bits for each of the 32 classes, the literal total, and for each literal rule the place of
 //! its numbered rule and which of that rule's literal rules it is. All high byte first.
 
 use super::broken::{broken, Break};
@@ -7,7 +7,8 @@ use super::classes::{Classes, CLASSES, SYMBOLS};
 use super::rule::Rule;
 use super::ruleset::{Ruleset, MOST_RULES};
 
-pub const HEAD: usize = 4;
+pub const EDITS: usize = 4;
+pub const HEAD: usize = 8;
 pub const SLOT: usize = 26;
 pub const MASKS: usize = HEAD + SLOT * MOST_RULES;
 pub const MASK: usize = 8;
@@ -32,6 +33,10 @@ pub fn last(image: &[u8]) -> u16 {
     field(image, 2)
 }
 
+pub fn edits(image: &[u8]) -> u32 {
+    (field(image, EDITS) as u32) << 16 | field(image, EDITS + 2) as u32
+}
+
 /// The ruleset in the memory; None is refusal 0.
 pub fn decode(image: &[u8]) -> Option<Ruleset> {
     let held = count(image) as usize;
@@ -43,7 +48,8 @@ pub fn decode(image: &[u8]) -> Option<Ruleset> {
         let rule: [u8; 24] = slot[2..].try_into().expect("a slot has 26 bytes");
         (u16::from_be_bytes([slot[0], slot[1]]), Rule(rule))
     });
-    let set = Ruleset { last: last(image), rules: rules.collect(), classes: classes(image) };
+    let set =
+        Ruleset { last: last(image), rules: rules.collect(), classes: classes(image), edits: edits(image) };
     (set.valid() && (broken(Break::AnyTable) || literal_table(&set) == image[TOTAL..][..table_length(&set)]))
         .then_some(set)
 }
@@ -81,7 +87,8 @@ fn table_length(set: &Ruleset) -> usize {
 /// they lie past what is given. Of rules beyond 512, only their count is told.
 pub fn put(set: &Ruleset, image: &mut [u8]) {
     image[..2].copy_from_slice(&(set.rules.len() as u16).to_be_bytes());
-    image[2..4].copy_from_slice(&set.last.to_be_bytes());
+    image[2..EDITS].copy_from_slice(&set.last.to_be_bytes());
+    image[EDITS..HEAD].copy_from_slice(&set.edits.to_be_bytes());
     for (k, (number, rule)) in set.rules.iter().take(MOST_RULES).enumerate() {
         let slot = &mut image[HEAD + SLOT * k..][..SLOT];
         slot[..2].copy_from_slice(&number.to_be_bytes());

@@ -1,5 +1,5 @@
-//! The ledger: numbered rules in order, `last` and the classes, with its four edits; and the literal rules that
-//! they mean together.
+//! The ledger: numbered rules in order, `last`, the classes and the edit count, with its four edits; and the literal
+//! rules that they mean together.
 
 use super::broken::{broken, Break};
 use super::classes::{sound_class, used, Classes};
@@ -12,6 +12,8 @@ pub struct Ruleset {
     pub last: u16,
     pub rules: Vec<(u16, Rule)>,
     pub classes: Classes,
+    /// How many additions, drops and moves were accepted.
+    pub edits: u32,
 }
 
 /// Literal rules, and so numbered ones.
@@ -62,8 +64,52 @@ impl Ruleset {
         self.rules.iter().flat_map(of_rule).collect()
     }
 
-    /// Refusals 6, 20, 7, 21, 10, in this order. The header counts other than 24 bytes as a broken shape.
+    /// Refusals 6, 20, 7, 21, 10, then 23.
     pub fn add(&mut self, rule: &[u8], p: usize) -> Answer<()> {
+        self.counted(|set| set.added(rule, p))
+    }
+
+    /// Refusals 8, then 23.
+    pub fn drop(&mut self, number: u16) -> Answer<()> {
+        if broken(Break::DropUncounted) {
+            return self.dropped(number);
+        }
+        self.counted(|set| set.dropped(number))
+    }
+
+    /// Refusals 8, 7, then 23.
+    pub fn shift(&mut self, number: u16, p: usize) -> Answer<()> {
+        if broken(Break::IdleMove) && self.place_of(number) == Some(p) {
+            return Ok(());
+        }
+        self.counted(|set| set.shifted(number, p))
+    }
+
+    /// Refusal 20, "again only while no held rule uses it".
+    pub fn set_class(&mut self, symbol: u8, letters: &[u8]) -> Answer<()> {
+        if broken(Break::ClassCounts) {
+            return self.counted(|set| set.with_class(symbol, letters));
+        }
+        self.with_class(symbol, letters)
+    }
+
+    /// One edit more is counted where it is accepted; 23 is the "last check of every addition, drop and move".
+    fn counted(&mut self, edit: impl FnOnce(&mut Ruleset) -> Answer<()>) -> Answer<()> {
+        let mut after = self.clone();
+        let answer = edit(&mut after);
+        let spent = self.edits == u32::MAX && !broken(Break::ComesRound);
+        match answer {
+            _ if spent && broken(Break::SpentFirst) => return refuse(23, 0),
+            Err(_) if broken(Break::RefusedCounts) => self.edits = self.edits.saturating_add(1),
+            Err(_) => {}
+            Ok(()) if spent => return refuse(23, 0),
+            Ok(()) => *self = Ruleset { edits: self.edits.wrapping_add(1), ..after },
+        }
+        answer
+    }
+
+    /// Refusals 6, 20, 7, 21, 10, in this order. The header counts other than 24 bytes as a broken shape.
+    fn added(&mut self, rule: &[u8], p: usize) -> Answer<()> {
         let shaped = rule.try_into().ok().map(Rule).filter(Rule::shaped);
         let Some(rule) = shaped else {
             return refuse(6, 0);
@@ -87,7 +133,7 @@ impl Ruleset {
         Ok(())
     }
 
-    pub fn drop(&mut self, number: u16) -> Answer<()> {
+    fn dropped(&mut self, number: u16) -> Answer<()> {
         let Some(at) = self.place_of(number) else {
             return refuse(8, 0);
         };
@@ -98,8 +144,8 @@ impl Ruleset {
         Ok(())
     }
 
-    /// Refusals 8, then 7 against the remaining list.
-    pub fn shift(&mut self, number: u16, p: usize) -> Answer<()> {
+    /// 7 is judged against the remaining list.
+    fn shifted(&mut self, number: u16, p: usize) -> Answer<()> {
         let Some(at) = self.place_of(number) else {
             return refuse(8, 0);
         };
@@ -111,8 +157,7 @@ impl Ruleset {
         Ok(())
     }
 
-    /// Refusal 20, "again only while no held rule uses it".
-    pub fn set_class(&mut self, symbol: u8, letters: &[u8]) -> Answer<()> {
+    fn with_class(&mut self, symbol: u8, letters: &[u8]) -> Answer<()> {
         let in_use = self.rules.iter().any(|(_, rule)| used(rule).any(|other| other == symbol));
         if !sound_class(symbol, letters) || in_use && !broken(Break::SetInUse) {
             return refuse(20, 0);

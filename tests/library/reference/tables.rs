@@ -1,5 +1,5 @@
 //! The two tables, over the literal rules and straight from their definition: every entry looks for the longest
-//! suffix anew.
+//! suffix anew. Before them stands the edit count of the ruleset that they are built from.
 
 use super::broken::{broken, Break};
 use super::ruleset::Ruleset;
@@ -13,8 +13,22 @@ pub struct Tables {
     pub right_strings: Vec<Vec<u8>>,
 }
 
+/// Where L and R stand, after the two words of the edit count, and where the left rows start.
+pub const L: usize = 2;
+pub const R: usize = 3;
+pub const ROWS: usize = 4;
+
 pub fn words_needed(left: usize, right: usize) -> usize {
-    2 + 64 * (left + right)
+    ROWS + 64 * (left + right)
+}
+
+/// "This count, high word first, into two words before L."
+pub fn count_words(edits: u32) -> [u16; 2] {
+    let (high, low) = ((edits >> 16) as u16, edits as u16);
+    if broken(Break::LowFirst) {
+        return [low, high];
+    }
+    [high, low]
 }
 
 pub fn sets_needed(left: usize, right: usize) -> usize {
@@ -26,7 +40,8 @@ pub fn build(set: &Ruleset) -> Tables {
     let lefts = rules.iter().map(|rule| rule.left().to_vec());
     let rights = rules.iter().map(|rule| rule.right_pattern());
     let (left, right) = (Side::new(lefts.collect()), Side::new(rights.collect()));
-    let mut words = vec![left.strings.len() as u16, right.strings.len() as u16];
+    let mut words = count_words(set.edits).to_vec();
+    words.extend([left.strings.len() as u16, right.strings.len() as u16]);
     let mut sets = Vec::new();
     for side in [&left, &right] {
         for string in &side.strings {

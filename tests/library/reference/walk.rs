@@ -7,7 +7,7 @@ use super::reading::{
     self, fitting, joined, listed_name, listed_word, no_fit, reached, sound_name, Said, Word,
 };
 use super::ruleset::Ruleset;
-use super::tables::{sets_needed, words_needed};
+use super::tables::{count_words, sets_needed, words_needed, L, R, ROWS};
 use super::{refuse, Answer};
 use std::collections::HashMap;
 use std::ops::Range;
@@ -33,7 +33,7 @@ impl Pass<'_> {
     }
 }
 
-/// The answer, and the steps: 0 with the refusals 1, 2 and 16, and for a listed name.
+/// The answer, and the steps: 0 with the refusals 1, 2, 16 and 22, and for a listed name.
 pub fn walk(
     set: &Ruleset,
     list: &Exceptions,
@@ -46,7 +46,8 @@ pub fn walk(
     let mut steps = 0;
     let answer = spoken(set, list, words, sets, name, phones_lent, numbers_lent, &mut steps);
     match answer {
-        Err(refused) if [1, 2, 16].contains(&refused.number) => (answer, 0),
+        Err(refused) if refused.number == 22 && broken(Break::StaleSteps) => (answer, 2 * name.len() + 2),
+        Err(refused) if [1, 2, 16, 22].contains(&refused.number) => (answer, 0),
         _ => (answer, steps),
     }
 }
@@ -66,25 +67,39 @@ fn spoken(
         *steps = if broken(Break::ListedSteps) { 2 * name.len() + 2 } else { 0 };
         return said.within(phones_lent, numbers_lent);
     }
-    if broken(Break::TablesAlways) {
+    let mut unlisted = reading::words(name);
+    unlisted.retain(|word| listed_word(list, word).is_none());
+    // "Where every word is listed, the tables are not judged."
+    if !unlisted.is_empty() || broken(Break::TablesAlways) {
+        if broken(Break::StaleFirst) {
+            of_count(set, words)?;
+        }
         usable(words, sets)?;
+        if !broken(Break::StaleLast) {
+            of_count(set, words)?;
+        }
+    } else if broken(Break::StaleAlways) {
+        of_count(set, words)?;
     }
     // "All passes of unlisted words come first."
     let mut passed = HashMap::new();
-    for word in reading::words(name) {
-        if listed_word(list, &word).is_none() && !broken(Break::LatePasses) {
-            passed.insert(word.before, Passed::of(&word, words, sets, steps)?);
+    for word in &unlisted {
+        if !broken(Break::LatePasses) {
+            passed.insert(word.before, Passed::of(word, words, steps)?);
         }
+    }
+    if !unlisted.is_empty() && broken(Break::StaleLast) {
+        of_count(set, words)?;
     }
     joined(list, name, phones_lent, numbers_lent, |word| match passed.get(&word.before) {
         Some(passed) => passed.read(word, set, words, sets),
-        None => Passed::of(word, words, sets, steps)?.read(word, set, words, sets),
+        None => Passed::of(word, words, steps)?.read(word, set, words, sets),
     })
 }
 
-/// L and R, or 16 where the words and set words are too few for them.
-fn usable(words: &[u16], sets: &[u64]) -> Answer<(usize, usize)> {
-    let &[left, right, ..] = words else {
+/// 16 where the words and set words are too few for their L and R, or one of these is zero.
+fn usable(words: &[u16], sets: &[u64]) -> Answer<()> {
+    let &[_, _, left, right, ..] = words else {
         return refuse(16, 0);
     };
     let (left, right) = (left as usize, right as usize);
@@ -92,7 +107,23 @@ fn usable(words: &[u16], sets: &[u64]) -> Answer<(usize, usize)> {
     if left == 0 || right == 0 || !enough {
         return refuse(16, 0);
     }
-    Ok((left, right))
+    Ok(())
+}
+
+/// 22 where the words have another edit count than the ruleset.
+fn of_count(set: &Ruleset, words: &[u16]) -> Answer<()> {
+    let count = count_words(set.edits);
+    let differs = match words {
+        [_, low, ..] if broken(Break::LowWord) => *low != count[1],
+        [high, low, ..] if broken(Break::OlderOnly) => [*high, *low] < count,
+        [high, low, ..] => [*high, *low] != count,
+        // For a reference that compares before it judges the lengths.
+        _ => false,
+    };
+    if differs {
+        return refuse(22, 0);
+    }
+    Ok(())
 }
 
 /// The states after each position of a word: left from 0 to n, right from n + 1 down to 1.
@@ -102,16 +133,16 @@ struct Passed {
 }
 
 impl Passed {
-    /// Both passes over a word, whose steps are counted.
-    fn of(word: &Word, words: &[u16], sets: &[u64], steps: &mut usize) -> Answer<Passed> {
-        let (left, right) = usable(words, sets)?;
+    /// Both passes over a word, whose steps are counted, through words that are long enough.
+    fn of(word: &Word, words: &[u16], steps: &mut usize) -> Answer<Passed> {
+        let (left, right) = (words[L] as usize, words[R] as usize);
         let n = word.letters.len();
         let mut passed = Passed { left_after: [0; 66], right_after: [0; 66] };
-        let mut pass = Pass { rows: &words[2..], states: left, state: 0, steps: 0 };
+        let mut pass = Pass { rows: &words[ROWS..], states: left, state: 0, steps: 0 };
         for i in 0..=n {
             passed.left_after[i] = pass.step(word.frame[i])?;
         }
-        pass = Pass { rows: &words[2 + 64 * left..], states: right, state: 0, steps: pass.steps };
+        pass = Pass { rows: &words[ROWS + 64 * left..], states: right, state: 0, steps: pass.steps };
         for i in (1..=n + 1).rev() {
             passed.right_after[i] = pass.step(word.frame[i])?;
         }
@@ -127,7 +158,7 @@ impl Passed {
         let mut i = 1;
         while reached(i, word.letters.len()) {
             let left_set = &sets[8 * self.left_after[i - 1]..][..8];
-            let right_set = &sets[8 * (words[0] as usize + self.right_after[i])..][..8];
+            let right_set = &sets[8 * (words[L] as usize + self.right_after[i])..][..8];
             let Some(place) = chosen(left_set, right_set) else {
                 return no_fit(word, i);
             };

@@ -47,15 +47,15 @@ fn one_edit(tally: &mut Tally, image: &mut Lent<u8>, letters: &[u8], random: &mu
     match random.below(12) {
         0..=4 => {
             let rule = rules::any_rule(letters, &set, random);
-            lent::add(tally, image, &Lent::new(&rule, random), p);
+            lent::add(tally, image, &Lent::new(&rule, random), p)
         }
         5..=6 => lent::drop(tally, image, number),
         7..=8 => {
             let (symbol, some) = classes::setting(&set, letters, random);
-            lent::set_class(tally, image, symbol, &Lent::new(&some, random));
+            lent::set_class(tally, image, symbol, &Lent::new(&some, random))
         }
         _ => lent::shift(tally, image, number, p),
-    }
+    };
 }
 
 /// Every call on memory that is damaged: most of it no ruleset.

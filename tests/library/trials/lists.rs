@@ -2,6 +2,7 @@
 
 use super::lending;
 use crate::lent::{self, lists, Compiled, Lent, List, Room};
+use crate::make::tables::{built, stale};
 use crate::make::{lists as make, rules};
 use crate::random::Random;
 use crate::reference::exceptions::Exceptions;
@@ -10,7 +11,6 @@ use crate::reference::many::REPLY;
 use crate::reference::reading::plain;
 use crate::reference::rule::Rule;
 use crate::reference::ruleset::Ruleset;
-use crate::reference::tables::build;
 use crate::tally::Tally;
 
 /// Changes of one list in any order, few letters; its names are spoken meanwhile.
@@ -59,12 +59,13 @@ pub fn some_read_out(tally: &mut Tally, list: &List, random: &mut Random) {
 }
 
 /// A ruleset with a rule for each letter but the first, and others for the last at the ends of a word; its
-/// tables.
+/// tables, and the same with another edit count.
 pub struct Speakers {
     letters: Vec<u8>,
     set: Ruleset,
     image: Lent<u8>,
     compiled: Compiled,
+    stale: Compiled,
 }
 
 impl Speakers {
@@ -74,14 +75,17 @@ impl Speakers {
         parts.extend(letters[1..].chunks(1).map(|letter| [&[], letter, &[], &[0x70]]));
         let rules = parts.into_iter().map(|parts| Rule::new(parts).expect("the parts are short"));
         let rules: Vec<(u16, Rule)> = (1..).zip(rules).collect();
-        let set = Ruleset { last: rules.len() as u16, rules, ..Ruleset::default() };
+        let (last, edits) = (rules.len() as u16, rules::edits(random));
+        let set = Ruleset { last, rules, edits, ..Ruleset::default() };
         let mut bytes = vec![0; IMAGE];
         put(&set, &mut bytes);
         let image = Lent::new(&bytes, random);
-        let tables = build(&set);
-        let mut compiled = Compiled::any(tables.words.len(), tables.sets.len(), random);
+        let (mut words, sets) = built(&set);
+        let mut compiled = Compiled::any(words.len(), sets.len(), random);
         lent::build(tally, &image, &mut compiled);
-        Speakers { letters: letters.to_vec(), set, image, compiled }
+        stale(&mut words, &set, random);
+        let stale = Compiled::new(&words, &sets, random);
+        Speakers { letters: letters.to_vec(), set, image, compiled, stale }
     }
 
     /// A name by all three calls, with about as much room as its phones need.
@@ -100,8 +104,10 @@ impl Speakers {
         let name = Lent::new(&name, random);
         lent::read_name(tally, &self.image, list, &name, &mut room(random));
         lent::speak(tally, &self.image, list, &self.compiled, &name, &mut room(random));
-        // Without tables, a listed name and one of listed words are spoken all the same.
-        lent::speak(tally, &self.image, list, &Compiled::any(0, 0, random), &name, &mut room(random));
+        // Without tables, or by stale ones, a listed name and one of listed words are spoken all the same.
+        for tables in [&Compiled::any(0, 0, random), &self.stale] {
+            lent::speak(tally, &self.image, list, tables, &name, &mut room(random));
+        }
         let (mut room, mut replies) = (Room::any(2 * needed, 64, random), Lent::any(3 * REPLY, random));
         let many = Lent::new(&many, random);
         lent::speak_many(tally, &self.image, list, &self.compiled, &many, &mut room, &mut replies);

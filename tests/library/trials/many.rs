@@ -2,7 +2,7 @@
 
 use super::{lending, SELDOM};
 use crate::lent::{self, Compiled, Lent, Room};
-use crate::make::tables::{built, damaged};
+use crate::make::tables::{built, damaged, stale};
 use crate::make::{images, lists, names, rules};
 use crate::random::Random;
 use crate::reference::exceptions::Exceptions;
@@ -16,6 +16,9 @@ pub fn many(tally: &mut Tally, random: &mut Random) {
     let (mut words, mut sets) = built(&set);
     if random.one_in(3) {
         (words, sets) = damaged((words, sets), random);
+    }
+    if random.one_in(5) {
+        stale(&mut words, &set, random);
     }
     let compiled = Compiled::new(&words, &sets, random);
     for _ in 0..4 {

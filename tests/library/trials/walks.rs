@@ -1,9 +1,9 @@
-//! Walks through tables built, of another ruleset, damaged and random, with room for what they say
-//! lent exactly, one too few and not at all.
+//! Walks through tables built, of another ruleset, of another edit count, damaged and random, with room for what
+//! they say lent exactly, one too few and not at all.
 
 use super::{lending, SELDOM};
 use crate::lent::{self, Compiled, Heard, Lent, List, Room};
-use crate::make::tables::{built, damaged, random as any_tables, Words};
+use crate::make::tables::{built, damaged, put_count, random as any_tables, stale, Words};
 use crate::make::{images, lists, names, rules};
 use crate::random::Random;
 use crate::reference::ruleset::Ruleset;
@@ -28,14 +28,15 @@ pub fn walks(tally: &mut Tally, random: &mut Random) {
     }
 }
 
+/// Mostly with the edit count of the ruleset, so that what else they are shows.
 fn other_tables(set: &Ruleset, letters: &[u8], sound: &Words, random: &mut Random) -> Words {
-    match random.below(8) {
+    let (mut words, sets) = match random.below(8) {
         0 => built(&rules::ruleset(letters, SELDOM, random)),
         1 => {
-            // Tables from before an edit: the rules stand at other places.
-            let mut earlier = set.clone();
-            random.shuffle(&mut earlier.rules);
-            built(&earlier)
+            // Tables of another history: the rules stand at other places.
+            let mut other = set.clone();
+            random.shuffle(&mut other.rules);
+            built(&other)
         }
         2 | 3 => any_tables(set, random),
         4 => {
@@ -44,7 +45,12 @@ fn other_tables(set: &Ruleset, letters: &[u8], sound: &Words, random: &mut Rando
             (words, (0..sets).map(|_| random.next()).collect())
         }
         _ => damaged(sound.clone(), random),
+    };
+    match random.below(4) {
+        0 => stale(&mut words, set, random),
+        _ => put_count(&mut words, set.edits),
     }
+    (words, sets)
 }
 
 fn lend((words, sets): &Words, random: &mut Random) -> Compiled {
