@@ -131,14 +131,14 @@ void base_build(const struct base_ruleset *rs, uint16_t *words, uint64_t *sets)
 {
     struct side left, right;
 
-    begin(&left, words + 2, sets);
+    begin(&left, words + BASE_ROWS, sets);
     for (size_t p = 0; p < rs->total; p++) {
         struct base_rule r = literal(rs, p);
         insert(&left, r.left, r.left_len, p);
     }
     link_failures(&left);
 
-    begin(&right, words + 2 + BASE_SYMBOLS * left.states, sets + BASE_SET_WORDS * left.states);
+    begin(&right, words + BASE_ROWS + BASE_SYMBOLS * left.states, sets + BASE_SET_WORDS * left.states);
     for (size_t p = 0; p < rs->total; p++) {
         struct base_rule r = literal(rs, p);
         uint8_t pattern[10];
@@ -151,8 +151,10 @@ void base_build(const struct base_ruleset *rs, uint16_t *words, uint64_t *sets)
     }
     link_failures(&right);
 
-    words[0] = (uint16_t)left.states;
-    words[1] = (uint16_t)right.states;
+    words[0] = (uint16_t)(rs->edits >> 16);
+    words[1] = (uint16_t)rs->edits;
+    words[2] = (uint16_t)left.states;
+    words[3] = (uint16_t)right.states;
 }
 
 /* ---- Reading a name ---- */
@@ -202,12 +204,14 @@ static struct choice choose(const uint64_t *a, const uint64_t *b)
 int base_walk(const struct base_ruleset *rs, const uint16_t *words, const uint64_t *sets,
               const uint8_t *name, size_t n, struct base_spoken *out)
 {
-    const uint16_t *left = words + 2, *right = left + BASE_SYMBOLS * (size_t)words[0];
-    const uint64_t *right_sets = sets + BASE_SET_WORDS * (size_t)words[0];
+    const uint16_t *left = words + BASE_ROWS, *right = left + BASE_SYMBOLS * (size_t)words[2];
+    const uint64_t *right_sets = sets + BASE_SET_WORDS * (size_t)words[2];
     uint16_t after_left[BASE_NAME + 2], after_right[BASE_NAME + 2];
     size_t q;
 
     begin_name(out);
+    if (((uint32_t)words[0] << 16 | words[1]) != rs->edits)
+        return -1;
     after_left[0] = (uint16_t)(q = left[0]);            /* the boundary, from state 0 */
     for (size_t i = 1; i <= n; i++)
         after_left[i] = (uint16_t)(q = left[BASE_SYMBOLS * q + symbol(name[i - 1])]);
@@ -436,6 +440,7 @@ int base_read(const uint8_t *text, size_t length, struct base_ruleset *rs)
     rs->count = field(frame + 2);
     rs->last = field(frame + 4);
     rs->total = 0;
+    rs->edits = 0;
     memset(rs->classes, 0, sizeof rs->classes);
     if (rs->count > BASE_RULES || read_classes(&in, rs) != 0)
         return -1;

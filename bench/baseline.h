@@ -1,9 +1,10 @@
 /*
  * The yardstick of the benchmark: the same tables, walk, plain reading and rule file as document 01,
- * written by hand in plain C, with document 02's names of several words, contested letters and letter classes but
- * without its exceptions list.
+ * written by hand in plain C, with document 02's names of several words, contested letters, letter classes and edit
+ * count but without its exceptions list.
  * It trusts its caller: rulesets are valid, names are 1 to 63 in at most 64 bytes, memory is long enough
- * and tables are built. Only base_read judges what it is given, since a file comes from outside.
+ * and tables are built, though perhaps before an edit. Only base_read judges what it is given, since a file comes from
+ * outside.
  */
 #ifndef BASELINE_H
 #define BASELINE_H
@@ -23,7 +24,8 @@ enum {
     BASE_SET_WORDS = 8,         /* 512 bits */
     BASE_LEFT_STATES = 3073,    /* most states of either side */
     BASE_RIGHT_STATES = 5121,
-    BASE_WORDS = 2 + BASE_SYMBOLS * (BASE_LEFT_STATES + BASE_RIGHT_STATES),
+    BASE_ROWS = 4,              /* words before the rows: the edit count, high word first, and the states of both sides */
+    BASE_WORDS = BASE_ROWS + BASE_SYMBOLS * (BASE_LEFT_STATES + BASE_RIGHT_STATES),
     BASE_SETS = BASE_SET_WORDS * (BASE_LEFT_STATES + BASE_RIGHT_STATES),
     BASE_PHONES = 4 * BASE_NAME,
     BASE_FILE = 31535           /* longest rule file */
@@ -42,6 +44,7 @@ struct base_literal {
 
 struct base_ruleset {
     uint16_t count, last, total;            /* of rules, numbers, literal rules */
+    uint32_t edits;                         /* accepted additions, drops and moves */
     struct base_rule rules[BASE_RULES];
     uint64_t classes[BASE_CLASSES];         /* bit c: letter c is in the class; 0: undefined */
     struct base_literal literals[BASE_RULES];
@@ -58,14 +61,15 @@ struct base_spoken {
 /* Fills words and sets as document 01 lays them out; they have room for BASE_WORDS and BASE_SETS. */
 void base_build(const struct base_ruleset *rs, uint16_t *words, uint64_t *sets);
 
-/* The walk through built tables. Returns 0, or -1 with the position set. */
+/* The walk through built tables. Returns 0, or -1 with the position set; it is 0, with no steps, where the tables have another edit
+   count than the ruleset. */
 int base_walk(const struct base_ruleset *rs, const uint16_t *words, const uint64_t *sets,
               const uint8_t *name, size_t n, struct base_spoken *out);
 
-/* The plain reading: tries all rules in order, since those that fit are counted. Returns as base_walk. */
+/* The plain reading: tries all rules in order, since those that fit are counted. Returns 0, or -1 with the position set. */
 int base_plain(const struct base_ruleset *rs, const uint8_t *name, size_t n, struct base_spoken *out);
 
-/* Reads a rule file. Returns 0, or -1 for one that is none; rs is then undefined. */
+/* Reads a rule file; its edit count is 0. Returns 0, or -1 for one that is none; rs is then undefined. */
 int base_read(const uint8_t *text, size_t length, struct base_ruleset *rs);
 
 /* Writes the rule file into BASE_FILE bytes. Returns its length. */

@@ -81,6 +81,7 @@ static void rules(int n, int longest)
     }
     accept(pirrozketa_write_file(image, sizeof image, file, sizeof file, &bytes), "no file");
     must(base_read(file, bytes, &rs) == 0, "the baseline reads no file");
+    rs.edits = pirrozketa_edits(image, sizeof image);   /* which the file has not */
 }
 
 /* Names of 4 to 12 letters, of those that some rule fits alone. */
@@ -106,6 +107,11 @@ static void build_in(size_t words_len, size_t sets_len)
 }
 
 static void build(void) { build_in(PIRROZKETA_WORDS, PIRROZKETA_SETS); }
+
+/* The states of both tables that stand in `words`, and the words and set words that these need. */
+static size_t states(void) { return (size_t)words[2] + words[3]; }
+static size_t words_needed(void) { return BASE_ROWS + BASE_SYMBOLS * states(); }
+static size_t sets_needed(void) { return BASE_SET_WORDS * states(); }
 
 static void check_ruleset(void) { accept(pirrozketa_check(image, sizeof image), "no ruleset"); }
 
@@ -383,8 +389,8 @@ int main(void)
     size_t length = draw_names(320);
     build();
     base_build(&rs, base_words, base_sets);
-    must(!memcmp(words, base_words, 2 * (2 + 64 * (size_t)(words[0] + words[1]))), "the tables differ");
-    must(!memcmp(sets, base_sets, 8 * 8 * (size_t)(words[0] + words[1])), "the sets differ");
+    must(!memcmp(words, base_words, words_needed() * sizeof *words), "the tables differ");
+    must(!memcmp(sets, base_sets, sets_needed() * sizeof *sets), "the sets differ");
     many(length);
     base_many();
     compare(NAMES);
@@ -395,7 +401,7 @@ int main(void)
 
     PAIR(mine, base, 1, build(), base_build(&rs, base_words, base_sets));
     row("(c) build, 320 rules", mine, base);
-    size_t least_words = 2 + 64 * (size_t)(words[0] + words[1]), least_sets = 8 * (size_t)(words[0] + words[1]);
+    size_t least_words = words_needed(), least_sets = sets_needed();
     PAIR(mine, base, 1, build_in(least_words, least_sets), base_build(&rs, base_words, base_sets));
     row("(c) the same in the least memory, so that states are counted first", mine, base);
 

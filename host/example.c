@@ -1,7 +1,8 @@
 /*
- * A small host: it reads a rule file, sets a letter class, adds a rule that uses it, writes the file back, builds the tables,
- * lists exceptions and speaks names, of one word or several, one at a time and many at once, with their contested letters. Built
- * and run by host/build, or by hand:
+ * A small host: it reads a rule file, builds the tables, sets a letter class, adds a rule that uses it, writes the file back, lists
+ * exceptions and speaks names, of one word or several, one at a time and many at once, with their contested letters. Since the
+ * addition the tables are old: the first name that needs them is refused, and they are built again. Built and run by host/build, or
+ * by hand:
  *
  *     rt staticlib host
  *     gcc -O2 -Wall -Ihost host/example.c target/staticlib/libhost.a -o target/example
@@ -117,7 +118,8 @@ static void add_rule(void)
     judge("class", code, place);
     code = pirrozketa_add(image, sizeof image, rule, sizeof rule, end, &place);
     judge("add", code, place);
-    printf("rule %u added\n", (unsigned)pirrozketa_last(image, sizeof image));
+    printf("rule %u added, the edit count is %lu\n", (unsigned)pirrozketa_last(image, sizeof image),
+           (unsigned long)pirrozketa_edits(image, sizeof image));
     code = set_vowels(&place);
     if (code != PIRROZKETA_BAD_CLASS)
         stop("a class is set while a rule uses it");
@@ -133,7 +135,7 @@ static void write_rules(void)
     printf("the file has %zu bytes\n", bytes);
 }
 
-/* Due after every add, drop and move and every read of a file: nothing tells that tables are old. */
+/* Due after every read of a file, which no refusal asks for. After an add, drop or move, refusal 22 does. */
 static void build_tables(void)
 {
     size_t place;
@@ -176,7 +178,7 @@ static void list_exceptions(void)
     printf("\n");
 }
 
-/* One name by the tables and by the rules, which agree where the tables were built. */
+/* One name by the tables, built again where they are from before an edit, and by the rules: they agree. */
 static void speak_one(const char *typed)
 {
     uint8_t name[LONGEST], phones[PIRROZKETA_PHONES], read_phones[PIRROZKETA_PHONES];
@@ -185,9 +187,12 @@ static void speak_one(const char *typed)
     uint8_t code, read_code;
     if (!letters(typed, name, &length))
         return;
-    code = pirrozketa_speak(image, sizeof image, list, PIRROZKETA_LIST, words, PIRROZKETA_WORDS, sets, PIRROZKETA_SETS, name,
-                            length, phones, PIRROZKETA_PHONES, numbers, PIRROZKETA_NUMBERS, &given, &applied, &steps,
-                            &contested);
+    while ((code = pirrozketa_speak(image, sizeof image, list, PIRROZKETA_LIST, words, PIRROZKETA_WORDS, sets, PIRROZKETA_SETS,
+                                    name, length, phones, PIRROZKETA_PHONES, numbers, PIRROZKETA_NUMBERS, &given, &applied,
+                                    &steps, &contested)) == PIRROZKETA_STALE_TABLES) {
+        printf("\"%s\": refusal %u, the tables are from before an edit\n", typed, (unsigned)code);
+        build_tables();
+    }
     read_code = pirrozketa_read_name(image, sizeof image, list, PIRROZKETA_LIST, name, length, read_phones,
                                      PIRROZKETA_PHONES, read_numbers, PIRROZKETA_NUMBERS, &read_given, &read_applied,
                                      &read_contested);
@@ -241,9 +246,9 @@ int main(int argc, char **argv)
     if (argc < 2)
         stop("usage: example RULES.hex NAME..");
     read_rules(argv[1]);
+    build_tables();
     add_rule();
     write_rules();
-    build_tables();
     list_exceptions();
     printf("one at a time:\n");
     for (int i = 2; i < argc; i++)

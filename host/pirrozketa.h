@@ -2,7 +2,7 @@
  * Pirrozketa: a ruleset that turns typed names into phones, and a list of names that follow no rule, in
  * memory that the host lends.
  *
- * ANSWERS. Every call but those that count (pirrozketa_count, pirrozketa_last, pirrozketa_list_names,
+ * ANSWERS. Every call but those that count (pirrozketa_count, pirrozketa_last, pirrozketa_edits, pirrozketa_list_names,
  * pirrozketa_list_states) answers with a code: PIRROZKETA_ACCEPTED,
  * which is 255, or the number of the refusal, which may be 0. So test it by PIRROZKETA_OK(code), never as a
  * truth value; compilers warn where it is not looked at. A refusal has a place, and leaves all lent memory
@@ -10,12 +10,19 @@
  * pointers are written in every case. What lies past the bytes, phones, numbers or words that a call gives
  * keeps its contents.
  *
- * TABLES. Call pirrozketa_build after every add, drop and move and every read of a file, before the next name is spoken.
- * Setting a class needs no build: no rule uses it, so the tables of the ruleset are the same words after it.
- * Until then pirrozketa_speak and pirrozketa_speak_many may speak a name by rules that the old tables
- * choose wrongly, with no refusal, and nothing in this interface tells the host. An example: the rules [z],
- * [a] 61 and [x] 58 are built, rule 1 is dropped and [a]x 62 added at place 0. Not built again, "ax" is
- * spoken 61 58; by the rules it is 62 58. pirrozketa_read_name uses no tables, so it is right at once.
+ * TABLES. A ruleset has an edit count, which every accepted add, drop and move raises by one. pirrozketa_build writes it into
+ * the tables; after any accepted add, drop or move a name that needs the tables is refusal 22 until they are built again,
+ * however many edits follow: within one history the count only rises, and at 4,294,967,295 edits are refused with 23, so it
+ * never comes round. A refused edit and pirrozketa_set_class leave the tables good; no rule uses the class that is set, so the
+ * tables of the ruleset are the same words after it. Names that are listed whole or word by word do not look at the tables, and
+ * pirrozketa_read_name uses none, so that both are right at once. What remains the host's business:
+ *   - Tables of another history whose count is equal. After pirrozketa_clear and pirrozketa_read_file the count starts again at
+ *     0, so tables of the ruleset that stood there before, or of another ruleset, with an equal count are not noticed: a name
+ *     may then be spoken by rules that they choose wrongly. Build after every clear and every read of a file, and keep each ruleset's
+ *     tables with it. An example: a file with the rules [z], [a] 61 and [x] 58 is read and its tables are built; then one with
+ *     [a]x 62, [a] 61 and [x] 58 is read in its place. Both counts are 0. Not built again, "ax" is spoken 61 58; by the rules it
+ *     is 62 58.
+ *   - Memory that the host overwrites: of the ruleset, whose edit count may be any, or of the tables.
  *
  * NAMES. A name has up to 64 bytes: letters from 1, a, to 62, and 63, the space bar, which separates words. Each
  * word has boundaries of its own, so that a rule for the end of a word fits before a space too; two spaces in a
@@ -45,8 +52,8 @@
  * fits; with others it need not be, since every shared place counts, of a rule that does not fit and past the rules too.
  *
  * MEMORY. Whatever the lent memory holds, every call ends and stays inside it: memory that is no ruleset is
- * refusal 0, and memory that is no list is 17; tables that lead to a state or literal rule that is none, or to a literal rule that does
- * not fit, are refusal 16. The host sees to this:
+ * refusal 0, and memory that is no list is 17; tables that are too short, that lead to a state or literal rule that is none, or to a
+ * literal rule that does not fit, are refusal 16, and tables with another edit count 22. The host sees to this:
  *   - A slice is a pointer and its length in items. The pointer is aligned for its items and NOT NULL, also
  *     where the length is 0: to lend nothing, lend any array of the type with length 0.
  *   - A slice that a call writes (not const) overlaps no other slice of the call. Slices that it only reads
@@ -66,7 +73,11 @@
 
 /*
  * The version of this interface. MAJOR rises where a host has to change: a call is withdrawn or means
- * something else. MINOR rises where something is added. 6.0 has letter classes: a ruleset has 15,622 bytes (13,316 before), a rule file
+ * something else. MINOR rises where something is added. 7.0 has the edit count: a ruleset has 15,626 bytes (15,622 before), with the
+ * slots and all after them 4 bytes further on; tables have 2 words more, before L, and so up to 524,420; lend none of either that
+ * were kept from before, but read the file and build. A name gives refusal 22 where the tables were built before an edit, by which it
+ * was spoken before; add, drop and move can give 23; pirrozketa_edits is new. Rule files are as they were.
+ * 6.0 has letter classes: a ruleset has 15,622 bytes (13,316 before), a rule file
  * up to 31,535 (29,199 before), and a file written before reads as it did; 64 to 95 in a context is refusal 20 where it was 6;
  * over 512 rules is refusal 21 where it was 9, which is none any more. 5.0 counts contested letters: pirrozketa_read_name and
  * pirrozketa_speak have a parameter more, the last, and a reply of pirrozketa_speak_many has a fifth number. 4.0 takes 63
@@ -75,7 +86,7 @@
  * pirrozketa_speak_many, after the ruleset. 2.0 withdrew pirrozketa_load of 1.0, which could refuse after it had replaced
  * the ruleset: call pirrozketa_read_file, look at its code, then pirrozketa_build.
  */
-#define PIRROZKETA_VERSION_MAJOR 6
+#define PIRROZKETA_VERSION_MAJOR 7
 #define PIRROZKETA_VERSION_MINOR 0
 
 /* The library is compiled for x86-64, and its lengths are numbers of 8 bytes. */
@@ -104,7 +115,7 @@ extern "C" {
 
 /* The refusals, in the order of documents 01 and 02; 9 is none any more. A call gives only those named with it. */
 enum {
-    PIRROZKETA_NOT_RULESET = 0,   /* the memory is none: under 15,622 bytes, over 512 literal rules, a broken rule or
+    PIRROZKETA_NOT_RULESET = 0,   /* the memory is none: under 15,626 bytes, over 512 literal rules, a broken rule or
                                      class, an undefined one in use, numbers that are equal or not from 1 to `last`,
                                      a literal total or table that is not theirs; place 0 */
     PIRROZKETA_NAME_BYTE = 1,     /* the name has a byte outside 01 to 3F; place: the first, counted from 0 */
@@ -132,12 +143,14 @@ enum {
                                      not strictly ascending, or is in use; or the added rule uses one that is undefined;
                                      place 0 */
     PIRROZKETA_FULL = 21,         /* over 512 literal rules after the addition; place 0 */
+    PIRROZKETA_STALE_TABLES = 22, /* the tables have another edit count than the ruleset; place 0 */
+    PIRROZKETA_EDITS_SPENT = 23,  /* the edit count is 4,294,967,295; place 0 */
     PIRROZKETA_ACCEPTED = 255
 };
 
 /* The least to lend. More may be lent, and is not looked at. */
 enum {
-    PIRROZKETA_IMAGE = 15622,       /* bytes of a ruleset */
+    PIRROZKETA_IMAGE = 15626,       /* bytes of a ruleset */
     PIRROZKETA_LIST = 35886         /* words of 32 bits of a list: 143,544 bytes, for the largest */
 };
 
@@ -149,7 +162,7 @@ enum {
 
 /* The most that is ever needed. Less may be lent: a call for which it is too little says what it needs. */
 enum {
-    PIRROZKETA_WORDS = 524418,      /* 2 + 64 (L + R) words of 16 bits, for L and R states of the two tables */
+    PIRROZKETA_WORDS = 524420,      /* 4 + 64 (L + R) words of 16 bits, for L and R states of the two tables */
     PIRROZKETA_SETS = 65552,        /* 8 (L + R) set words of 64 bits */
     PIRROZKETA_NAME = 64,           /* bytes of a name; a longer one is refusal 2 */
     PIRROZKETA_PHONES = 2048,       /* phones that one name can give, by 32 listed words; by rules alone 256 */
@@ -168,24 +181,25 @@ enum {
  * 16,752; read_name 17,168; list_names 24,688; list_remove 31,192; list_add 31,248.
  */
 
-/* ---- the ruleset: `image` is PIRROZKETA_IMAGE bytes or more. Tables built before a change of its rules are old. */
+/* ---- the ruleset: `image` is PIRROZKETA_IMAGE bytes or more. Tables built before an add, drop or move are old. */
 
 /*
  * Its layout, all numbers high byte first:
- *        0  the rule count (2 bytes), `last` (2)
- *        4  512 slots of 26 bytes in the order of the rules: number (2), lengths of left context, target, right context and
+ *        0  the rule count (2 bytes), `last` (2), the edit count (4)
+ *        8  512 slots of 26 bytes in the order of the rules: number (2), lengths of left context, target, right context and
  *           phones (1 each), then 6, 4, 6 and 4 bytes for them
- *   13,316  the 32 classes 64 to 95, 8 bytes each: bit c of the number is set where letter c is in the class; 0 is undefined
- *   13,572  how many literal rules there are (2)
- *   13,574  512 places of 4 bytes, one for each literal rule in order: the place of its rule in the list (2), and which of
+ *   13,320  the 32 classes 64 to 95, 8 bytes each: bit c of the number is set where letter c is in the class; 0 is undefined
+ *   13,576  how many literal rules there are (2)
+ *   13,578  512 places of 4 bytes, one for each literal rule in order: the place of its rule in the list (2), and which of
  *           that rule's literal rules it is, from 0 (2)
  * Bytes past a length mean nothing: an added rule keeps what was handed in, a rule that was read has zeros. Slots past the
- * count and places past the literal rules mean nothing and keep what they held. So compare rulesets by their files, not by
- * these bytes. The calls keep the literal rules in step with the rest; a host that writes these bytes itself has to, or
- * every call refuses them with 0.
+ * count and places past the literal rules mean nothing and keep what they held. The same rules may have come about by other
+ * edits. So compare rulesets by their files, not by these bytes. The calls keep the literal rules in step with the rest; a host
+ * that writes these bytes itself has to, or every call refuses them with 0. Any edit count is one.
  */
 
-/* Makes the memory, whatever it holds, the empty ruleset with `last` 0 and no classes. Refusal 0 where it is too short. */
+/* Makes the memory, whatever it holds, the empty ruleset with `last` 0, edit count 0 and no classes; build the tables next.
+   Refusal 0 where it is too short. */
 PIRROZKETA_MUST_CHECK
 uint8_t pirrozketa_clear(uint8_t *image, size_t image_len);
 
@@ -198,30 +212,36 @@ uint8_t pirrozketa_check(const uint8_t *image, size_t image_len);
 uint16_t pirrozketa_count(const uint8_t *image, size_t image_len);
 uint16_t pirrozketa_last(const uint8_t *image, size_t image_len);
 
+/* The edit count that stands in the memory: how many additions, drops and moves were accepted since it was cleared or
+   read from a file. Memory too short for a ruleset gives 0. */
+uint32_t pirrozketa_edits(const uint8_t *image, size_t image_len);
+
 /* Adds a rule before place p, counted from 0; p equal to the count puts it at the end. The rule is 24
    bytes: the lengths of left context, target, right context and phones, then 6, 4, 6 and 4 bytes for
-   them. *place: the refusal's place, or 0. Refusals 0, 6, 20 (a class that is undefined), 7, 21, 10. */
+   them. *place: the refusal's place, or 0. Refusals 0, 6, 20 (a class that is undefined), 7, 21, 10, 23. */
 PIRROZKETA_MUST_CHECK
 uint8_t pirrozketa_add(uint8_t *image, size_t image_len, const uint8_t *rule, size_t rule_len, size_t p, size_t *place);
 
-/* Drops the rule with the number. *place as above. Refusals 0, 8. */
+/* Drops the rule with the number. *place as above. Refusals 0, 8, 23. */
 PIRROZKETA_MUST_CHECK
 uint8_t pirrozketa_drop(uint8_t *image, size_t image_len, uint16_t number, size_t *place);
 
-/* Takes the rule with the number out and puts it before place p of the rest. Refusals 0, 8, 7. */
+/* Takes the rule with the number out and puts it before place p of the rest; where that is its own place, it counts as an edit all
+   the same. Refusals 0, 8, 7, 23. */
 PIRROZKETA_MUST_CHECK
 uint8_t pirrozketa_move(uint8_t *image, size_t image_len, uint16_t number, size_t p, size_t *place);
 
 /* Gives the class of a symbol, 64 to 95, these letters, 1 to 32 of them, strictly ascending, in place of those that it had. `last`
-   stays, and so do the tables (TABLES above). *place as above. Refusals 0, 20 (a fault of the class, or a rule uses it). */
+   and the edit count stay, and the tables stay good (TABLES above). *place as above. Refusals 0, 20 (a fault of the class, or a rule
+   uses it). */
 PIRROZKETA_MUST_CHECK
 uint8_t pirrozketa_set_class(uint8_t *image, size_t image_len, uint8_t symbol, const uint8_t *letters, size_t letters_len,
                              size_t *place);
 
 /* ---- the rule file */
 
-/* Reads a rule file, its classes too, into the memory, whatever it holds; build the tables next. *place: the refusal's
-   place, or 0. Refusals 0 (memory too short), 13, 14. */
+/* Reads a rule file, its classes too, into the memory, whatever it holds; the edit count, which no file has, is then 0. Build the
+   tables next. *place: the refusal's place, or 0. Refusals 0 (memory too short), 13, 14. */
 PIRROZKETA_MUST_CHECK
 uint8_t pirrozketa_read_file(const uint8_t *file, size_t file_len, uint8_t *image, size_t image_len, size_t *place);
 
@@ -268,9 +288,10 @@ uint8_t pirrozketa_list_read_out(const uint32_t *list, size_t list_len, uint8_t 
 
 /* ---- the tables */
 
-/* Builds the tables of the ruleset as it is now: build again after every add, drop and move and every read of a file
-   (TABLES above). Lend no words to learn how many are needed, by refusal 11; the pointer is not null all
-   the same. *place: the refusal's place, or 0. Refusals 0, 11, 12. */
+/* Builds the tables of the ruleset as it is now: build again after every add, drop and move, every clear and every read of a file
+   (TABLES above). The words are the ruleset's edit count, high word first, the state counts L and R, then L rows of 64 and R rows
+   of 64. Lend no words to learn how many are needed, by refusal 11; the pointer is not null all the same. *place: the refusal's
+   place, or 0. Refusals 0, 11, 12. */
 PIRROZKETA_MUST_CHECK
 uint8_t pirrozketa_build(const uint8_t *image, size_t image_len, uint16_t *words, size_t words_len, uint64_t *sets,
                          size_t sets_len, size_t *place);
@@ -289,10 +310,11 @@ uint8_t pirrozketa_read_name(const uint8_t *image, size_t image_len, const uint3
 
 /* Speaks a name from the list, or else its words, from the list or by the tables. *given and *applied as above; *steps:
    the table entries looked up, of a word that is not listed two for each letter and two more: 2 n + 2 for a name of n
-   bytes without a listed word, 0 where all is listed and with the refusals 0, 17, 1, 2 and 16; *contested: at how many of
+   bytes without a listed word, 0 where all is listed and with the refusals 0, 17, 1, 2, 16 and 22; *contested: at how many of
    the letters reached the sets of the two states share more than one place (CONTESTED above), 0 with a refusal and where
    all is listed. Refusals 0, 17, 2, 1; for a listed name 4 alone; else, where a word is not listed, 16 for tables too
-   short and for the passes of all such words, then 3 or 16 at each letter that is reached; 4, 5. */
+   short, 22 for another edit count than the ruleset's, 16 for the passes of all such words, then 3 or 16 at each letter that is
+   reached; 4, 5. */
 PIRROZKETA_MUST_CHECK
 uint8_t pirrozketa_speak(const uint8_t *image, size_t image_len, const uint32_t *list, size_t list_len,
                          const uint16_t *words, size_t words_len, const uint64_t *sets, size_t sets_len,

@@ -29,6 +29,7 @@ static uint8_t clear(void) { return pirrozketa_clear(copy, sizeof copy); }
 static uint8_t check(void) { return pirrozketa_check(image, sizeof image); }
 static uint8_t count_rules(void) { return pirrozketa_count(image, sizeof image) == RULES ? PIRROZKETA_ACCEPTED : 0; }
 static uint8_t last(void) { return pirrozketa_last(image, sizeof image) == RULES ? PIRROZKETA_ACCEPTED : 0; }
+static uint8_t edits(void) { return pirrozketa_edits(image, sizeof image) == RULES ? PIRROZKETA_ACCEPTED : 0; }
 static uint8_t drop(void) { return pirrozketa_drop(copy, sizeof copy, 1, &place); }
 static uint8_t add(void) { return pirrozketa_add(copy, sizeof copy, rule, sizeof rule, 0, &place); }
 static uint8_t move_rule(void) { return pirrozketa_move(copy, sizeof copy, RULES, 0, &place); }
@@ -40,8 +41,8 @@ static uint8_t build(void)
 }
 static uint8_t build_least(void)
 {
-    states = (size_t)words[0] + words[1];
-    return pirrozketa_build(image, sizeof image, words, 2 + 64 * states, sets, 8 * states, &place);
+    states = (size_t)words[2] + words[3];
+    return pirrozketa_build(image, sizeof image, words, 4 + 64 * states, sets, 8 * states, &place);
 }
 static uint8_t list_clear(void) { return pirrozketa_list_clear(full, PIRROZKETA_LIST); }
 static uint8_t list_check(void) { return pirrozketa_list_check(list, PIRROZKETA_LIST); }
@@ -84,9 +85,9 @@ static uint8_t set_class(void) { return pirrozketa_set_class(copy, sizeof copy, 
 
 /* In this order: `add` has room after `drop`, `read_file` reads what `write_file` wrote, `build_least` needs the counts. */
 static const struct { const char *name; uint8_t (*call)(void); } calls[] = {
-    { "clear", clear }, { "check", check }, { "count", count_rules }, { "last", last }, { "drop", drop }, { "add", add },
-    { "move", move_rule }, { "set_class", set_class }, { "write_file", write_file }, { "read_file", read_file }, { "build", build },
-    { "build, least", build_least }, { "list_check", list_check }, { "list_names", list_names },
+    { "clear", clear }, { "check", check }, { "count", count_rules }, { "last", last }, { "edits", edits }, { "drop", drop },
+    { "add", add }, { "move", move_rule }, { "set_class", set_class }, { "write_file", write_file }, { "read_file", read_file },
+    { "build", build }, { "build, least", build_least }, { "list_check", list_check }, { "list_names", list_names },
     { "list_states", list_states }, { "list_add", list_add }, { "list_read_out", list_read_out },
     { "list_remove", list_remove }, { "list_full", list_full }, { "list_clear", list_clear }, { "read_name", read_name },
     { "speak", speak }, { "speak_many", speak_many }
