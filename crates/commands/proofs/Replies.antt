@@ -88,10 +88,14 @@ speech-not b e xs ys k out out′ len p l h =
 
 -- ---- tables and names
 
+-- a line of two counts
+pub gives-counts : (l r len : ℕ) (out out′ : List ℕ) → len ≡ 13 → out′ ≡ over (statesLine l r) out → Gives (statesLine l r) len out out′
+gives-counts l r len out out′ n h = (n ∙ sym (length-states l r), h)
+
 module _ (a : Answer) (words : List ℕ) (len : ℕ) (out out′ : List ℕ) where
   pub gives-states : a ≡ Accepted → (l r : ℕ) → l ≡ leftCount words → r ≡ rightCount words → len ≡ 13 → out′ ≡ over (statesLine l r) out
       → Gives (buildLine (replyOf a) words) len out out′
-  gives-states p l r el er n h = rw (p, ← el, ← er) (n ∙ sym (length-states l r), h)
+  gives-states p l r el er n h = rw (p, ← el, ← er) (gives-counts l r len out out′ n h)
 
   pub gives-unbuilt : (x : Refusal) → a ≡ Refused x → len ≡ 15 → out′ ≡ over (refusalLine x) out → Gives (buildLine (replyOf a) words) len out out′
   gives-unbuilt x p l h = rw p (l ∙ sym (length-printed (refusedBody (refusalNumber x) (refusalPlace x))), h)

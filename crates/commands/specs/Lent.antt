@@ -45,7 +45,7 @@ walkIn n m image list ws ss name phones numbers = walkedBack n m phones numbers 
 
 -- ---- the commands
 
--- what a build answers: the two state counts, which are the first words
+-- what a build answers: the two state counts, as they stand in the words
 abbrev pub buildLine : Reply → List ℕ → List ℕ
 buildLine accepted words = statesLine (leftCount words) (rightCount words)
 buildLine (declined n p) words = printed (refusedBody n p)

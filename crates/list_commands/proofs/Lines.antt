@@ -16,7 +16,7 @@ use Rattle.numbers.specs.Numbers.{bytes4}
 use Rattle.transcript.specs.Answers.{printed, refusedBody, refusalLine}
 use Rattle.transcript.proofs.Printed.{length-printed}
 use Rattle.commands.specs.Answers.{doneLine, statesLine, malformedLine}
-use Rattle.commands.proofs.Replies.{Gives, answered-done, gives-states}
+use Rattle.commands.proofs.Replies.{Gives, answered-done, gives-counts}
 use Rattle.list_commands.specs.ListCommands.{changeLine, emptyLine, readOutLine}
 
 module _ (len : ℕ) (out out′ : List ℕ) where
@@ -32,7 +32,7 @@ module _ (len : ℕ) (out out′ : List ℕ) where
   module _ (a : Answer) where
     pub change-accepted : (list : List ℕ) (n s : ℕ) → a ≡ Accepted → n ≡ nameCount list → s ≡ stateCount list → len ≡ 13
         → out′ ≡ over (statesLine n s) out → Gives (changeLine (replyOf a) list) len out out′
-    change-accepted list n s p en es l h = rw (p, ← en, ← es) (gives-states Accepted (n ∷ s ∷ []) len out out′ refl n s refl refl l h)
+    change-accepted list n s p en es l h = rw (p, ← en, ← es) (gives-counts n s len out out′ l h)
 
     pub change-refused : (list : List ℕ) (x : Refusal) → a ≡ Refused x → len ≡ 15 → out′ ≡ over (refusalLine x) out
         → Gives (changeLine (replyOf a) list) len out out′
