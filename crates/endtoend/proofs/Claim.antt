@@ -21,9 +21,10 @@ use Rattle.history.proofs.EveryList.{replay-accepted}
 use Rattle.reading.specs.Fitting.{Str}
 use Rattle.reading.specs.Speech.{Outcome, speaks, declines, phonesOf, numbersOf, delivered, plainOutcome, plainSaid}
 use Rattle.reading.proofs.Listed.{sayingListed, listed-said}
-use Rattle.tables.specs.Words.{wordsFor, setsFor, Built, built}
+use Rattle.tables.specs.Words.{editsIn, wordsFor, setsFor, Built, built}
 use Rattle.tables.specs.Walk.{Walked, walkSaid}
 use Rattle.tables.proofs.Theorem.{table-theorem, steps-theorem, steps-whole}
+use Rattle.tables.proofs.Stale.{built-edits}
 use Rattle.tables.proofs.Steps.{listed-walked}
 use Rattle.endtoend.specs.EndToEnd.{result, fromList, Lent, Given, takenEdits, ledgerAfter, literalsAfter, Enough, Claim, EndToEnd}
 
@@ -91,6 +92,7 @@ module _ (m : Lent) (g : Given)
     made = record {
       edits = done;
       tables = ap (λ (x : Built). x .reply) b ∙ ready;
+      carried = ap (λ (x : Built). editsIn (x .words)) b ∙ (built-edits (g .replay .image) (m .words) (m .sets) ready ∙ done .edits);
       alike =
           ap (λ (x : Walked). result (x .said)) walk-is
           ∙ (ap result (table-theorem (g .replay .image) (listingOf (m .list)) (m .words) (m .sets) (m .name) (m .«walk-phones») (m .«walk-numbers») ready)

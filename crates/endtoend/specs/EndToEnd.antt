@@ -1,6 +1,6 @@
 -- Demand 3 of document 01, as one claim: a list of edits from the empty ruleset, the tables built after it in memory that held anything,
--- and a name of any number of words, read plainly and walked through those tables, with a lent exceptions list (document 02, requests 1, 3, 4
--- and 5). The tables are those of the literal rules, the plain reading reads the rules and their classes.
+-- and a name of any number of words, read plainly and walked through those tables, with a lent exceptions list (document 02, requests 1 and 3
+-- to 6). The tables are those of the literal rules, the plain reading reads the rules and their classes.
 -- Assumes nothing.
 use Prim.Native.Nat.{ℕ, _+_, _*_, _≤_}
 use mathlib.Core.Path.{_≡_}
@@ -15,12 +15,12 @@ use Rattle.classes.specs.Expansion.{expand}
 use Rattle.exceptions.specs.Judging.{listingOf}
 use Rattle.image.specs.State.{Ledger, start, rulesOf}
 use Rattle.image.specs.Image.{imageSize}
-use Rattle.edits.specs.Ledger.{Edit, afterAll}
+use Rattle.edits.specs.Ledger.{Edit, afterAll, counted}
 use Rattle.history.specs.Replay.{taken, Replay, FromEmpty, Replayed}
 use Rattle.reading.specs.Fitting.{Str}
 use Rattle.reading.specs.Words.{Word, wordsIn, unlisted, stepsFor}
 use Rattle.reading.specs.Speech.{Told, spoken, refused, saidOf, Unlisted, ListedAs, Said, plainSaid}
-use Rattle.tables.specs.Words.{wordsFor, setsFor, Built, built}
+use Rattle.tables.specs.Words.{editsIn, wordsFor, setsFor, Built, built}
 use Rattle.tables.specs.Walk.{Walked, walkSaid}
 
 -- what a call tells its caller: a refusal's number and place, or its phones and its rule numbers, in order, and how many letters were contested
@@ -108,8 +108,9 @@ pub record Enough (m : Lent) : Type 0 where
 pub record Claim (m : Lent) (g : Given) : Type 0 where
   -- each answer with its place, and the ruleset after, are the ledger's; no number was given twice
   pub edits : FromEmpty (takenEdits m) (m .image) (m .answers) (m .places) (g .replay)
-  -- the tables were built
+  -- the tables were built, and carry the count of the accepted additions, drops and moves, which the walk compares
   pub tables : g .build .reply ≡ accepted
+  pub carried : editsIn (g .build .words) ≡ counted start (takenEdits m)
   -- walk and plain reading are alike in phones, rule numbers and contested letters, of listed names and all others, and where the lent list is none
   pub alike : result (g .walk .said) ≡ result (g .plain)
   -- the steps counted for a name that is not on the list are 2 |w| + 2 for each of its words that is not
