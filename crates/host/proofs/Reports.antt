@@ -9,14 +9,14 @@ use borrow.Author.Tests.{eq-eqb, ne-eqb, lt-leb, le-leb}
 use Rattle.rules.specs.Shape.{shape}
 use Rattle.rules.specs.declared.Rule.{Rule}
 use Rattle.rules.specs.Refusals.{Reply, accepted, declined, replyCode, replyPlace, Report}
-use Rattle.image.specs.Image.{imageSize, valid, ledgerOf, Edited, outcome, countOf, lastOf, editsOf, ruleSize, ruleOf}
+use Rattle.image.specs.Image.{imageSize, valid, ledgerOf, Edited, outcome, ruleSize, ruleOf}
 use Rattle.edits.specs.Ledger.{Edit, judged}
 use Rattle.edits.specs.Edits.{edited, outcomeBy}
 use Rattle.reading.specs.Speech.{Told, Said, saying}
 use Rattle.tables.specs.Words.{Built, building}
 use Rattle.file.specs.Loading.{Filed, filing}
 use Rattle.host.specs.Files.{writtenCode, bytesOrPlace}
-use Rattle.host.specs.Codes.{checked, countIn, lastIn, editsHeld, spokenCode, phonesOrPlace, numbersGiven, contestedGiven, blankRule, ruleGiven}
+use Rattle.host.specs.Codes.{checked, heldIn, spokenCode, phonesOrPlace, numbersGiven, contestedGiven, blankRule, ruleGiven}
 
 -- the numbers of an edit or a reading, and the memory after it
 module _ (a : Reply) (image : List ℕ) (e : Edited) (h : outcome a image ≡ e) where
@@ -34,23 +34,11 @@ checked-is image true h = ap (λ (t : Bool). replyCode (cond t accepted (decline
 checked-is image false h = ap (λ (t : Bool). replyCode (cond t accepted (declined 0 0))) h
 
 -- what memory holds, long enough or not
-pub count-long : (image : List ℕ) → imageSize ≤ length image → countOf image ≡ countIn image
-count-long image h = ap (λ (t : Bool). cond t (countOf image) 0) (sym (le-leb imageSize (length image) h))
+pub held-long : (field : List ℕ → ℕ) (image : List ℕ) → imageSize ≤ length image → field image ≡ heldIn field image
+held-long field image h = ap (λ (t : Bool). cond t (field image) 0) (sym (le-leb imageSize (length image) h))
 
-pub count-short : (image : List ℕ) → length image < imageSize → 0 ≡ countIn image
-count-short image h = ap (λ (t : Bool). cond t (countOf image) 0) (sym (lt-leb imageSize (length image) h))
-
-pub last-long : (image : List ℕ) → imageSize ≤ length image → lastOf image ≡ lastIn image
-last-long image h = ap (λ (t : Bool). cond t (lastOf image) 0) (sym (le-leb imageSize (length image) h))
-
-pub last-short : (image : List ℕ) → length image < imageSize → 0 ≡ lastIn image
-last-short image h = ap (λ (t : Bool). cond t (lastOf image) 0) (sym (lt-leb imageSize (length image) h))
-
-pub edits-long : (image : List ℕ) → imageSize ≤ length image → editsOf image ≡ editsHeld image
-edits-long image h = ap (λ (t : Bool). cond t (editsOf image) 0) (sym (le-leb imageSize (length image) h))
-
-pub edits-short : (image : List ℕ) → length image < imageSize → 0 ≡ editsHeld image
-edits-short image h = ap (λ (t : Bool). cond t (editsOf image) 0) (sym (lt-leb imageSize (length image) h))
+pub held-short : (field : List ℕ → ℕ) (image : List ℕ) → length image < imageSize → 0 ≡ heldIn field image
+held-short field image h = ap (λ (t : Bool). cond t (field image) 0) (sym (lt-leb imageSize (length image) h))
 
 -- a rule from the bytes of a slot without its number
 pub rule-yes : (s : List ℕ) (r : Rule) → r ≡ ruleOf s → length s ≡ ruleSize → r ≡ ruleGiven s

@@ -16,15 +16,19 @@ use Rattle.reading.specs.Speech.{Told, spoken, refused}
 abbrev pub checked : List ℕ → Reply
 checked image = cond (valid image) accepted (declined 0 0)
 
--- the rule count, `last` and the edit count that memory holds, ruleset or not; 0 where it is too short for a ruleset
+-- a number that memory holds, ruleset or not; 0 where it is too short for a ruleset
+abbrev pub heldIn : (List ℕ → ℕ) → List ℕ → ℕ
+heldIn field image = cond (leb imageSize (length image)) (field image) 0
+
+-- the rule count, `last` and the edit count
 abbrev pub countIn : List ℕ → ℕ
-countIn image = cond (leb imageSize (length image)) (countOf image) 0
+countIn = heldIn countOf
 
 abbrev pub lastIn : List ℕ → ℕ
-lastIn image = cond (leb imageSize (length image)) (lastOf image) 0
+lastIn = heldIn lastOf
 
-abbrev pub editsHeld : List ℕ → ℕ
-editsHeld image = cond (leb imageSize (length image)) (editsOf image) 0
+abbrev pub editsIn : List ℕ → ℕ
+editsIn = heldIn editsOf
 
 -- ---- a call that speaks a name
 

@@ -14,7 +14,7 @@ ghost use Rattle.exceptions.specs.Judging.{listingOf};
 ghost use Rattle.reading.specs.Speech.{plainSaid};
 ghost use Rattle.tables.specs.Words.{built};
 ghost use Rattle.tables.specs.Walk.{walkSaid};
-ghost use Rattle.host.specs.Codes.{checked, countIn, lastIn, editsHeld, spokenCode, phonesOrPlace, numbersGiven, contestedGiven, ruleGiven};
+ghost use Rattle.host.specs.Codes.{checked, countIn, lastIn, editsIn, spokenCode, phonesOrPlace, numbersGiven, contestedGiven, ruleGiven};
 ghost use Rattle.file.specs.Loading.{loaded, filed};
 ghost use Rattle.host.specs.Files.{writtenCode, bytesOrPlace};
 ghost use Rattle.host.specs.Many.{manySaid};
@@ -67,7 +67,7 @@ pub extern "C" fn pirrozketa_last(image: &[u8]) -> u16
 // The edit count that the memory holds: accepted additions, drops and moves.
 #[no_mangle]
 pub extern "C" fn pirrozketa_edits(image: &[u8]) -> u32
-    ensures { λ r. ⌜ r ≡ editsHeld (now (image .entry)) ⌝ }
+    ensures { λ r. ⌜ r ≡ editsIn (now (image .entry)) ⌝ }
 {
     if image.len() < image::SIZE {
         return 0;
