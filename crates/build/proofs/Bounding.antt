@@ -9,8 +9,7 @@ use mathlib.Core.List.{List, [], _∷_, _++_, map, map-append}
 use lib.ListN.{length, take}
 use lib.Seq.{take-suc, take-all}
 use Rattle.tables.specs.States.{leftStates, rightStates}
-use Rattle.rules.specs.Limits.{maxContext}
-use Rattle.side.specs.Patterns.{maxPattern}
+use Rattle.rules.specs.Limits.{maxContext, maxPattern}
 use Rattle.image.specs.State.{noEntry}
 use Rattle.rules.specs.Shape.{Entry}
 use Rattle.image.specs.Image.{valid, totalOf, literalsOf}

@@ -9,7 +9,7 @@ use mathlib.Core.List.{List, [], _∷_, _++_, map, map-append}
 use lib.ListN.{length, getD, take, drop, set, replicate, length-replicate, length-set, length-take, length-drop}
 use lib.Seq.{getD-set-same, getD-set-other, getD-take, getD-drop, take-suc, take-all, ext-getD}
 use Rattle.side.proofs.Writing.{zeros}
-use Rattle.rules.specs.Limits.{maxRules}
+use Rattle.rules.specs.Limits.{maxRules, maxPattern}
 use Rattle.tables.specs.Words.{rowSize}
 use Rattle.image.specs.State.{noEntry}
 use Rattle.rules.specs.Shape.{Entry}
@@ -17,7 +17,7 @@ use Rattle.image.specs.Image.{valid, totalOf, literalsOf}
 use Rattle.image.proofs.Literals.{total-is, literals-few}
 use Rattle.literals.specs.Places.{literalEntry}
 use Rattle.reading.specs.Fitting.{Str}
-use Rattle.side.specs.Patterns.{patternAt, patternsOf, maxPattern}
+use Rattle.side.specs.Patterns.{patternAt, patternsOf}
 use Rattle.side.specs.Wrote.{Wrote}
 use Rattle.build.specs.Sides.{sideOf, patternIn, Scratch, Laid}
 use Rattle.build.proofs.Symbols.{long, small}

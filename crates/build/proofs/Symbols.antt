@@ -8,7 +8,7 @@ use mathlib.Core.Bool.{Bool, true, false}
 use mathlib.Core.List.{List, [], _∷_, _++_, reverse, reverseAux, reverse-cons, append-nil, append-assoc}
 use lib.ListN.{length, getD, take, drop, length-append, length-reverse, List·getD-append}
 use lib.Seq.{getD-at, getD-append-add, drop-drop, take-all, paste}
-use Rattle.rules.specs.Limits.{maxContext, maxTarget}
+use Rattle.rules.specs.Limits.{maxContext, maxTarget, maxPattern}
 use borrow.Rule.Slice.PartMut.{midOf, putMid}
 use Rattle.rules.specs.Memory.{over, overAt}
 use Rattle.rules.proofs.Memory.{over-tail}
@@ -20,7 +20,6 @@ use Rattle.image.specs.Image.{valid, totalOf}
 use Rattle.image.proofs.Literals.{LiteralShaped, total-is, literals-shaped}
 use Rattle.reading.specs.Fitting.{Str}
 use Rattle.tables.specs.Words.{rowSize}
-use Rattle.side.specs.Patterns.{maxPattern}
 use Rattle.side.specs.Wrote.{Wrote}
 use Rattle.side.proofs.Writing.{both, copied}
 use Rattle.literals.specs.Places.{literalEntry}

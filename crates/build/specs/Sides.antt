@@ -5,14 +5,14 @@ use Prim.Native.Nat.{ℕ, _*_, _≤_, _<_}
 use mathlib.Core.Bool.{Bool, true, false}
 use mathlib.Core.List.{List, map}
 use lib.ListN.{length, getD}
-use Rattle.rules.specs.Limits.{maxRules}
+use Rattle.rules.specs.Limits.{maxRules, maxPattern}
 use Rattle.rules.specs.Shape.{Entry}
 use Rattle.image.specs.Image.{literalsOf, totalOf}
 use Rattle.reading.specs.Fitting.{Str}
 use Rattle.tables.specs.States.{rightStates}
 use Rattle.tables.specs.Words.{rowSize}
 use Rattle.tables.specs.Tables.{Table, tableOf, leftPattern, rightPattern}
-use Rattle.side.specs.Patterns.{maxPattern, patternsOf, Patterns}
+use Rattle.side.specs.Patterns.{patternsOf, Patterns}
 use Rattle.side.specs.Wrote.{Wrote}
 use Rattle.literals.specs.Places.{literalEntry}
 

@@ -14,7 +14,7 @@ ghost use Rattle.classes.specs.Ordinal.{choiceAt};
 ghost use Rattle.image.specs.Image.{valid, totalOf, editsOf, literalsOf};
 ghost use Rattle.tables.specs.States.{leftStates, rightStates};
 ghost use Rattle.tables.specs.Words.{headWords, rowSize, setSize, wordsHead, rowsOf, setsOf, builtWords, builtSets, wordsFor, setsFor, building, builtFrom, built};
-ghost use Rattle.side.specs.Patterns.{maxPattern};
+ghost use Rattle.rules.specs.Limits.{maxPattern};
 ghost use Rattle.side.specs.Wrote.{Wrote};
 ghost use Rattle.build.specs.Sides.{Put, patternIn, sideTable, Scratch, Laid, Counted};
 
@@ -95,14 +95,14 @@ fn put_pattern(pats: &mut [u8], at: usize, image: &[u8], p: usize, right: bool) 
     put_left(pats, at, masks, left, after, j)
 }
 
-// Pattern i is laid from PATTERN i on, and its length is lens[i].
+// Pattern i is laid from MAX_PATTERN i on, and its length is lens[i].
 fn patterns(image: &[u8], n: usize, right: bool, pats: &mut [u8], lens: &mut [u8])
     requires { ⌜ (valid (now image) ≡ true) × (n ≡ totalOf (now image)) × Scratch (now pats) (now lens) ⌝ }
     ensures { λ _. ⌜ Laid (now (image .entry)) right (now (pats .exit)) (now (lens .exit)) ⌝ }
 {
     let mut i: usize = 0;
     while i < n {
-        let len = put_pattern(pats, side::PATTERN * i, image, i, right);
+        let len = put_pattern(pats, rules::MAX_PATTERN * i, image, i, right);
         lens[i] = len as u8;
         i += 1;
     }
@@ -251,7 +251,7 @@ pub fn build_valid(image: &[u8], words: &mut [u16], sets: &mut [u64]) -> Answer
     requires { ⌜ valid (now image) ≡ true ⌝ }
     ensures { λ r. ⌜ building (replyOf r) (now (words .exit)) (now (sets .exit)) ≡ builtFrom (editsOf (now (image .entry))) (literalsOf (now (image .entry))) (now (words .entry)) (now (sets .entry)) ⌝ }
 {
-    let mut pats = [0u8; side::PATTERN * rules::MAX_RULES];
+    let mut pats = [0u8; rules::MAX_PATTERN * rules::MAX_RULES];
     let mut lens = [0u8; rules::MAX_RULES];
     build_with(image, &mut pats, &mut lens, words, sets)
 }

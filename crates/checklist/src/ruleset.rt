@@ -11,9 +11,9 @@ pub fn rule_for_a() -> Rule {
         target_len: 1,
         right_len: 0,
         phone_len: 1,
-        left: [0; 6],
+        left: [0; rules::MAX_CONTEXT],
         target: [1, 0, 0, 0],
-        right: [0; 6],
+        right: [0; rules::MAX_CONTEXT],
         phones: [0x61, 0, 0, 0],
     }
 }

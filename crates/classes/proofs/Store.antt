@@ -9,7 +9,7 @@ use lib.ListN.{length, getD, take, drop, set, length-append, length-drop, drop-o
 use lib.Seq.{drop-cons, drop-drop, take-suc, set-at, length-take-le}
 use Rattle.numbers.specs.Numbers.{bytes8}
 use Rattle.rules.specs.Memory.{over, overAt}
-use Rattle.rules.proofs.Memory.{over-snoc, over-part, over-at, over-at-length}
+use Rattle.rules.proofs.Memory.{over-both, over-at-length}
 use Rattle.classes.specs.Classes.{Classes, letters}
 use Rattle.classes.specs.Expansion.{size}
 use Rattle.classes.specs.Ordinal.{choiceAt}
@@ -17,34 +17,12 @@ use Rattle.classes.proofs.Ordinal.{choice-cons, choice-none, choice-lon
 
 -- ---- bytes
 
--- from `at` on is after what lies before
-at-is-over : (at : ℕ) (ys d : List ℕ) → at ≤ length d → overAt at ys d ≡ over (take at d ++ ys) d
-at-is-over at ys d h =
-    let l = length-take-le at d h in
-    ap (λ (n : ℕ). take at d ++ over ys (drop n d)) (sym l) ∙ over-part (take at d) d ys
-
 -- two runs, one after the other
 pub put-both : (at : ℕ) (a b d w z : List ℕ) (m : ℕ) → length a ≡ m → at + (m + length b) ≤ length d → w ≡ overAt at a d → z ≡ overAt (at + m) b w → z ≡ overAt at (a ++ b) d
-put-both at a b d w z m la room ew ez =
-    let u = at-is-over at a d (omega arith) in
-    let l : length (take at d ++ a) ≡ at + m = omega (arith, length-append (take at d) a, length-take-le at d (omega arith)) in
-    ez
-    ∙ (over-at (take at d ++ a) d b w (at + m) (ew ∙ u) l
-    ∙ (ap (λ (x : List ℕ). over x d) (append-assoc (take at d) a b) ∙ sym (at-is-over at (a ++ b) d (omega arith))))
+put-both at a b d w z m la room ew ez = ez ∙ (ap (overAt (at + m) b) ew ∙ over-both at (at + m) a b d (omega arith) (omega arith))
 
 pub put-long : (at : ℕ) (a d w : List ℕ) → at + length a ≤ length d → w ≡ overAt at a d → length w ≡ length d
 put-long at a d w h e = ap length e ∙ over-at-length a d at h
-
--- two bytes, one after the other
-pub put-bytes : (at x y : ℕ) (d : List ℕ) → at + 2 ≤ length d → set (set d at x) (at + 1) y ≡ overAt at (x ∷ y ∷ []) d
-put-bytes at x y d h =
-    let l = length-take-le at d (omega arith) in
-    let b : d ≡ over (take at d) d = sym (ap (λ (n : ℕ). take at d ++ drop n d) l ∙ take-append-drop at d) in
-    let l₁ : length (take at d ++ (x ∷ [])) ≡ at + 1 = omega (arith, length-append (take at d) (x ∷ []), l) in
-    ap (λ (w : List ℕ). set (set w at x) (at + 1) y) b
-    ∙ (ap (λ (w : List ℕ). set w (at + 1) y) (over-snoc (take at d) d at x l (omega arith))
-    ∙ (over-snoc (take at d ++ (x ∷ [])) d (at + 1) y l₁ (omega arith)
-    ∙ (ap (λ (w : List ℕ). over w d) (append-assoc (take at d) (x ∷ []) (y ∷ [])) ∙ sym (at-is-over at (x ∷ y ∷ []) d (omega arith)))))
 
 -- eight bytes in the whole
 pub put-eight : (at m : ℕ) (d : List ℕ) → overAt at (bytes8 m) d ≡ take at d ++ (bytes8 m ++ drop (at + 8) d)

@@ -13,7 +13,8 @@ use Rattle.rules.specs.declared.Rule.{Rule}
 use Rattle.image.specs.Image.{Edited}
 use Rattle.edits.specs.Ledger.{Edit}
 use Rattle.edits.specs.Edits.{edited}
-use Rattle.file.specs.Layout.{frontSize, bodySize, ruleIn, ruleStruct}
+use Rattle.rule_bytes.specs.RuleBytes.{ruleStruct}
+use Rattle.file.specs.Layout.{frontSize, bodySize, ruleIn}
 use Rattle.commands.specs.Fields.{addSized, AddSized, addedRule}
 
 pub sized : (f : List ℕ) → addSized f ≡ true → AddSized f

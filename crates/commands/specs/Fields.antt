@@ -9,7 +9,8 @@ use lib.ListN.{length}
 use lib.Dec.{leb, eqb}
 use Rattle.numbers.specs.Numbers.{two}
 use Rattle.rules.specs.declared.Rule.{Rule}
-use Rattle.file.specs.Layout.{frontSize, bodySize, ruleIn, ruleStruct}
+use Rattle.rule_bytes.specs.RuleBytes.{ruleStruct}
+use Rattle.file.specs.Layout.{frontSize, bodySize, ruleIn}
 
 -- four bytes
 abbrev pub four : ℕ → List ℕ → ℕ

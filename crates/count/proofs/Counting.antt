@@ -13,7 +13,8 @@ use Rattle.tables.specs.States.{states}
 use Rattle.tables.specs.Words.{rowSize}
 use Rattle.tables.proofs.Trie.{startsAny}
 use Rattle.tables.proofs.Truth.{clash}
-use Rattle.side.specs.Patterns.{maxPattern, patternAt, patternsOf, Patterns, stateCount}
+use Rattle.rules.specs.Limits.{maxPattern}
+use Rattle.side.specs.Patterns.{patternAt, patternsOf, Patterns, stateCount}
 use Rattle.side.proofs.Inserting.{patterns-next, pattern-symbol, symbol-small}
 use Rattle.count.specs.Chains.{seek, childOf, Room, Chains, Alike, Attached}
 use Rattle.count.specs.Tree.{keyOf, nodes, firstWith, Tree, Followed, Counted}

@@ -14,7 +14,8 @@ use Rattle.reading.specs.Fitting.{Str, starts}
 use Rattle.tables.specs.States.{states, numbered}
 use Rattle.tables.specs.Words.{rowSize}
 use Rattle.tables.proofs.Trie.{startsAny}
-use Rattle.side.specs.Patterns.{maxPattern, patternAt, patternsOf, Patterns}
+use Rattle.rules.specs.Limits.{maxPattern}
+use Rattle.side.specs.Patterns.{patternAt, patternsOf, Patterns}
 use Rattle.side.proofs.Inserting.{patterns-length, patterns-less, pattern-length, pattern-symbol, symbol-small}
 use Rattle.side.proofs.Parts.{patterns-at}
 use Rattle.count.specs.Chains.{childOf, Linked, Chains}

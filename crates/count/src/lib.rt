@@ -6,7 +6,8 @@ ghost use mathlib.Core.Path.{_≡_};
 ghost use Prim.Native.Nat.{ℕ, _+_, _*_, _≤_, _<_};
 ghost use lib.ListN.{length, getD, set};
 ghost use Rattle.tables.specs.Words.{rowSize};
-ghost use Rattle.side.specs.Patterns.{maxPattern, patternAt, patternsOf, Patterns, stateCount};
+ghost use Rattle.rules.specs.Limits.{maxPattern};
+ghost use Rattle.side.specs.Patterns.{patternAt, patternsOf, Patterns, stateCount};
 ghost use Rattle.count.specs.Chains.{seek, childOf, Room, Linked, Chains};
 ghost use Rattle.count.specs.Tree.{keyOf, nodeAt, hasSymbol, nextNode, Tree, Followed, Counted};
 
@@ -70,7 +71,7 @@ fn has_symbol(pats: &[u8], lens: &[u8], q: usize, m: usize, c: u8) -> bool
     if numbers::wide(lens[i]) <= m {
         return false;
     }
-    c == pats[side::PATTERN * i + m]
+    c == pats[rules::MAX_PATTERN * i + m]
 }
 
 // The node that a pattern follows after node q with the symbol c at depth m: q itself, or a child of it; 0 where there is none.
@@ -98,7 +99,7 @@ fn follow(first: &[u16], next: &[u16], key: &[u16], pats: &[u8], lens: &[u8], i:
     requires { ⌜ Patterns (now pats) (now lens) (i + 1) × Chains (now first) (now next) (now key) (i + 1) × Tree (patternsOf (now pats) (now lens) i) (childOf (now first) (now next) (now key)) ⌝ }
     ensures { λ r. ⌜ Followed (patternsOf (now (pats .entry)) (now (lens .entry)) i) (patternAt (now (pats .entry)) (now (lens .entry)) i) r ⌝ }
 {
-    let a = side::PATTERN * i;
+    let a = rules::MAX_PATTERN * i;
     let len = numbers::wide(lens[i]);
     let mut q: usize = 0;
     let mut m: usize = 0;
@@ -132,7 +133,7 @@ fn count_one(
     if len <= m {
         return count;
     }
-    let c = pats[side::PATTERN * i + m];
+    let c = pats[rules::MAX_PATTERN * i + m];
     attach(first, next, key, s.node, i + 1, key_of(m, c));
     count + (len - m)
 }

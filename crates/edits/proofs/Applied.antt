@@ -23,7 +23,7 @@ use Rattle.classes.proofs.Counts.{count-pos}
 use Rattle.classes.proofs.Setting.{total-kept}
 use Rattle.classes.proofs.Shapes.{shape-set}
 use Rattle.image.specs.State.{Ruleset, Ledger, rulesOf, rulesetOf, entries, distinct, allDefined, expandable, isRuleset, noNumbered, noEntry, insertAt, removeAt}
-use Rattle.image.specs.Image.{Filled}
+use Rattle.rule_bytes.specs.RuleBytes.{Filled}
 use Rattle.image.proofs.Stored.{Each, none, more, Fine}
 use Rattle.edits.specs.Ledger.{placeOf, applied, judged}
 use Rattle.edits.specs.Ledger.Edit.{Add, Drop, Move, SetClass}

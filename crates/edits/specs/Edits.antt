@@ -5,7 +5,8 @@ use Prim.Native.Nat.{ℕ}
 use mathlib.Core.Path.{_≡_}
 use mathlib.Core.List.{List, [], _∷_}
 use Rattle.rules.specs.Refusals.{Reply, accepted, declined}
-use Rattle.image.specs.Image.{lastOf, ledgerOf, laid, withClassAt, settled, valid, Edited, outcome, Filled}
+use Rattle.rule_bytes.specs.RuleBytes.{Filled}
+use Rattle.image.specs.Image.{lastOf, ledgerOf, laid, withClassAt, settled, valid, Edited, outcome}
 use Rattle.edits.specs.Ledger.{Edit, judged, applied, issuedBy}
 use Rattle.edits.specs.Ledger.Edit.{Add, Drop, Move, SetClass}
 

@@ -1,4 +1,4 @@
--- How long the lines of a file are: no well-formed ruleset has a file of more than 31,535 bytes. Longest has one of so many.
+-- How long the lines of a file are: no well-formed ruleset has a file of more than 27,439 bytes. Longest has one of so many.
 -- Assumes nothing.
 use Prim.Native.Nat.{ℕ, zero, suc, _+_, _-_, _*_, _≤_}
 use mathlib.Core.Path.{_≡_, refl, ap}
@@ -70,7 +70,7 @@ classes-longest k h = longest-from k classCount firstClass h
 -- ---- the file
 
 -- in bytes, as document 02 has it
-pub longest-bytes : longestFile ≡ 31535
+pub longest-bytes : longestFile ≡ 27439
 longest-bytes = refl
 
 pub longest : (b : Ruleset) → wellFormed b ≡ true → length (encode b) ≤ longestFile

@@ -5,7 +5,6 @@ pub mod ClassLines
 pub mod ClassesRead
 pub mod Accepts
 pub mod Lengths
-pub mod Copies
 pub mod Parts
 pub mod FirstLine
 pub mod NextLine

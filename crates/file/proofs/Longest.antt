@@ -1,5 +1,5 @@
--- The longest file: 32 classes of 32 letters; 512 rules, each with contexts of 6 letters, a target of 4 letters and 4 phones. `longest` of Lengths
--- says that no well-formed ruleset has a longer one.
+-- The longest file: 32 classes of 32 letters; 512 rules, each with contexts, target and phones as long as can be. `longest` of Lengths says that no
+-- well-formed ruleset has a longer one.
 -- Assumes nothing.
 use Prim.Native.Nat.{ℕ, zero, suc, _+_, _*_, _≤_}
 use mathlib.Core.Path.{_≡_, refl, ap, _∙_}
@@ -7,8 +7,8 @@ use mathlib.Core.List.{List, [], _∷_, _++_}
 use mathlib.Core.Bool.{true, false, cond}
 use native.Mathlib.Omega.{arith}
 use borrow.Author.Tests.{le-leb, ne-eqb}
-use lib.ListN.{length, length-append}
-use Rattle.rules.specs.Limits.{maxRules, firstClass, classCount, maxClass}
+use lib.ListN.{length, replicate, length-append}
+use Rattle.rules.specs.Limits.{maxRules, maxContext, maxTarget, maxPhones, firstClass, classCount, maxClass}
 use Rattle.rules.specs.Shape.{Entry, shape}
 use Rattle.rules.proofs.Cases.{and-i, new-i}
 use Rattle.classes.specs.Classes.{Classes, isClass, ascending, letterSet, defined, OnlyClasses}
@@ -26,10 +26,10 @@ abbrev full : ℕ → Entry
 full n = record {
   number = n;
   rule = record {
-    left = 1 ∷ 1 ∷ 1 ∷ 1 ∷ 1 ∷ 1 ∷ [];
-    target = 1 ∷ 1 ∷ 1 ∷ 1 ∷ [];
-    right = 1 ∷ 1 ∷ 1 ∷ 1 ∷ 1 ∷ 1 ∷ [];
-    phones = 1 ∷ 1 ∷ 1 ∷ 1 ∷ [];
+    left = replicate maxContext 1;
+    target = replicate maxTarget 1;
+    right = replicate maxContext 1;
+    phones = replicate maxPhones 1;
   };
 }
 

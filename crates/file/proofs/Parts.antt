@@ -19,7 +19,8 @@ use Rattle.image.specs.State.{entry}
 use Rattle.image.proofs.Entries.{shaped}
 use Rattle.file.specs.declared.heading.Head.{Head}
 use Rattle.file.specs.declared.parsing.Ruled.{Ruled}
-use Rattle.file.specs.Layout.{frameType, headType, edition, headEdition, headCount, headLast, headFrameSize, ruleType, frontSize, leftLength, targetLength, rightLength, phonesLength, bodySize, longestFrame, ruleIn, entryIn, ruleStruct, numberedOf}
+use Rattle.rule_bytes.specs.RuleBytes.{ruleWith, ruleStruct}
+use Rattle.file.specs.Layout.{frameType, headType, edition, headEdition, headCount, headLast, headFrameSize, ruleType, frontSize, leftLength, targetLength, rightLength, phonesLength, bodySize, longestFrame, ruleIn, entryIn, numberedOf}
 use Rattle.file.specs.File.{isRule}
 use Rattle.file.specs.Loading.{noHead, headIn, noneRuled, ruledIn, ruleFrame}
 use Rattle.file.proofs.Bodies.{both, in-range, parts}
@@ -33,7 +34,7 @@ first-first (suc m) (x ∷ w) h = ap (λ (l : List ℕ). x ∷ l) (first-first m
 
 pub view-struct : (r : Production) → length (r .left) ≤ maxContext → length (r .target) ≤ maxTarget → length (r .right) ≤ maxContext → length (r .phones) ≤ maxPhones
     → view (ruleStruct r) ≡ r
-view-struct r l t g p = rw (first-first 6 (r .left) l, first-first 4 (r .target) t, first-first 6 (r .right) g, first-first 4 (r .phones) p)
+view-struct r l t g p = rw (first-first maxContext (r .left) l, first-first maxTarget (r .target) t, first-first maxContext (r .right) g, first-first maxPhones (r .phones) p)
 
 -- a field in an array of m places, judged by q, which refuses a field of more
 field-shape : (q : List ℕ → Bool) (m : ℕ) → ((w : List ℕ) → m < length w → q w ≡ false) → (w : List ℕ) → q (first (length w) (first m w 0) 0) ≡ q w
@@ -122,24 +123,23 @@ frame-fits w e =
 
 -- the rule of a frame, its fields read one by one
 module _ (w : List ℕ) (room : bodySize w ≤ length w) where
-  pub rule-held : (t r p : ℕ) → t ≡ frontSize + leftLength w → r ≡ t + targetLength w → p ≡ r + rightLength w
-      → (left target right phones : List ℕ)
-      → left ≡ first maxContext (take (leftLength w) (drop frontSize w)) 0
-      → target ≡ first maxTarget (take (targetLength w) (drop t w)) 0
-      → right ≡ first maxContext (take (rightLength w) (drop r w)) 0
-      → phones ≡ first maxPhones (take (phonesLength w) (drop p w)) 0
-      → _≡_ {A = Rule}
-      (record { «left_len» = leftLength w; «target_len» = targetLength w; «right_len» = rightLength w; «phone_len» = phonesLength w; left = left; target = target; right = right; phones = phones })
-      (ruleStruct (ruleIn w))
-  rule-held t r p et er ep left target right phones e₁ e₂ e₃ e₄ =
+  pub rule-held : (t r p e : ℕ) → t ≡ frontSize + leftLength w → r ≡ t + targetLength w → p ≡ r + rightLength w → e ≡ p + phonesLength w
+      → ruleWith (leftLength w) (targetLength w) (rightLength w) (phonesLength w) (take (t - frontSize) (drop frontSize w)) (take (r - t) (drop t w))
+      (take (p - r) (drop r w)) (take (e - p) (drop p w))
+      ≡ ruleStruct (ruleIn w)
+  rule-held t r p e et er ep ee =
       let d₁ : drop (leftLength w) (drop frontSize w) ≡ drop t w = drop-drop (leftLength w) frontSize w ∙ ap (λ (k : ℕ). drop k w) (sym et) in
       let d₂ : drop (targetLength w) (drop t w) ≡ drop r w = drop-drop (targetLength w) t w ∙ ap (λ (k : ℕ). drop k w) (sym er) in
       let d₃ : drop (rightLength w) (drop r w) ≡ drop p w = drop-drop (rightLength w) r w ∙ ap (λ (k : ℕ). drop k w) (sym ep) in
+      let k₁ : t - frontSize ≡ leftLength w = omega arith in
+      let k₂ : r - t ≡ targetLength w = omega arith in
+      let k₃ : p - r ≡ rightLength w = omega arith in
+      let k₄ : e - p ≡ phonesLength w = omega arith in
       let n₁ : length (take (leftLength w) (drop frontSize w)) ≡ leftLength w = length-take-le _ _ (omega (arith, length-drop frontSize w)) in
       let n₂ : length (take (targetLength w) (drop t w)) ≡ targetLength w = length-take-le _ _ (omega (arith, length-drop t w)) in
       let n₃ : length (take (rightLength w) (drop r w)) ≡ rightLength w = length-take-le _ _ (omega (arith, length-drop r w)) in
       let n₄ : length (take (phonesLength w) (drop p w)) ≡ phonesLength w = length-take-le _ _ (omega (arith, length-drop p w)) in
-      rw (d₁, d₂, d₃, n₁, n₂, n₃, n₄, e₁, e₂, e₃, e₄)
+      rw (k₁, k₂, k₃, k₄, d₁, d₂, d₃, n₁, n₂, n₃, n₄)
 
 -- ---- the rule of a frame, judged
 

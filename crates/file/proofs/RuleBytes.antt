@@ -38,7 +38,7 @@ module _ (image : List ℕ) (ok : valid image ≡ true) (place : ℕ) (h : place
   abbrev e : Entry
   e = entryAt image place
 
-  -- at most 6, 4, 6 and 4 bytes
+  -- no field has more bytes than its limit
   short : (length l ≤ maxContext) × ((length t ≤ maxTarget) × ((length r ≤ maxContext) × (length p ≤ maxPhones)))
   short =
       let s = entry-shaped image ok place h in

@@ -8,7 +8,8 @@ use lib.ListN.{length, take, drop, length-append, length-drop, take-append-drop}
 use lib.Seq.{take-at, drop-append-add, drop-drop, length-take-le}
 use Rattle.rules.specs.declared.Numbered.{Numbered}
 use Rattle.classes.specs.Classes.{Classes}
-use Rattle.image.specs.Image.{headSize, slotSize, slotStart, bytesOf, flat, headOf, laid, withHead, withRule, Filled}
+use Rattle.rule_bytes.specs.RuleBytes.{Filled}
+use Rattle.image.specs.Image.{headSize, slotSize, slotStart, bytesOf, flat, headOf, laid, withHead, withRule}
 use Rattle.image.proofs.Stored.{Each, slot-length, length-flat}
 use Rattle.image.proofs.Stored.Each.{none, more}
 use Rattle.file.specs.Loading.{withRules}

@@ -7,10 +7,10 @@ use Prim.Native.Nat.{ℕ, _+_, _*_}
 use mathlib.Core.List.{List}
 use lib.ListN.{length, getD, take, drop}
 use Rattle.numbers.specs.Numbers.{two}
-use Rattle.rules.specs.Limits.{maxRules, maxContext, maxTarget, maxPhones, classCount, maxClass}
-use Rattle.rules.specs.Shape.{first, Production, Entry}
-use Rattle.rules.specs.declared.Rule.{Rule}
+use Rattle.rules.specs.Limits.{maxRules, fieldsSize, classCount, maxClass}
+use Rattle.rules.specs.Shape.{Production, Entry}
 use Rattle.rules.specs.declared.Numbered.{Numbered}
+use Rattle.rule_bytes.specs.RuleBytes.{ruleStruct}
 
 abbrev pub frameType : List ℕ → ℕ
 frameType f = getD f 0 0
@@ -94,7 +94,7 @@ bodySize f = frontSize + (leftLength f + (targetLength f + (rightLength f + phon
 
 -- bytes of the longest frame of a rule: each field full
 abbrev pub longestFrame : ℕ
-longestFrame = frontSize + (maxContext + (maxTarget + (maxContext + maxPhones))) + 1
+longestFrame = frontSize + fieldsSize + 1
 
 -- the rule: its four fields
 abbrev pub ruleIn : List ℕ → Production
@@ -115,19 +115,6 @@ abbrev pub longestFile : ℕ
 longestFile = headLineSize + lineSize longestClassFrame * classCount + lineSize longestFrame * maxRules
 
 -- ---- a rule in a struct
-
--- its lengths, and of each field as many symbols as its array has places, 0 past them
-abbrev pub ruleStruct : Production → Rule
-ruleStruct r = record {
-  «left_len» = length (r .left);
-  «target_len» = length (r .target);
-  «right_len» = length (r .right);
-  «phone_len» = length (r .phones);
-  left = first maxContext (r .left) 0;
-  target = first maxTarget (r .target) 0;
-  right = first maxContext (r .right) 0;
-  phones = first maxPhones (r .phones) 0;
-}
 
 abbrev pub numberedOf : Entry → Numbered
 numberedOf e = record { number = e .number; rule = ruleStruct (e .rule) }

@@ -5,7 +5,8 @@ ghost use mathlib.Core.Path.{_≡_};
 ghost use Prim.Native.Nat.{_≤_};
 ghost use lib.ListN.{length, take};
 ghost use Rattle.rules.specs.Memory.{over};
-ghost use Rattle.file.specs.Layout.{frontSize, bodySize, ruleIn, ruleStruct};
+ghost use Rattle.rule_bytes.specs.RuleBytes.{ruleStruct};
+ghost use Rattle.file.specs.Layout.{frontSize, bodySize, ruleIn};
 
 pub const TYPE: usize = 0;
 
@@ -48,12 +49,7 @@ pub const PHONES_LEN: usize = 6;
 
 pub const FRONT: usize = 7;
 
-pub const LONGEST: usize = FRONT
-    + rules::MAX_CONTEXT
-    + rules::MAX_TARGET
-    + rules::MAX_CONTEXT
-    + rules::MAX_PHONES
-    + 1;
+pub const LONGEST: usize = FRONT + rules::FIELDS + 1;
 
 // The longest file: a head, all classes and 512 rules, each line as long as it can be.
 pub const LONGEST_FILE: usize = 2 * HEAD
@@ -73,18 +69,6 @@ pub fn body_size(f: &[u8]) -> usize
     FRONT + (l + (t + (r + p)))
 }
 
-// As many bytes of `s` as `room` has places, at its front.
-fn fill(room: &mut [u8], s: &[u8])
-    ensures { λ _. ⌜ now (room .exit) ≡ over (take (length (now (room .entry))) (now (s .entry))) (now (room .entry)) ⌝ }
-{
-    let n = room.len();
-    if n < s.len() {
-        image::put(room, 0, &s[..n]);
-    } else {
-        image::put(room, 0, s);
-    }
-}
-
 // The rule of a frame. A length above what a field can hold is kept as the length; the bytes that have no room are skipped.
 pub fn rule_in(f: &[u8]) -> Rule
     requires { ⌜ bodySize (now f) ≤ length (now f) ⌝ }
@@ -94,22 +78,18 @@ pub fn rule_in(f: &[u8]) -> Rule
     let right_at = target_at + numbers::wide(f[TARGET_LEN]);
     let phones_at = right_at + numbers::wide(f[RIGHT_LEN]);
     let end = phones_at + numbers::wide(f[PHONES_LEN]);
-    let mut left = [0u8; rules::MAX_CONTEXT];
-    let mut target = [0u8; rules::MAX_TARGET];
-    let mut right = [0u8; rules::MAX_CONTEXT];
-    let mut phones = [0u8; rules::MAX_PHONES];
-    fill(&mut left, &f[FRONT..target_at]);
-    fill(&mut target, &f[target_at..right_at]);
-    fill(&mut right, &f[right_at..phones_at]);
-    fill(&mut phones, &f[phones_at..end]);
-    Rule {
-        left_len: f[LEFT_LEN],
-        target_len: f[TARGET_LEN],
-        right_len: f[RIGHT_LEN],
-        phone_len: f[PHONES_LEN],
+    let left = &f[FRONT..target_at];
+    let target = &f[target_at..right_at];
+    let right = &f[right_at..phones_at];
+    let phones = &f[phones_at..end];
+    rule_bytes::rule_with(
+        f[LEFT_LEN],
+        f[TARGET_LEN],
+        f[RIGHT_LEN],
+        f[PHONES_LEN],
         left,
         target,
         right,
         phones,
-    }
+    )
 }

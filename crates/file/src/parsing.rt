@@ -65,16 +65,7 @@ pub fn frame_size(file: &[u8], at: usize) -> usize
 fn no_rule() -> Ruled
     ensures { λ r. ⌜ r ≡ noneRuled ⌝ }
 {
-    let rule = Rule {
-        left_len: 0,
-        target_len: 0,
-        right_len: 0,
-        phone_len: 0,
-        left: [0; rules::MAX_CONTEXT],
-        target: [0; rules::MAX_TARGET],
-        right: [0; rules::MAX_CONTEXT],
-        phones: [0; rules::MAX_PHONES],
-    };
+    let rule = rule_bytes::blank();
     let entry = Numbered { number: 0, rule };
     Ruled { ok: false, entry }
 }

@@ -26,6 +26,7 @@ use Rattle.edits.specs.Edits.{edited, imageAll, outAll, FilledEdit}
 use Rattle.edits.proofs.Counted.{counted-all}
 use Rattle.edits.proofs.History.{history, history-valid, history-issued, issued-rise}
 use Rattle.history.specs.Code.{editWords, byteAt, codedRule, codedLetters, codedEdit, codedEdits}
+use Rattle.history.proofs.Coded.{coded-rule-filled}
 use Rattle.history.specs.Replay.{turns, taken, replaying, through, throughBy, replayed, issuedFromEmpty, FromEmpty, Replayed}
 
 -- the edit that the words say, by their kind
@@ -75,7 +76,7 @@ edits-on n i at pool ws h =
 filled-by : (pool ws : List ℕ) (a b c : Bool)
     → FilledEdit (cond a (Add (codedRule ws) (getD ws 2 0)) (cond b (Drop (getD ws 1 0 % 65536))
     (cond c (Move (getD ws 1 0 % 65536) (getD ws 2 0)) (SetClass (byteAt ws 1) (codedLetters pool ws)))))
-filled-by pool ws true b c = (refl, (refl, (refl, refl)))
+filled-by pool ws true b c = coded-rule-filled ws
 filled-by pool ws false true c = refl
 filled-by pool ws false false true = refl
 filled-by pool ws false false false = refl

@@ -1,9 +1,9 @@
--- Lists of edits as lists of words, 27 words an edit, and a pool of letters. The words: kind (0 add, 1 drop, 2 move, else set a class), number,
--- place, four lengths, then the left, target, right and phone bytes. Of a class: kind, symbol, and where in the pool its letters start and how
--- many they are, so that any list of letters can be said. A missing word reads as 0.
+-- Lists of edits as lists of words, and a pool of letters. The words of an edit: kind (0 add, 1 drop, 2 move, else set a class), number, place, then
+-- the bytes of a rule, one a word. Of a class: kind, symbol, and where in the pool its letters start and how many they are, so that any list of
+-- letters can be said. A missing word reads as 0.
 -- Assumes nothing.
 use mathlib.Core.Bool.{cond}
-use Prim.Native.Nat.{ℕ, zero, suc, _+_, _<_, _%_}
+use Prim.Native.Nat.{ℕ, zero, suc, _+_, _-_, _<_, _%_}
 use mathlib.Core.Path.{_≡_}
 use mathlib.Core.List.{List, [], _∷_, _++_}
 use lib.ListN.{length, getD, take, drop, replicate}
@@ -11,39 +11,33 @@ use lib.Dec.{eqb}
 use Rattle.rules.specs.Memory.{Below, wordBound}
 use Rattle.rules.specs.Limits.{maxContext, maxTarget, maxPhones}
 use Rattle.rules.specs.declared.Rule.{Rule}
+use Rattle.rule_bytes.specs.RuleBytes.{ruleSize, ruleOf, ruleBytes}
 use Rattle.edits.specs.Ledger.{Edit}
 use Rattle.edits.specs.Ledger.Edit.{Add, Drop, Move, SetClass}
 
--- words of an edit
+-- the first word of the rule, and the words of an edit
+abbrev pub ruleWord : ℕ
+ruleWord = 3
+
 abbrev pub editWords : ℕ
-editWords = 27
+editWords = ruleWord + ruleSize
 
 abbrev pub byteAt : List ℕ → ℕ → ℕ
 byteAt ws k = getD ws k 0 % 256
 
-abbrev pub sixAt : List ℕ → ℕ → List ℕ
-sixAt ws k = byteAt ws k ∷ byteAt ws (k + 1) ∷ byteAt ws (k + 2) ∷ byteAt ws (k + 3) ∷ byteAt ws (k + 4) ∷ byteAt ws (k + 5) ∷ []
-
-abbrev pub fourAt : List ℕ → ℕ → List ℕ
-fourAt ws k = byteAt ws k ∷ byteAt ws (k + 1) ∷ byteAt ws (k + 2) ∷ byteAt ws (k + 3) ∷ []
+-- the first n words, each as a byte
+unfoldable pub firstBytes : ℕ → List ℕ → List ℕ
+firstBytes zero ws = []
+firstBytes (suc n) ws = byteAt ws 0 ∷ firstBytes n (drop 1 ws)
 
 abbrev pub codedRule : List ℕ → Rule
-codedRule ws = record {
-  «left_len» = byteAt ws 3;
-  «target_len» = byteAt ws 4;
-  «right_len» = byteAt ws 5;
-  «phone_len» = byteAt ws 6;
-  left = sixAt ws 7;
-  target = fourAt ws 13;
-  right = sixAt ws 17;
-  phones = fourAt ws 23;
-}
+codedRule ws = ruleOf (firstBytes ruleSize (drop ruleWord ws))
 
 -- the letters that a class edit names
 abbrev pub codedLetters : List ℕ → List ℕ → List ℕ
 codedLetters pool ws = take (getD ws 3 0) (drop (getD ws 2 0) pool)
 
--- the edit that the first 27 words say
+-- the edit that the first words say
 abbrev pub codedEdit : List ℕ → List ℕ → Edit
 codedEdit pool ws =
     cond (eqb (getD ws 0 0) 0) (Add (codedRule ws) (getD ws 2 0))
@@ -57,15 +51,10 @@ codedEdits (suc n) pool ws = codedEdit pool ws ∷ codedEdits n pool (drop editW
 
 -- the words that say an edit whose letters start at `at` of the pool, before ws
 abbrev pub wordsOf : ℕ → Edit → List ℕ → List ℕ
-wordsOf at (Add r p) ws =
-    0 ∷ 0 ∷ p ∷ r .«left_len» ∷ r .«target_len» ∷ r .«right_len» ∷ r .«phone_len»
-    ∷ getD (r .left) 0 0 ∷ getD (r .left) 1 0 ∷ getD (r .left) 2 0 ∷ getD (r .left) 3 0 ∷ getD (r .left) 4 0 ∷ getD (r .left) 5 0
-    ∷ getD (r .target) 0 0 ∷ getD (r .target) 1 0 ∷ getD (r .target) 2 0 ∷ getD (r .target) 3 0
-    ∷ getD (r .right) 0 0 ∷ getD (r .right) 1 0 ∷ getD (r .right) 2 0 ∷ getD (r .right) 3 0 ∷ getD (r .right) 4 0 ∷ getD (r .right) 5 0
-    ∷ getD (r .phones) 0 0 ∷ getD (r .phones) 1 0 ∷ getD (r .phones) 2 0 ∷ getD (r .phones) 3 0 ∷ ws
-wordsOf at (Drop n) ws = 1 ∷ n ∷ replicate 25 0 ++ ws
-wordsOf at (Move n p) ws = 2 ∷ n ∷ p ∷ replicate 24 0 ++ ws
-wordsOf at (SetClass c l) ws = 3 ∷ c ∷ at ∷ length l ∷ replicate 23 0 ++ ws
+wordsOf at (Add r p) ws = 0 ∷ 0 ∷ p ∷ (ruleBytes r ++ ws)
+wordsOf at (Drop n) ws = 1 ∷ n ∷ 0 ∷ (replicate ruleSize 0 ++ ws)
+wordsOf at (Move n p) ws = 2 ∷ n ∷ p ∷ (replicate ruleSize 0 ++ ws)
+wordsOf at (SetClass c l) ws = 3 ∷ c ∷ at ∷ length l ∷ (replicate (ruleSize - 1) 0 ++ ws)
 
 -- the letters that an edit has
 abbrev pub lettersOf : Edit → List ℕ

@@ -8,11 +8,13 @@ ghost use Rattle.rules.specs.Refusals.{replyOf, accepted};
 ghost use Rattle.image.specs.Image.{outcome};
 ghost use Rattle.edits.specs.Ledger.{Edit};
 ghost use Rattle.edits.specs.Edits.{edited};
-ghost use Rattle.history.specs.Code.{byteAt, sixAt, fourAt, codedRule, codedLetters, codedEdit, codedEdits};
+ghost use Rattle.history.specs.Code.{ruleWord, byteAt, firstBytes, codedRule, codedLetters, codedEdit, codedEdits};
 ghost use Rattle.history.specs.Replay.{turns, replaying, through, Replayed};
 
 // Words of a coded edit; specs/Code.antt has the layout.
-const EDIT_WORDS: usize = 27;
+const RULE_WORD: usize = 3;
+
+const EDIT_WORDS: usize = RULE_WORD + rule_bytes::SIZE;
 
 // The word at `i`, or 0 past the end.
 fn word_at(code: &[usize], i: usize) -> usize
@@ -30,51 +32,23 @@ fn byte_at(code: &[usize], i: usize) -> u8
     (word_at(code, i) % 256) as u8
 }
 
-fn six_at(code: &[usize], i: usize) -> [u8; 6]
-    requires { ⌜ i < 100 ⌝ }
-    ensures { λ r. ⌜ r ≡ sixAt (now (code .entry)) i ⌝ }
+// The bytes of the rule that the words say, as many as `room` has places.
+fn put_bytes(room: &mut [u8], code: &[usize])
+    ensures { λ _. ⌜ now (room .exit) ≡ firstBytes (length (now (room .entry))) (drop ruleWord (now (code .entry))) ⌝ }
 {
-    let a = byte_at(code, i);
-    let b = byte_at(code, i + 1);
-    let c = byte_at(code, i + 2);
-    let d = byte_at(code, i + 3);
-    let e = byte_at(code, i + 4);
-    let f = byte_at(code, i + 5);
-    [a, b, c, d, e, f]
-}
-
-fn four_at(code: &[usize], i: usize) -> [u8; 4]
-    requires { ⌜ i < 100 ⌝ }
-    ensures { λ r. ⌜ r ≡ fourAt (now (code .entry)) i ⌝ }
-{
-    let a = byte_at(code, i);
-    let b = byte_at(code, i + 1);
-    let c = byte_at(code, i + 2);
-    let d = byte_at(code, i + 3);
-    [a, b, c, d]
+    let mut i = 0;
+    while i < room.len() {
+        room[i] = byte_at(code, RULE_WORD + i);
+        i += 1;
+    }
 }
 
 fn coded_rule(code: &[usize]) -> Rule
     ensures { λ r. ⌜ r ≡ codedRule (now (code .entry)) ⌝ }
 {
-    let left_len = byte_at(code, 3);
-    let target_len = byte_at(code, 4);
-    let right_len = byte_at(code, 5);
-    let phone_len = byte_at(code, 6);
-    let left = six_at(code, 7);
-    let target = four_at(code, 13);
-    let right = six_at(code, 17);
-    let phones = four_at(code, 23);
-    Rule {
-        left_len,
-        target_len,
-        right_len,
-        phone_len,
-        left,
-        target,
-        right,
-        phones,
-    }
+    let mut bytes = [0u8; rule_bytes::SIZE];
+    put_bytes(&mut bytes, code);
+    rule_bytes::rule_of(&bytes)
 }
 
 // At most `n` letters of the pool from `at` on.

@@ -9,14 +9,15 @@ use borrow.Author.Tests.{eq-eqb, ne-eqb, lt-leb, le-leb}
 use Rattle.rules.specs.Shape.{shape}
 use Rattle.rules.specs.declared.Rule.{Rule}
 use Rattle.rules.specs.Refusals.{Reply, accepted, declined, replyCode, replyPlace, Report}
-use Rattle.image.specs.Image.{imageSize, valid, ledgerOf, Edited, outcome, ruleSize, ruleOf}
+use Rattle.rule_bytes.specs.RuleBytes.{ruleOf, ruleSize, blankRule}
+use Rattle.image.specs.Image.{imageSize, valid, ledgerOf, Edited, outcome}
 use Rattle.edits.specs.Ledger.{Edit, judged}
 use Rattle.edits.specs.Edits.{edited, outcomeBy}
 use Rattle.reading.specs.Speech.{Told, Said, saying}
 use Rattle.tables.specs.Words.{Built, building}
 use Rattle.file.specs.Loading.{Filed, filing}
 use Rattle.host.specs.Files.{writtenCode, bytesOrPlace}
-use Rattle.host.specs.Codes.{checked, heldIn, spokenCode, phonesOrPlace, numbersGiven, contestedGiven, blankRule, ruleGiven}
+use Rattle.host.specs.Codes.{checked, heldIn, spokenCode, phonesOrPlace, numbersGiven, contestedGiven, ruleGiven}
 
 -- the numbers of an edit or a reading, and the memory after it
 module _ (a : Reply) (image : List ℕ) (e : Edited) (h : outcome a image ≡ e) where

@@ -7,7 +7,8 @@ use lib.Dec.{leb, eqb}
 use lib.ListN.{length}
 use Rattle.rules.specs.Refusals.{Reply, accepted, declined, replyCode}
 use Rattle.rules.specs.declared.Rule.{Rule}
-use Rattle.image.specs.Image.{imageSize, ruleSize, valid, countOf, lastOf, editsOf, ruleOf}
+use Rattle.rule_bytes.specs.RuleBytes.{ruleSize, ruleOf, blankRule}
+use Rattle.image.specs.Image.{imageSize, valid, countOf, lastOf, editsOf}
 use Rattle.reading.specs.Speech.{Told, spoken, refused}
 
 -- ---- the ruleset
@@ -57,19 +58,6 @@ contestedGiven (spoken p n c) = c
 contestedGiven (refused n p) = 0
 
 -- ---- a rule from the host: a slot without its number
-
--- a rule with no target, which breaks the shape
-abbrev pub blankRule : Rule
-blankRule = record {
-  «left_len» = 0;
-  «target_len» = 0;
-  «right_len» = 0;
-  «phone_len» = 0;
-  left = 0 ∷ 0 ∷ 0 ∷ 0 ∷ 0 ∷ 0 ∷ [];
-  target = 0 ∷ 0 ∷ 0 ∷ 0 ∷ [];
-  right = 0 ∷ 0 ∷ 0 ∷ 0 ∷ 0 ∷ 0 ∷ [];
-  phones = 0 ∷ 0 ∷ 0 ∷ 0 ∷ [];
-}
 
 -- bytes of another length are no rule
 unfoldable pub ruleGiven : List ℕ → Rule

@@ -8,21 +8,14 @@ use lib.ListN.{length, take, drop, replicate, length-append, length-drop}
 use lib.Seq.{length-take-le}
 use Rattle.rules.specs.Memory.{over, overAt}
 use Rattle.rules.specs.Shape.{Entry, entryOf}
-use Rattle.rules.proofs.Memory.{over-at, over-at-length}
+use Rattle.rules.proofs.Memory.{over-both, over-at-length}
 use Rattle.classes.specs.Classes.{noClasses}
 use Rattle.classes.specs.Masks.{masksSize, masksOf}
 use Rattle.classes.proofs.Bytes.{masks-none, length-masks}
 use Rattle.image.specs.State.{start}
 use Rattle.image.specs.Image.{headSize, imageSize, classStart, totalStart, tableStart, countOf, rulesIn, entriesOf, classesOf, tableBytes, withHead, withClasses, settled, whole}
 use Rattle.image.proofs.Front.{two-same}
-use Rattle.image.proofs.Settling.{over-front, at-front}
-
--- two parts laid one after the other
-pub over-after : (a b : ℕ) (x y d : List ℕ) → b ≡ a + length x → a ≤ length d → overAt b y (overAt a x d) ≡ overAt a (x ++ y) d
-over-after a b x y d e h =
-    let l : length (take a d ++ x) ≡ b = omega (arith, length-append (take a d) x, length-take-le a d h) in
-    over-at (take a d ++ x) d y (overAt a x d) b (over-front a x d h) l
-    ∙ (ap (λ (s : List ℕ). over s d) (append-assoc (take a d) x y) ∙ sym (over-front a (x ++ y) d h))
+use Rattle.image.proofs.Settling.{at-front}
 
 module _ (d : List ℕ) (h : imageSize ≤ length d) where
   abbrev headed : List ℕ
@@ -49,4 +42,4 @@ module _ (d : List ℕ) (h : imageSize ≤ length d) where
       let t : overAt totalStart (tableBytes (classesOf classless) (entriesOf classless)) classless ≡ overAt totalStart (0 ∷ 0 ∷ []) classless =
       ap (λ (l : List Entry). overAt totalStart (tableBytes (classesOf classless) l) classless) no-entries in
       q ∙ (ap (overAt classStart (replicate (tableStart - classStart) 0)) p
-      ∙ sym (t ∙ (ap (overAt totalStart (0 ∷ 0 ∷ [])) m ∙ over-after classStart totalStart (replicate masksSize 0) (0 ∷ 0 ∷ []) headed refl (omega (arith, headed-long)))))
+      ∙ sym (t ∙ (ap (overAt totalStart (0 ∷ 0 ∷ [])) m ∙ over-both classStart totalStart (replicate masksSize 0) (0 ∷ 0 ∷ []) headed refl (omega (arith, headed-long)))))

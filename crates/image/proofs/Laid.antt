@@ -8,6 +8,7 @@ use lib.ListN.{length, getD, take, drop, length-drop, take-append-drop}
 use lib.Seq.{paste, take-paste, drop-paste, take-at, drop-at, take-take, take-add, drop-drop, take-append-le, take-append-add, drop-append-add, length-take-le, getD-drop}
 use Rattle.rules.specs.Limits.{maxRules}
 use Rattle.rules.specs.declared.Numbered.{Numbered}
+use Rattle.rule_bytes.proofs.Fields.{bytes-rule}
 use Rattle.image.specs.State.{Ledger, relist, noNumbered, insertAt, removeAt, relocated}
 use Rattle.image.specs.Image.{headSize, slotSize, imageSize, slotOf, bytesOf, slotStart, listed, flat, headOf, ledgerOf, laid, withHead, withRule, rulesIn, numberedAt, countOf, lastOf, editsOf}
 use Rattle.image.proofs.Scan.{length-listed, slot-get}
@@ -19,27 +20,15 @@ Small s = (k : ℕ) → getD s k 0 < 256
 small-drop : (n : ℕ) (s : List ℕ) → Small s → Small (drop n s)
 small-drop n s h k = subst (λ (x : ℕ). x < 256) (sym (getD-drop n s k 0)) (h (n + k))
 
-twenty : (t : List ℕ) → take 20 t ≡ take 6 t ++ (take 4 (drop 6 t) ++ (take 6 (drop 10 t) ++ take 4 (drop 16 t)))
-twenty t =
-    take-add 6 14 t
-    ∙ ap (λ (q : List ℕ). take 6 t ++ q)
-    (take-add 4 10 (drop 6 t)
-    ∙ ap (λ (q : List ℕ). take 4 (drop 6 t) ++ q)
-    (ap (take 10) (drop-drop 4 6 t) ∙ (take-add 6 4 (drop 10 t) ∙ ap (λ (q : List ℕ). take 6 (drop 10 t) ++ take 4 q) (drop-drop 6 10 t))))
-
 -- a slot read and written again is the same bytes
-bytes-slot : (s : List ℕ) → 26 ≤ length s → getD s 1 0 < 256 → bytesOf (slotOf s) ≡ take 26 s
+bytes-slot : (s : List ℕ) → slotSize ≤ length s → getD s 1 0 < 256 → bytesOf (slotOf s) ≡ take slotSize s
 unfolding bytesOf slotOf
 bytes-slot [] h u = absurd (omega arith)
 bytes-slot (a ∷ []) h u = absurd (omega arith)
-bytes-slot (a ∷ b ∷ []) h u = absurd (omega arith)
-bytes-slot (a ∷ b ∷ c ∷ []) h u = absurd (omega arith)
-bytes-slot (a ∷ b ∷ c ∷ d ∷ []) h u = absurd (omega arith)
-bytes-slot (a ∷ b ∷ c ∷ d ∷ e ∷ []) h u = absurd (omega arith)
-bytes-slot (a ∷ b ∷ c ∷ d ∷ e ∷ f ∷ t) h u =
+bytes-slot (a ∷ b ∷ t) h u =
     let x : (256 * a + b) / 256 ≡ a = omega arith in
     let y : (256 * a + b) % 256 ≡ b = omega arith in
-    rw (x, y, twenty t)
+    rw (x, y, bytes-rule t (omega arith))
 
 flat-append : (l m : List Numbered) → flat (l ++ m) ≡ flat l ++ flat m
 flat-append [] m = refl
@@ -48,9 +37,9 @@ flat-append (x ∷ l) m = ap (λ (q : List ℕ). bytesOf x ++ q) (flat-append l 
 flat-listed : (n : ℕ) (s : List ℕ) → Small s → slotSize * n ≤ length s → flat (listed n s) ≡ take (slotSize * n) s
 flat-listed zero s h u = refl
 flat-listed (suc n) s h u =
-    let e : 26 + slotSize * n ≡ slotSize * suc n = omega arith in
+    let e : slotSize + slotSize * n ≡ slotSize * suc n = omega arith in
     ap₂ _++_ (bytes-slot s (omega arith) (h 1)) (flat-listed n (drop slotSize s) (small-drop slotSize s h) (simp length-drop (omega arith)))
-    ∙ (sym (take-add 26 (slotSize * n) s) ∙ ap (λ (k : ℕ). take k s) e)
+    ∙ (sym (take-add slotSize (slotSize * n) s) ∙ ap (λ (k : ℕ). take k s) e)
 
 take-listed : (p n : ℕ) (s : List ℕ) → p ≤ n → take p (listed n s) ≡ listed p s
 take-listed zero n s h = refl
@@ -61,9 +50,9 @@ drop-listed : (p m : ℕ) (s : List ℕ) → drop p (listed (p + m) s) ≡ liste
 drop-listed zero m s = let e : 0 + m ≡ m = omega arith in ap (λ (k : ℕ). listed k s) e
 drop-listed (suc p) m s =
     let e : suc p + m ≡ suc (p + m) = omega arith in
-    let f : 26 + slotSize * p ≡ slotSize * suc p = omega arith in
+    let f : slotSize + slotSize * p ≡ slotSize * suc p = omega arith in
     ap (λ (k : ℕ). drop (suc p) (listed k s)) e
-    ∙ (drop-listed p m (drop slotSize s) ∙ ap (listed m) (drop-drop (slotSize * p) 26 s ∙ ap (λ (k : ℕ). drop k s) f))
+    ∙ (drop-listed p m (drop slotSize s) ∙ ap (listed m) (drop-drop (slotSize * p) slotSize s ∙ ap (λ (k : ℕ). drop k s) f))
 
 module _ {ℓ} {A : Type ℓ} where
   insert-split : (p : ℕ) (x : A) (l : List A) → p ≤ length l → insertAt p x l ≡ take p l ++ (x ∷ drop p l)
@@ -213,48 +202,48 @@ headless d q r h =
 
 -- q slots from place p on are moved up by one, and y is put at p
 pub opened : (d e f : List ℕ) (p q m : ℕ) (y : List ℕ) → slotStart (suc (p + q)) ≤ length d → m ≡ slotSize * q
-    → e ≡ paste d (slotStart p + 26) (drop (slotStart p) d) m
-    → f ≡ take (slotStart p) e ++ (y ++ drop (slotStart p + 26) e)
+    → e ≡ paste d (slotStart p + slotSize) (drop (slotStart p) d) m
+    → f ≡ take (slotStart p) e ++ (y ++ drop (slotStart p + slotSize) e)
     → drop headSize f ≡ take (slotSize * p) (drop headSize d) ++ (y ++ (run d p q ++ drop (slotStart (suc (p + q))) d))
 opened d e f p q m y h z u v =
-    let w : slotStart p + 26 + m ≡ slotStart (suc (p + q)) = omega arith in
+    let w : slotStart p + slotSize + m ≡ slotStart (suc (p + q)) = omega arith in
     let a : take (slotStart p) e ≡ take (slotStart p) d =
-    ap (take (slotStart p)) u ∙ take-before d (slotStart p) (slotStart p + 26) (drop (slotStart p) d) m (omega arith) (omega arith) in
-    let b : drop (slotStart p + 26) e ≡ run d p q ++ drop (slotStart (suc (p + q))) d =
-    ap (drop (slotStart p + 26)) u ∙ (drop-from d (slotStart p + 26) (drop (slotStart p) d) m (omega arith)
+    ap (take (slotStart p)) u ∙ take-before d (slotStart p) (slotStart p + slotSize) (drop (slotStart p) d) m (omega arith) (omega arith) in
+    let b : drop (slotStart p + slotSize) e ≡ run d p q ++ drop (slotStart (suc (p + q))) d =
+    ap (drop (slotStart p + slotSize)) u ∙ (drop-from d (slotStart p + slotSize) (drop (slotStart p) d) m (omega arith)
     ∙ ap₂ (λ (i j : ℕ). take i (drop (slotStart p) d) ++ drop j d) z w) in
     ap (drop headSize) (v ∙ ap₂ (λ (s t : List ℕ). s ++ (y ++ t)) a b)
     ∙ headless d (slotSize * p) (y ++ (run d p q ++ drop (slotStart (suc (p + q))) d)) (omega arith)
 
 -- q slots after place k are moved down by one
 pub closed : (d e : List ℕ) (k q m : ℕ) → slotStart (suc (k + q)) ≤ length d → m ≡ slotSize * q
-    → e ≡ paste d (slotStart k) (drop (slotStart k + 26) d) m
+    → e ≡ paste d (slotStart k) (drop (slotStart k + slotSize) d) m
     → drop headSize e ≡ take (slotSize * k) (drop headSize d) ++ (run d (suc k) q ++ drop (slotStart (k + q)) d)
 closed d e k q m h z u =
     let w : slotStart k + m ≡ slotStart (k + q) = omega arith in
-    let s : slotStart k + 26 ≡ slotStart (suc k) = omega arith in
-    ap (drop headSize) (u ∙ (append-assoc (take (slotStart k) d) (take m (drop (slotStart k + 26) d)) (drop (slotStart k + m) d)
+    let s : slotStart k + slotSize ≡ slotStart (suc k) = omega arith in
+    ap (drop headSize) (u ∙ (append-assoc (take (slotStart k) d) (take m (drop (slotStart k + slotSize) d)) (drop (slotStart k + m) d)
     ∙ ap₂ (λ (i j : ℕ). take (slotStart k) d ++ (take m (drop i d) ++ drop j d)) s w))
     ∙ (headless d (slotSize * k) (take m (drop (slotStart (suc k)) d) ++ drop (slotStart (k + q)) d) (omega arith)
     ∙ ap (λ (i : ℕ). take (slotSize * k) (drop headSize d) ++ (take i (drop (slotStart (suc k)) d) ++ drop (slotStart (k + q)) d)) z)
 
 -- the same, with y then put where they end
 pub closed-put : (d e f : List ℕ) (k q m : ℕ) (y : List ℕ) → slotStart (suc (k + q)) ≤ length d → m ≡ slotSize * q
-    → e ≡ paste d (slotStart k) (drop (slotStart k + 26) d) m
-    → f ≡ take (slotStart (k + q)) e ++ (y ++ drop (slotStart (k + q) + 26) e)
+    → e ≡ paste d (slotStart k) (drop (slotStart k + slotSize) d) m
+    → f ≡ take (slotStart (k + q)) e ++ (y ++ drop (slotStart (k + q) + slotSize) e)
     → drop headSize f ≡ take (slotSize * k) (drop headSize d) ++ (run d (suc k) q ++ (y ++ drop (slotStart (suc (k + q))) d))
 closed-put d e f k q m y h z u v =
     let w : slotStart k + m ≡ slotStart (k + q) = omega arith in
-    let s : slotStart k + 26 ≡ slotStart (suc k) = omega arith in
-    let o : slotStart (k + q) + 26 ≡ slotStart (suc (k + q)) = omega arith in
-    let g : m ≤ length (drop (slotStart k + 26) d) = simp length-drop (omega arith) in
+    let s : slotStart k + slotSize ≡ slotStart (suc k) = omega arith in
+    let o : slotStart (k + q) + slotSize ≡ slotStart (suc (k + q)) = omega arith in
+    let g : m ≤ length (drop (slotStart k + slotSize) d) = simp length-drop (omega arith) in
     let a : take (slotStart (k + q)) e ≡ take (slotStart k) d ++ run d (suc k) q =
-    ap₂ take (sym w) u ∙ (take-paste d (slotStart k) (drop (slotStart k + 26) d) m (omega arith) g
+    ap₂ take (sym w) u ∙ (take-paste d (slotStart k) (drop (slotStart k + slotSize) d) m (omega arith) g
     ∙ ap₂ (λ (i j : ℕ). take (slotStart k) d ++ take i (drop j d)) z s) in
     let b : drop (slotStart (k + q)) e ≡ drop (slotStart (k + q)) d =
-    ap₂ drop (sym w) u ∙ (drop-paste d (slotStart k) (drop (slotStart k + 26) d) m (omega arith) g ∙ ap (λ (i : ℕ). drop i d) w) in
-    let b′ : drop (slotStart (k + q) + 26) e ≡ drop (slotStart (suc (k + q))) d =
-    sym (drop-drop slotSize (slotStart (k + q)) e) ∙ (ap (drop 26) b ∙ (drop-drop slotSize (slotStart (k + q)) d ∙ ap (λ (i : ℕ). drop i d) o)) in
+    ap₂ drop (sym w) u ∙ (drop-paste d (slotStart k) (drop (slotStart k + slotSize) d) m (omega arith) g ∙ ap (λ (i : ℕ). drop i d) w) in
+    let b′ : drop (slotStart (k + q) + slotSize) e ≡ drop (slotStart (suc (k + q))) d =
+    sym (drop-drop slotSize (slotStart (k + q)) e) ∙ (ap (drop slotSize) b ∙ (drop-drop slotSize (slotStart (k + q)) d ∙ ap (λ (i : ℕ). drop i d) o)) in
     ap (drop headSize) (v ∙ (ap₂ (λ (i j : List ℕ). i ++ (y ++ j)) a b′ ∙ append-assoc (take (slotStart k) d) (run d (suc k) q) (y ++ drop (slotStart (suc (k + q))) d)))
     ∙ headless d (slotSize * k) (run d (suc k) q ++ (y ++ drop (slotStart (suc (k + q))) d)) (omega arith)
 
@@ -330,7 +319,7 @@ module _ (d : List ℕ) (small : Small d) (fits : imageSize ≤ length d) (count
           let w : k + (p - k) ≡ p = omega arith in
           move-by
           (closed-put d e f k (p - k) (slotSize * (p - k)) (bytesOf x) (omega arith) refl he
-          (hf ∙ ap (λ (i : ℕ). take (slotStart i) e ++ (bytesOf x ++ drop (slotStart i + 26) e)) (sym w))
+          (hf ∙ ap (λ (i : ℕ). take (slotStart i) e ++ (bytesOf x ++ drop (slotStart i + slotSize) e)) (sym w))
           ∙ (sym (up-body d small count (omega arith) k (p - k) x (omega arith))
           ∙ ap (λ (i : ℕ). flat (insertAt i x (removeAt k (rulesIn count d))) ++ drop (slotStart count) d) w))
 

@@ -14,7 +14,7 @@ use Rattle.rules.specs.Limits.{maxRules}
 use Rattle.rules.specs.Memory.{over, overAt}
 use Rattle.rules.specs.Shape.{Entry}
 use Rattle.rules.proofs.Cases.{and-r}
-use Rattle.rules.proofs.Memory.{over-length, over-snoc, over-part, over-at}
+use Rattle.rules.proofs.Memory.{over-length, over-snoc, over-part, over-at, over-front, front-all}
 use Rattle.classes.specs.Classes.{Classes}
 use Rattle.classes.specs.Counting.{capped}
 use Rattle.classes.specs.Expansion.{literalCount, literalTotal}
@@ -24,21 +24,11 @@ use Rattle.classes.proofs.Ordinal.{length-run, length-origins, origins-append}
 use Rattle.image.specs.State.{Ledger, rulesOf, noEntry, entries, allDefined, expandable}
 use Rattle.image.specs.Image.{imageSize, classStart, originSize, totalStart, tableStart, originBytes, tableBytes, countOf, lastOf, ledgerOf, entriesOf, entryAt, classesOf, Slots, sound, settled}
 use Rattle.image.proofs.Entries.{entries-length}
-use Rattle.image.proofs.Front.{front-same, count-same, last-same, ledger-same}
+use Rattle.rule_bytes.proofs.Parts.{front-same}
+use Rattle.image.proofs.Front.{count-same, last-same, ledger-same}
 use Rattle.image.proofs.Tests.{sound-slots, sound-expandable}
 
 -- ---- memory from a place on
-
-pub over-front : (a : ℕ) (x d : List ℕ) → a ≤ length d → overAt a x d ≡ over (take a d ++ x) d
-over-front a x d h =
-    let l : length (take a d) ≡ a = length-take-le a d h in
-    ap (λ (n : ℕ). take a d ++ over x (drop n d)) (sym l) ∙ over-part (take a d) d x
-
--- nothing new laid at the front
-pub front-all : (n : ℕ) (l : List ℕ) → over (take n l) l ≡ l
-front-all zero l = refl
-front-all (suc n) [] = refl
-front-all (suc n) (x ∷ l) = ap (λ (s : List ℕ). x ∷ s) (front-all n l)
 
 -- what lies before a place is what it was
 pub at-front : (a n : ℕ) (x d : List ℕ) → n ≤ a → a ≤ length d → take n (overAt a x d) ≡ take n d

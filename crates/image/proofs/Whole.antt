@@ -32,7 +32,8 @@ use Rattle.classes.proofs.Setting.{total-kept, origins-kept}
 use Rattle.image.specs.State.{Ledger, relist, rulesOf, rulesetOf, entries, distinct, isRuleset}
 use Rattle.image.specs.Image.{headSize, imageSize, classStart, originSize, totalStart, tableStart, originsAt, originBytes, tableBytes, totalOf, countOf, lastOf, editsOf, masksIn, ledgerOf, entriesOf, classesOf, originsOf, laid, withClasses, withClassAt, Slots, sound, tabled, valid, settled, whole}
 use Rattle.image.proofs.Scan.{length-listed}
-use Rattle.image.proofs.Front.{front-same, rules-same, last-same, edits-same, part-same}
+use Rattle.rule_bytes.proofs.Parts.{front-same, part-same}
+use Rattle.image.proofs.Front.{rules-same, last-same, edits-same}
 use Rattle.image.proofs.Settling.{at-front, bytes-long, same-ledger, same-classes, same-entries, few-literals}
 use Rattle.image.proofs.Stored.{Each, Fine, fine-held, sound-by, laid-long, laid-state, sound-fine}
 use Rattle.image.proofs.Origins.{tabled-total}

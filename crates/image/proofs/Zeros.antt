@@ -1,4 +1,4 @@
--- Bytes of memory set one by one: zeros from the classes on, and the two bytes of a number.
+-- Bytes of memory set one by one: zeros from the classes on.
 -- Assumes nothing.
 use Prim.Native.Nat.{ℕ, zero, suc, _+_, _-_, _≤_, _<_}
 use mathlib.Core.Path.{_≡_, refl, sym, ap, ap₂, _∙_}
@@ -7,9 +7,8 @@ use native.Mathlib.Omega.{arith}
 use lib.ListN.{length, take, drop, set, replicate, length-append}
 use lib.Seq.{length-take-le}
 use Rattle.rules.specs.Memory.{over, overAt}
-use Rattle.rules.proofs.Memory.{over-length, over-snoc}
+use Rattle.rules.proofs.Memory.{over-length, over-snoc, over-front, front-all}
 use Rattle.image.specs.Image.{classStart, tableStart}
-use Rattle.image.proofs.Settling.{over-front, front-all}
 
 replicate-snoc : (n : ℕ) → _++_ {A = ℕ} (replicate n 0) (0 ∷ []) ≡ replicate (suc n) 0
 replicate-snoc zero = refl
@@ -47,13 +46,3 @@ module _ (d : List ℕ) where
   zeros-done i s a b h e =
       let n : i ≡ tableStart = omega arith in
       e ∙ (ap (λ (m : ℕ). zeroed d (m - classStart)) n ∙ sym (over-front classStart (replicate (tableStart - classStart) 0) d (omega arith)))
-
--- the two bytes of a number
-pub two-set : (d : List ℕ) (a x y : ℕ) → a + 1 < length d → set (set d a x) (a + 1) y ≡ overAt a (x ∷ y ∷ []) d
-two-set d a x y h =
-    let l : length (take a d) ≡ a = length-take-le a d (omega arith) in
-    let m : length (take a d ++ (x ∷ [])) ≡ a + 1 = omega (arith, length-append (take a d) (x ∷ [])) in
-    ap (λ (s : List ℕ). set (set s a x) (a + 1) y) (sym (front-all a d))
-    ∙ (ap (λ (s : List ℕ). set s (a + 1) y) (over-snoc (take a d) d a x l (omega arith))
-    ∙ (over-snoc (take a d ++ (x ∷ [])) d (a + 1) y m h
-    ∙ (ap (λ (s : List ℕ). over s d) (append-assoc (take a d) (x ∷ []) (y ∷ [])) ∙ sym (over-front a (x ∷ y ∷ []) d (omega arith)))))

@@ -39,7 +39,7 @@ pub fn put_classes(image: &mut [u8], masks: &[u8])
     requires { ⌜ (imageSize ≤ length (now image)) × (length (now masks) ≡ masksSize) ⌝ }
     ensures { λ _. ⌜ now (image .exit) ≡ overAt classStart (now (masks .entry)) (now (image .entry)) ⌝ }
 {
-    crate::put(image, CLASSES, masks);
+    rule_bytes::put(image, CLASSES, masks);
 }
 
 // A class is stored, by its mask.

@@ -1,10 +1,6 @@
 // The table of an image's literal rules, which leads from a literal place to the rule that it comes from: read, tested, and laid after each edit.
-use crate::HEAD;
-use crate::LEFT;
-use crate::LEFT_LEN;
 use crate::ORIGIN;
-use crate::RIGHT;
-use crate::RIGHT_LEN;
+use crate::RULES;
 use crate::SLOT;
 use crate::TABLE;
 use crate::TOTAL;
@@ -52,9 +48,9 @@ fn literal_count_at(image: &[u8], place: usize) -> usize
     requires { ⌜ Slots (now image) × (place < countOf (now image)) ⌝ }
     ensures { λ r. ⌜ (r ≡ capped (literalCount (classesOf (now (image .entry))) (entryAt (now (image .entry)) place .rule))) × (r ≤ 513) ⌝ }
 {
-    let at = HEAD + SLOT * place;
-    let left = crate::run_at(image, at + LEFT_LEN, at + LEFT);
-    let right = crate::run_at(image, at + RIGHT_LEN, at + RIGHT);
+    let at = RULES + SLOT * place;
+    let left = crate::run_at(image, at + rule_bytes::LEFT_LEN, at + rule_bytes::LEFT);
+    let right = crate::run_at(image, at + rule_bytes::RIGHT_LEN, at + rule_bytes::RIGHT);
     classes::runs::literal_count(crate::class_bytes::masks(image), left, right)
 }
 

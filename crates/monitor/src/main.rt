@@ -136,8 +136,8 @@ fn main() {
     let mut list = [0u32; exceptions::SIZE];
     exceptions::clear(&mut list);
     let mut text = [238u8; 130000];
-    let mut words = [65535u16; 524420];
-    let mut sets = [18446744073709551615u64; 65552];
+    let mut words = [65535u16; tables::WORDS];
+    let mut sets = [18446744073709551615u64; tables::SETS];
     let mut phones = [238u8; 256];
     let mut numbers = [61166u16; 64];
     let mut contested = 0u8;

@@ -7,7 +7,8 @@ use mathlib.Core.List.{List}
 use lib.ListN.{length, getD}
 use Rattle.tables.specs.Words.{rowSize}
 use Rattle.tables.specs.States.{states}
-use Rattle.side.specs.Patterns.{patternAt, patternsOf, Patterns, stateCount, maxPattern}
+use Rattle.rules.specs.Limits.{maxPattern}
+use Rattle.side.specs.Patterns.{patternAt, patternsOf, Patterns, stateCount}
 use Rattle.side.specs.Wrote.{Wrote, Past}
 use Rattle.side.specs.Steps.{cell, Descended, Numbered, Counted}
 use Rattle.side.specs.declared.Place.{Place}

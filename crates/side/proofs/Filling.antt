@@ -16,7 +16,8 @@ use Rattle.tables.proofs.Trie.{failure}
 use Rattle.tables.specs.Words.{tab, rowSize, setSize}
 use Rattle.tables.proofs.Numbering.{index-lt}
 use Rattle.tables.proofs.Words.{length-tab, getD-tab}
-use Rattle.side.specs.Patterns.{patternsOf, Patterns, stateCount, maxPattern}
+use Rattle.rules.specs.Limits.{maxPattern}
+use Rattle.side.specs.Patterns.{patternsOf, Patterns, stateCount}
 use Rattle.side.specs.Wrote.{Wrote, Past}
 use Rattle.side.specs.Steps.{cell, run, part, Inside, Symbols, Numbered}
 use Rattle.side.specs.Filled.{Level, Final, Owned, Finished, Raised, sideRows, sideSets}

@@ -22,7 +22,8 @@ use Rattle.tables.proofs.Suffix.{same-refl, Closed}
 use Rattle.tables.proofs.Count.{Within, states-length}
 use Rattle.tables.proofs.Numbering.{member-append, getD-index, index-lt, index-new, numbered-closed, numbered-nil, numbered-pattern, distinct-states, index-nil}
 use Rattle.tables.proofs.Build.{child-new, child-kept, child-fresh, other-string, child-none, states-more}
-use Rattle.side.specs.Patterns.{patternAt, patternsOf, Patterns, stateCount, maxPattern}
+use Rattle.rules.specs.Limits.{maxPattern}
+use Rattle.side.specs.Patterns.{patternAt, patternsOf, Patterns, stateCount}
 use Rattle.side.specs.Steps.{Children, NewChild, Step}
 
 -- ---- one step

@@ -10,7 +10,8 @@ use lib.Seq.{drop-cons, getD-at}
 use Rattle.tables.specs.Words.{rowSize}
 use Rattle.reading.specs.Fitting.{Str}
 use Rattle.tables.proofs.Symbols.{Small}
-use Rattle.side.specs.Patterns.{patternAt, patternsOf, Patterns, maxPattern}
+use Rattle.rules.specs.Limits.{maxPattern}
+use Rattle.side.specs.Patterns.{patternAt, patternsOf, Patterns}
 use Rattle.side.specs.Steps.{part, Symbols}
 use Rattle.side.proofs.Inserting.{patterns-length}
 use Rattle.side.proofs.Running.{part-cons}

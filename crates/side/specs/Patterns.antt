@@ -3,14 +3,10 @@
 use Prim.Native.Nat.{ℕ, zero, suc, _+_, _*_, _≤_, _<_}
 use mathlib.Core.List.{List, [], _∷_, _++_}
 use lib.ListN.{length, getD, take, drop}
-use Rattle.rules.specs.Limits.{maxRules, maxContext, maxTarget}
+use Rattle.rules.specs.Limits.{maxRules, maxPattern}
 use Rattle.tables.specs.Words.{rowSize}
 use Rattle.reading.specs.Fitting.{Str}
 use Rattle.tables.specs.States.{states}
-
--- the most symbols that a pattern has: a target and a right context
-abbrev pub maxPattern : ℕ
-maxPattern = maxTarget + maxContext
 
 abbrev pub patternAt : List ℕ → List ℕ → ℕ → Str
 patternAt ps ls i = take (getD ls i 0) (drop (maxPattern * i) ps)

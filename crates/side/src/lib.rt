@@ -1,22 +1,20 @@
-// One table, filled from the patterns of its side. Pattern i has lens[i] symbols of pats, from PATTERN i on.
+// One table, filled from the patterns of its side. Pattern i has lens[i] symbols of pats, from MAX_PATTERN i on.
 ghost use mathlib.Core.Path.{_≡_};
 ghost use Prim.Native.Nat.{_+_, _*_, _/_, _%_, _^_, _≤_, _<_};
 ghost use mathlib.Core.Bool.{cond};
 ghost use lib.Dec.{eqb};
 ghost use lib.Bits.{bitOr};
 ghost use lib.ListN.{length, getD};
-ghost use Rattle.rules.specs.Limits.{maxRules};
+ghost use Rattle.rules.specs.Limits.{maxRules, maxPattern};
 ghost use Rattle.tables.specs.Words.{rowSize, setSize};
 ghost use Rattle.rules.specs.Memory.{over};
-ghost use Rattle.side.specs.Patterns.{patternsOf, Patterns, stateCount, maxPattern};
+ghost use Rattle.side.specs.Patterns.{patternsOf, Patterns, stateCount};
 ghost use Rattle.side.specs.Wrote.{Wrote, Past};
 ghost use Rattle.side.specs.Steps.{cell, run, part, Inside, Symbols, Descended, Numbered, Counted, completed, united};
 ghost use Rattle.tables.specs.States.{states};
 ghost use Rattle.side.specs.Filled.{Level, Owned, Raised, sideRows, sideSets};
 
 // The most symbols that a pattern has.
-pub const PATTERN: usize = rules::MAX_TARGET + rules::MAX_CONTEXT;
-
 // ---- rows
 
 // A new state's row has no child.
@@ -65,7 +63,7 @@ fn number_one(rows: &mut [u16], pats: &[u8], lens: &[u8], i: usize, count: usize
     requires { ⌜ Patterns (now pats) (now lens) (i + 1) × (count ≡ stateCount (now pats) (now lens) i) × (rowSize * stateCount (now pats) (now lens) (i + 1) ≤ length (now rows)) × Numbered (states (patternsOf (now pats) (now lens) i)) (now rows) ⌝ }
     ensures { λ r. ⌜ Counted (now (pats .entry)) (now (lens .entry)) (i + 1) (now (rows .entry)) r (now (rows .exit)) ⌝ }
 {
-    let a = PATTERN * i;
+    let a = rules::MAX_PATTERN * i;
     let len = numbers::wide(lens[i]);
     let mut at = Place {
         state: 0,
@@ -174,7 +172,7 @@ fn own_sets(sets: &mut [u64], rows: &[u16], count: usize, pats: &[u8], lens: &[u
 {
     let mut i: usize = 0;
     while i < n {
-        let a = PATTERN * i;
+        let a = rules::MAX_PATTERN * i;
         let e = a + numbers::wide(lens[i]);
         let q = state_of(rows, count, pats, a, e);
         put_place(sets, q, i);
@@ -227,7 +225,7 @@ fn complete_level(
     while i < n {
         let len = numbers::wide(lens[i]);
         if d <= len {
-            let a = PATTERN * i;
+            let a = rules::MAX_PATTERN * i;
             let e = a + d;
             top = complete_one(rows, sets, count, pats, a, e, top);
         }
@@ -246,7 +244,7 @@ pub fn fill_side(rows: &mut [u16], sets: &mut [u64], pats: &[u8], lens: &[u8], n
     clear_sets(sets, count);
     own_sets(sets, rows, count, pats, lens, n);
     let mut d: usize = 1;
-    while d <= PATTERN {
+    while d <= rules::MAX_PATTERN {
         complete_level(rows, sets, count, pats, lens, n, d);
         d += 1;
     }

@@ -6,7 +6,7 @@ use borrow.Author.Needs.{needs}
 use borrow.Author.Tests.{not-true, not-false}
 use Rattle.rules.specs.Refusals.{replyOf}
 use Rattle.image.proofs.Tests.{valid-long}
-use Rattle.image.specs.Image.{Filled}
+use Rattle.rule_bytes.specs.RuleBytes.{Filled}
 use Rattle.edits.proofs.Answers.{invalid, add-no, add-below, add-room, add-sound, add-yes}
 use Rattle.edits.proofs.add_rule.Statement.{statement}
 use Rattle.edits.proofs.add_rule.Tie as tie

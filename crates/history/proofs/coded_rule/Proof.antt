@@ -1,46 +1,32 @@
 -- `history::coded_rule` meets its contract.
 -- Assumes nothing.
+use mathlib.Core.Path.{ap, _∙_}
+use Rattle.rule_bytes.specs.RuleBytes.{ruleOf}
 use borrow.Author.Needs.{needs}
 use Rattle.history.proofs.coded_rule.Statement.{statement}
 use Rattle.history.proofs.coded_rule.Tie as tie
 
-byte-at-requires : tie.Need-byte-at-requires
-byte-at-requires c κs = search needs
+slice-aggregate-put-bytes : tie.Need-slice-aggregate-put-bytes
+slice-aggregate-put-bytes c = search needs
 
-byte-at-requires-2 : tie.Need-byte-at-requires-2
-byte-at-requires-2 c κs = search needs
+put-bytes-requires : tie.Need-put-bytes-requires
+put-bytes-requires c κs = search needs
 
-byte-at-requires-3 : tie.Need-byte-at-requires-3
-byte-at-requires-3 c κs = search needs
+slice-aggregate-rule-of : tie.Need-slice-aggregate-rule-of
+slice-aggregate-rule-of c = search needs
 
-byte-at-requires-4 : tie.Need-byte-at-requires-4
-byte-at-requires-4 c κs = search needs
-
-six-at-requires : tie.Need-six-at-requires
-six-at-requires c κs = search needs
-
-four-at-requires : tie.Need-four-at-requires
-four-at-requires c κs = search needs
-
-six-at-requires-2 : tie.Need-six-at-requires-2
-six-at-requires-2 c κs = search needs
-
-four-at-requires-2 : tie.Need-four-at-requires-2
-four-at-requires-2 c κs = search needs
+rule-of-requires : tie.Need-rule-of-requires
+rule-of-requires c κs = search needs
 
 returns : tie.Need-returns
-returns c = cc
+returns c = c .rule-of .ensures ∙ ap ruleOf (c .before .before .before .put-bytes .ensures)
 
 pub coded-rule-spec : {M : Type 1} → statement M
 coded-rule-spec =
     tie.close
     (tie.spec
-    byte-at-requires
-    byte-at-requires-2
-    byte-at-requires-3
-    byte-at-requires-4
-    six-at-requires
-    four-at-requires
-    six-at-requires-2
-    four-at-requires-2
+    slice-aggregate-put-bytes
+    put-bytes-requires
+    slice-aggregate-rule-of
+    rule-of-requires
     returns)

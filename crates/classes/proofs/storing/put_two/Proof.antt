@@ -3,7 +3,7 @@
 use native.Mathlib.Omega.{arith}
 use borrow.Author.Needs.{needs}
 use lib.ListN.{length-set}
-use Rattle.classes.proofs.Store.{put-bytes}
+use Rattle.rules.proofs.Memory.{over-two}
 use Rattle.classes.proofs.storing.put_two.Statement.{statement}
 use Rattle.classes.proofs.storing.put_two.Tie as tie
 
@@ -26,7 +26,7 @@ same-length : tie.Need-same-length
 same-length c = search needs
 
 returns : tie.Need-returns
-returns c = put-bytes (c .args .at) _ _ (c .args .s .now) (c .pre)
+returns c = over-two (c .args .at) _ _ (c .args .s .now) (omega arith)
 
 pub put-two-spec : {M : Type 1} → statement M
 put-two-spec =

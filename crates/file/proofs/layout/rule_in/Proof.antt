@@ -1,12 +1,11 @@
 -- `file::layout::rule_in` meets its contract: the fields one after the other.
 -- Assumes nothing.
 use Prim.Native.Nat.{_+_}
+use mathlib.Core.Path.{_∙_}
 use native.Mathlib.Omega.{arith}
-use borrow.Author.Needs.{needs}
-use Rattle.rules.specs.Limits.{maxContext, maxTarget, maxPhones}
-use Rattle.file.specs.Layout.{frontSize, leftLength, targetLength, rightLength, phonesLength}
-use Rattle.file.proofs.Copies.{field-held}
+use Rattle.file.specs.Layout.{frontSize}
 use Rattle.file.proofs.Parts.{rule-held}
+use borrow.Author.Needs.{needs}
 use Rattle.file.proofs.layout.rule_in.Statement.{statement}
 use Rattle.file.proofs.layout.rule_in.Tie as tie
 
@@ -46,80 +45,59 @@ wide-requires-4 c κs = search needs
 add-end : tie.Need-add-end
 add-end c = search needs
 
-slice-aggregate-fill : tie.Need-slice-aggregate-fill
-slice-aggregate-fill c = search needs
+sub-left : tie.Need-sub-left
+sub-left c = search needs
 
-sub-fill : tie.Need-sub-fill
-sub-fill c = search needs
+part-left-start : tie.Need-part-left-start
+part-left-start c = search needs
 
-part-fill-start : tie.Need-part-fill-start
-part-fill-start c = search needs
+part-left-end : tie.Need-part-left-end
+part-left-end c = search needs
 
-part-fill-end : tie.Need-part-fill-end
-part-fill-end c = search needs
+sub-target : tie.Need-sub-target
+sub-target c = search needs
 
-fill-requires : tie.Need-fill-requires
-fill-requires c κs = search needs
+part-target-start : tie.Need-part-target-start
+part-target-start c = search needs
 
-slice-aggregate-fill-2 : tie.Need-slice-aggregate-fill-2
-slice-aggregate-fill-2 c = search needs
+part-target-end : tie.Need-part-target-end
+part-target-end c = search needs
 
-sub-fill-2 : tie.Need-sub-fill-2
-sub-fill-2 c = search needs
+sub-right : tie.Need-sub-right
+sub-right c = search needs
 
-part-fill-start-2 : tie.Need-part-fill-start-2
-part-fill-start-2 c = search needs
+part-right-start : tie.Need-part-right-start
+part-right-start c = search needs
 
-part-fill-end-2 : tie.Need-part-fill-end-2
-part-fill-end-2 c = search needs
+part-right-end : tie.Need-part-right-end
+part-right-end c = search needs
 
-fill-requires-2 : tie.Need-fill-requires-2
-fill-requires-2 c κs = search needs
+sub-phones : tie.Need-sub-phones
+sub-phones c = search needs
 
-slice-aggregate-fill-3 : tie.Need-slice-aggregate-fill-3
-slice-aggregate-fill-3 c = search needs
+part-phones-start : tie.Need-part-phones-start
+part-phones-start c = search needs
 
-sub-fill-3 : tie.Need-sub-fill-3
-sub-fill-3 c = search needs
+part-phones-end : tie.Need-part-phones-end
+part-phones-end c = search needs
 
-part-fill-start-3 : tie.Need-part-fill-start-3
-part-fill-start-3 c = search needs
+shared-slice-read-rule-with : tie.Need-shared-slice-read-rule-with
+shared-slice-read-rule-with c = search needs
 
-part-fill-end-3 : tie.Need-part-fill-end-3
-part-fill-end-3 c = search needs
+shared-slice-read-rule-with-2 : tie.Need-shared-slice-read-rule-with-2
+shared-slice-read-rule-with-2 c = search needs
 
-fill-requires-3 : tie.Need-fill-requires-3
-fill-requires-3 c κs = search needs
+shared-slice-read-rule-with-3 : tie.Need-shared-slice-read-rule-with-3
+shared-slice-read-rule-with-3 c = search needs
 
-slice-aggregate-fill-4 : tie.Need-slice-aggregate-fill-4
-slice-aggregate-fill-4 c = search needs
+shared-slice-read-rule-with-4 : tie.Need-shared-slice-read-rule-with-4
+shared-slice-read-rule-with-4 c = search needs
 
-sub-fill-4 : tie.Need-sub-fill-4
-sub-fill-4 c = search needs
-
-part-fill-start-4 : tie.Need-part-fill-start-4
-part-fill-start-4 c = search needs
-
-part-fill-end-4 : tie.Need-part-fill-end-4
-part-fill-end-4 c = search needs
-
-fill-requires-4 : tie.Need-fill-requires-4
-fill-requires-4 c κs = search needs
-
-shared-slice-read-t12 : tie.Need-shared-slice-read-t12
-shared-slice-read-t12 c = search needs
-
-shared-slice-read-t39 : tie.Need-shared-slice-read-t39
-shared-slice-read-t39 c = search needs
-
-shared-slice-read-t41 : tie.Need-shared-slice-read-t41
-shared-slice-read-t41 c = search needs
-
-shared-slice-read-t43 : tie.Need-shared-slice-read-t43
-shared-slice-read-t43 c = search needs
+rule-with-requires : tie.Need-rule-with-requires
+rule-with-requires c κs = search needs
 
 returns : tie.Need-returns
-returns c = let t = frontSize + c .before .before .before .before .before .before .before .before .before .before .before .before .before .before .before .before .before .before .before .before .before .before .before .before .before .before .wide .result in let r = t + c .before .before .before .before .before .before .before .before .before .before .before .before .before .before .before .before .before .before .before .before .before .before .before .before .wide2 .result in let p = r + c .before .before .before .before .before .before .before .before .before .before .before .before .before .before .before .before .before .before .before .before .before .before .wide3 .result in rule-held (c .before .before .before .before .before .before .before .before .before .before .before .before .before .before .before .before .before .before .before .before .before .before .before .before .before .before .before .before .before .args .f .now) (c .before .before .before .before .before .before .before .before .before .before .before .before .before .before .before .before .before .before .before .before .before .before .before .before .before .before .before .before .before .pre) t r p (omega arith) (omega arith) (omega arith) _ _ _ _ (field-held maxContext frontSize t (leftLength (c .before .before .before .before .before .before .before .before .before .before .before .before .before .before .before .before .before .before .before .before .before .before .before .before .before .before .before .before .before .args .f .now)) (c .before .before .before .before .before .before .before .before .before .before .before .before .before .before .before .before .before .before .before .before .before .before .before .before .before .before .before .before .before .args .f .now) _ (omega arith) (c .before .before .before .before .before .before .before .before .before .before .before .before .before .before .before .before .before .fill .ensures)) (field-held maxTarget t r (targetLength (c .before .before .before .before .before .before .before .before .before .before .before .before .before .before .before .before .before .before .before .before .before .before .before .before .before .before .before .before .before .args .f .now)) (c .before .before .before .before .before .before .before .before .before .before .before .before .before .before .before .before .before .before .before .before .before .before .before .before .before .before .before .before .before .args .f .now) _ (omega arith) (c .before .before .before .before .before .before .before .before .before .before .before .before .before .fill2 .ensures)) (field-held maxContext r p (rightLength (c .before .before .before .before .before .before .before .before .before .before .before .before .before .before .before .before .before .before .before .before .before .before .before .before .before .before .before .before .before .args .f .now)) (c .before .before .before .before .before .before .before .before .before .before .before .before .before .before .before .before .before .before .before .before .before .before .before .before .before .before .before .before .before .args .f .now) _ (omega arith) (c .before .before .before .before .before .before .before .before .before .fill3 .ensures)) (field-held maxPhones p (p + c .before .before .before .before .before .before .before .before .before .before .before .before .before .before .before .before .before .before .before .before .wide4 .result) (phonesLength (c .before .before .before .before .before .before .before .before .before .before .before .before .before .before .before .before .before .before .before .before .before .before .before .before .before .before .before .before .before .args .f .now)) (c .before .before .before .before .before .before .before .before .before .before .before .before .before .before .before .before .before .before .before .before .before .before .before .before .before .before .before .before .before .args .f .now) _ (omega arith) (c .before .before .before .before .before .fill4 .ensures))
+returns c = let t = frontSize + c .before .before .before .before .before .before .before .before .before .before .before .before .before .before .before .wide .result in let r = t + c .before .before .before .before .before .before .before .before .before .before .before .before .before .wide2 .result in let p = r + c .before .before .before .before .before .before .before .before .before .before .before .wide3 .result in c .rule-with .ensures ∙ rule-held (c .before .before .before .before .before .before .before .before .before .before .before .before .before .before .before .before .before .before .args .f .now) (c .before .before .before .before .before .before .before .before .before .before .before .before .before .before .before .before .before .before .pre) t r p (p + c .before .before .before .before .before .before .before .before .before .wide4 .result) (omega arith) (omega arith) (omega arith) (omega arith)
 
 pub rule-in-spec : {M : Type 1} → statement M
 rule-in-spec =
@@ -137,28 +115,21 @@ rule-in-spec =
     shared-slice-read-wide-4
     wide-requires-4
     add-end
-    slice-aggregate-fill
-    sub-fill
-    part-fill-start
-    part-fill-end
-    fill-requires
-    slice-aggregate-fill-2
-    sub-fill-2
-    part-fill-start-2
-    part-fill-end-2
-    fill-requires-2
-    slice-aggregate-fill-3
-    sub-fill-3
-    part-fill-start-3
-    part-fill-end-3
-    fill-requires-3
-    slice-aggregate-fill-4
-    sub-fill-4
-    part-fill-start-4
-    part-fill-end-4
-    fill-requires-4
-    shared-slice-read-t12
-    shared-slice-read-t39
-    shared-slice-read-t41
-    shared-slice-read-t43
+    sub-left
+    part-left-start
+    part-left-end
+    sub-target
+    part-target-start
+    part-target-end
+    sub-right
+    part-right-start
+    part-right-end
+    sub-phones
+    part-phones-start
+    part-phones-end
+    shared-slice-read-rule-with
+    shared-slice-read-rule-with-2
+    shared-slice-read-rule-with-3
+    shared-slice-read-rule-with-4
+    rule-with-requires
     returns)

@@ -3,7 +3,7 @@
 use mathlib.Core.Path.{_≡_}
 use lib.ListN.{length, length-set}
 use Rattle.image.specs.Image.{totalStart}
-use Rattle.image.proofs.Zeros.{two-set}
+use Rattle.rules.proofs.Memory.{over-two}
 use native.Mathlib.Omega.{arith}
 use borrow.Author.Needs.{needs}
 use borrow.Author.Needs.{needs}
@@ -29,7 +29,7 @@ same-length : tie.Need-same-length
 same-length c = search needs
 
 returns : tie.Need-returns
-returns c = two-set (c .args .image .now) totalStart _ _ (omega (arith, c .pre .0))
+returns c = over-two totalStart _ _ (c .args .image .now) (omega (arith, c .pre .0))
 
 pub put-total-spec : {M : Type 1} → statement M
 put-total-spec =

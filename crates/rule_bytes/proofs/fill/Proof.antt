@@ -1,13 +1,13 @@
--- `file::layout::fill` meets its contract: either branch stores as much as there is room for.
+-- `rule_bytes::fill` meets its contract: either branch stores as much as there is room for.
 -- Assumes nothing.
 use mathlib.Core.Path.{sym}
 use native.Mathlib.Omega.{arith}
 use borrow.Author.Needs.{needs}
 use lib.ListN.{length}
 use lib.Seq.{length-take-le}
-use Rattle.file.proofs.Copies.{filled-part, filled-whole}
-use Rattle.file.proofs.layout.fill.Statement.{statement}
-use Rattle.file.proofs.layout.fill.Tie as tie
+use Rattle.rule_bytes.proofs.Copies.{filled-part, filled-whole}
+use Rattle.rule_bytes.proofs.fill.Statement.{statement}
+use Rattle.rule_bytes.proofs.fill.Tie as tie
 
 slice-aggregate-put : tie.Need-slice-aggregate-put
 slice-aggregate-put c = sym (length-take-le _ _ (omega arith))
