@@ -141,7 +141,7 @@ void base_build(const struct base_ruleset *rs, uint16_t *words, uint64_t *sets)
     begin(&right, words + BASE_ROWS + BASE_SYMBOLS * left.states, sets + BASE_SET_WORDS * left.states);
     for (size_t p = 0; p < rs->total; p++) {
         struct base_rule r = literal(rs, p);
-        uint8_t pattern[10];
+        uint8_t pattern[BASE_PATTERN];
         size_t length = 0;
         for (size_t i = r.right_len; i > 0; i--)
             pattern[length++] = r.right[i - 1];
@@ -309,7 +309,7 @@ struct input {
     size_t length, at;
 };
 
-enum { LONGEST_FRAME = 36 };      /* of a class with 32 letters */
+enum { LONGEST_FRAME = BASE_CLASS_FRAME > BASE_RULE_FRAME ? BASE_CLASS_FRAME : BASE_RULE_FRAME };
 
 /* Bytes of the next line without its sum, or -1 for an unsound one or one longer than any frame. */
 static int next_frame(struct input *in, uint8_t frame[LONGEST_FRAME])
@@ -374,8 +374,8 @@ static int read_rule(const uint8_t *frame, int count, struct base_rule *r)
     r->target_len = frame[4];
     r->right_len = frame[5];
     r->phone_len = frame[6];
-    if (r->left_len > 6 || r->target_len < 1 || r->target_len > 4 || r->right_len > 6 || r->phone_len > 4
-        || count != 7 + r->left_len + r->target_len + r->right_len + r->phone_len)
+    if (r->left_len > BASE_CONTEXT || r->target_len < 1 || r->target_len > BASE_TARGET || r->right_len > BASE_CONTEXT
+        || r->phone_len > BASE_RULE_PHONES || count != 7 + r->left_len + r->target_len + r->right_len + r->phone_len)
         return -1;
     frame += 7;
     memcpy(r->left, frame, r->left_len);

@@ -13,6 +13,10 @@
 #include <stdint.h>
 
 enum {
+    BASE_CONTEXT = 4,           /* symbols of a left context, and of a right one, at most */
+    BASE_TARGET = 4,            /* letters of a target, at most */
+    BASE_RULE_PHONES = 4,       /* phones of a rule, at most */
+    BASE_PATTERN = BASE_TARGET + BASE_CONTEXT,                  /* 8: symbols of a right pattern, at most */
     BASE_RULES = 512,           /* literal rules, and so rules */
     BASE_NAME = 64,
     BASE_SYMBOLS = 64,
@@ -22,19 +26,22 @@ enum {
     BASE_CLASSES = 32,
     BASE_CLASS_LETTERS = 32,    /* of a class, at most */
     BASE_SET_WORDS = 8,         /* 512 bits */
-    BASE_LEFT_STATES = 3073,    /* most states of either side */
-    BASE_RIGHT_STATES = 5121,
+    BASE_LEFT_STATES = 1 + BASE_RULES * BASE_CONTEXT,           /* 2,049: most states of the left side */
+    BASE_RIGHT_STATES = 1 + BASE_RULES * BASE_PATTERN,          /* 4,097: of the right side */
     BASE_ROWS = 4,              /* words before the rows: the edit count, high word first, and the states of both sides */
     BASE_WORDS = BASE_ROWS + BASE_SYMBOLS * (BASE_LEFT_STATES + BASE_RIGHT_STATES),
     BASE_SETS = BASE_SET_WORDS * (BASE_LEFT_STATES + BASE_RIGHT_STATES),
-    BASE_PHONES = 4 * BASE_NAME,
-    BASE_FILE = 31535           /* longest rule file */
+    BASE_PHONES = BASE_RULE_PHONES * BASE_NAME,
+    BASE_CLASS_FRAME = 3 + BASE_CLASS_LETTERS + 1,              /* bytes of the longest class line, its sum too */
+    BASE_RULE_FRAME = 7 + BASE_CONTEXT + BASE_PATTERN + BASE_RULE_PHONES + 1,   /* of the longest rule line */
+    BASE_FILE = 15 + BASE_CLASSES * (2 * BASE_CLASS_FRAME + 1) + BASE_RULES * (2 * BASE_RULE_FRAME + 1)
+                                /* 27,439: longest rule file */
 };
 
 struct base_rule {
     uint16_t number;
     uint8_t left_len, target_len, right_len, phone_len;
-    uint8_t left[6], target[4], right[6], phones[4];
+    uint8_t left[BASE_CONTEXT], target[BASE_TARGET], right[BASE_CONTEXT], phones[BASE_RULE_PHONES];
 };
 
 /* Which rule's a literal rule is, and which of that rule's, from 0. */

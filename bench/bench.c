@@ -16,8 +16,12 @@ enum {
     WORDS = 8,                              /* of a long name, with spaces between them */
     LETTERS = 7,                            /* of each */
     LONG = WORDS * (LETTERS + 1) - 1,       /* bytes of a long name */
-    LONG_NAMES = NAMES * 12 / LONG          /* whose rule numbers have room where those of NAMES names have */
+    LONG_NAMES = NAMES * 12 / LONG,         /* whose rule numbers have room where those of NAMES names have */
+    DRAWN = 6                               /* letters drawn for a context, from the time when that was the limit */
 };
+
+_Static_assert((int)BASE_CONTEXT == PIRROZKETA_CONTEXT && (int)BASE_WORDS == PIRROZKETA_WORDS && (int)BASE_SETS == PIRROZKETA_SETS
+               && (int)BASE_FILE == PIRROZKETA_FILE, "the baseline has other limits than the library");
 
 static uint8_t image[PIRROZKETA_IMAGE], back[PIRROZKETA_IMAGE], file[PIRROZKETA_FILE], other[PIRROZKETA_FILE];
 static uint16_t words[PIRROZKETA_WORDS], base_words[BASE_WORDS];
@@ -58,6 +62,25 @@ static unsigned draw(unsigned n) { return rand() % n; }
 /* Common letters more often, so that contexts are met. */
 static uint8_t letter(void) { return draw(3) ? (uint8_t)"\1\5\11\17\25\16\24\22\23\14"[draw(10)] : (uint8_t)(1 + draw(26)); }
 
+static void draw_part(uint8_t *part, int room, int drawn)
+{
+    for (int i = 0; i < room || i < drawn; i++) {
+        uint8_t drawn_letter = letter();
+        if (i < room)
+            part[i] = drawn_letter;
+    }
+}
+
+/* Letters for all parts of a rule. Those drawn past the room of a context are left out: so rules whose contexts have at most 4 letters,
+   and all names, are drawn as they were when contexts had up to 6. */
+static void draw_parts(uint8_t r[PIRROZKETA_RULE])
+{
+    draw_part(r + PIRROZKETA_LEFT_AT, PIRROZKETA_CONTEXT, DRAWN);
+    draw_part(r + PIRROZKETA_TARGET_AT, PIRROZKETA_TARGET, PIRROZKETA_TARGET);
+    draw_part(r + PIRROZKETA_RIGHT_AT, PIRROZKETA_CONTEXT, DRAWN);
+    draw_part(r + PIRROZKETA_PHONES_AT, PIRROZKETA_RULE_PHONES, PIRROZKETA_RULE_PHONES);
+}
+
 /* n rules: the last 26 fit a letter each, so that every name is spoken; or all of the greatest length. */
 static void rules(int n, int longest)
 {
@@ -66,17 +89,16 @@ static void rules(int n, int longest)
     for (int k = 0; k < n; k++) {
         uint8_t r[PIRROZKETA_RULE] = { 0 };
         if (k < n - plain) {
-            r[0] = longest ? 6 : draw(4);
-            r[1] = longest ? 4 : 1 + (draw(3) == 0) + (draw(9) == 0);
-            r[2] = longest ? 6 : draw(4);
-            r[3] = longest ? 4 : draw(3);
+            r[0] = longest ? PIRROZKETA_CONTEXT : draw(4);
+            r[1] = longest ? PIRROZKETA_TARGET : 1 + (draw(3) == 0) + (draw(9) == 0);
+            r[2] = longest ? PIRROZKETA_CONTEXT : draw(4);
+            r[3] = longest ? PIRROZKETA_RULE_PHONES : draw(3);
         } else {
             r[1] = r[3] = 1;
         }
-        for (int i = 4; i < PIRROZKETA_RULE; i++)
-            r[i] = letter();
+        draw_parts(r);
         if (k >= n - plain)
-            r[10] = 1 + k - (n - plain);
+            r[PIRROZKETA_TARGET_AT] = 1 + k - (n - plain);
         accept(pirrozketa_add(image, sizeof image, r, sizeof r, k, &place), "a rule is refused");
     }
     accept(pirrozketa_write_file(image, sizeof image, file, sizeof file, &bytes), "no file");
@@ -264,9 +286,8 @@ static void class_rules(int n, int letters)
     accept(pirrozketa_set_class(image, sizeof image, BASE_CLASS, some, letters, &place), "no class");
     for (int k = 0; k < n; k++) {
         uint8_t r[PIRROZKETA_RULE] = { (uint8_t)(1 + draw(3)), (uint8_t)(1 + (draw(3) == 0)), (uint8_t)draw(4), (uint8_t)draw(3) };
-        for (int i = 4; i < PIRROZKETA_RULE; i++)
-            r[i] = letter();
-        r[4] = BASE_CLASS;
+        draw_parts(r);
+        r[PIRROZKETA_LEFT_AT] = BASE_CLASS;
         accept(pirrozketa_add(image, sizeof image, r, sizeof r, k, &place), "a rule is refused");
     }
 }

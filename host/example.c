@@ -106,15 +106,13 @@ static uint8_t set_vowels(size_t *place)
 /* One rule more, at the end, for all vowels: [qu] before one of them gives 6B 77. While it is held, its class stays as it is. */
 static void add_rule(void)
 {
-    static const uint8_t rule[PIRROZKETA_RULE] = {
-        0, 2, 1, 2,             /* the lengths */
-        0, 0, 0, 0, 0, 0,       /* left context */
-        17, 21, 0, 0,           /* target: qu */
-        VOWEL, 0, 0, 0, 0, 0,   /* right context */
-        0x6B, 0x77, 0, 0        /* phones */
-    };
+    static const uint8_t target[] = { 17, 21 }, right[] = { VOWEL }, phones[] = { 0x6B, 0x77 };
+    uint8_t rule[PIRROZKETA_RULE] = { 0, sizeof target, sizeof right, sizeof phones };      /* the lengths; no left context */
     size_t place, end = pirrozketa_count(image, sizeof image);
     uint8_t code = set_vowels(&place);
+    memcpy(rule + PIRROZKETA_TARGET_AT, target, sizeof target);
+    memcpy(rule + PIRROZKETA_RIGHT_AT, right, sizeof right);
+    memcpy(rule + PIRROZKETA_PHONES_AT, phones, sizeof phones);
     judge("class", code, place);
     code = pirrozketa_add(image, sizeof image, rule, sizeof rule, end, &place);
     judge("add", code, place);

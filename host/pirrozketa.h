@@ -73,10 +73,20 @@
 
 /*
  * The version of this interface. MAJOR rises where a host has to change: a call is withdrawn or means
- * something else. MINOR rises where something is added. 7.0 has the edit count: a ruleset has 15,626 bytes (15,622 before), with the
- * slots and all after them 4 bytes further on; tables have 2 words more, before L, and so up to 524,420; lend none of either that
- * were kept from before, but read the file and build. A name gives refusal 22 where the tables were built before an edit, by which it
- * was spoken before; add, drop and move can give 23; pirrozketa_edits is new. Rule files are as they were.
+ * something else. MINOR rises where something is added.
+ * 8.0 has contexts of at most 4 symbols, 6 before, and so other sizes. What a host has to change:
+ *   - A rule to add has 20 bytes (24 before; so many are refusal 6 now): its target starts at 8 (10 before), its right context at 12
+ *     (14), its phones at 16 (20). PIRROZKETA_TARGET_AT and the like are new, and so are names for the limits. A longer context is
+ *     refusal 6.
+ *   - A ruleset has 13,578 bytes (15,626 before), with slots of 22 (26). Lend none that 7.0 laid: its bytes mean something else now,
+ *     and it need not be refused. Write its file by 7.0, read that file by 8.0, and build.
+ *   - Tables need up to 393,348 words and 49,168 set words (524,420 and 65,552 before). More may be lent, as before.
+ *   - A rule file has up to 27,439 bytes (31,535 before). One with a context of 5 or 6 symbols, which 7.0 read and wrote, is refusal
+ *     14 at the line of that rule: shorten the context or drop the rule. All other rule files read as they did.
+ * 7.0 has the edit count: a ruleset has 15,626 bytes (15,622 before), with the slots and all after them 4 bytes further on; tables
+ * have 2 words more, before L, and so up to 524,420; lend none of either that were kept from before, but read the file and build. A
+ * name gives refusal 22 where the tables were built before an edit, by which it was spoken before; add, drop and move can give 23;
+ * pirrozketa_edits is new. Rule files are as they were.
  * 6.0 has letter classes: a ruleset has 15,622 bytes (13,316 before), a rule file
  * up to 31,535 (29,199 before), and a file written before reads as it did; 64 to 95 in a context is refusal 20 where it was 6;
  * over 512 rules is refusal 21 where it was 9, which is none any more. 5.0 counts contested letters: pirrozketa_read_name and
@@ -86,7 +96,7 @@
  * pirrozketa_speak_many, after the ruleset. 2.0 withdrew pirrozketa_load of 1.0, which could refuse after it had replaced
  * the ruleset: call pirrozketa_read_file, look at its code, then pirrozketa_build.
  */
-#define PIRROZKETA_VERSION_MAJOR 7
+#define PIRROZKETA_VERSION_MAJOR 8
 #define PIRROZKETA_VERSION_MINOR 0
 
 /* The library is compiled for x86-64, and its lengths are numbers of 8 bytes. */
@@ -115,8 +125,8 @@ extern "C" {
 
 /* The refusals, in the order of documents 01 and 02; 9 is none any more. A call gives only those named with it. */
 enum {
-    PIRROZKETA_NOT_RULESET = 0,   /* the memory is none: under 15,626 bytes, over 512 literal rules, a broken rule or
-                                     class, an undefined one in use, numbers that are equal or not from 1 to `last`,
+    PIRROZKETA_NOT_RULESET = 0,   /* the memory is none: under PIRROZKETA_IMAGE bytes, over 512 literal rules, a broken rule
+                                     or class, an undefined one in use, numbers that are equal or not from 1 to `last`,
                                      a literal total or table that is not theirs; place 0 */
     PIRROZKETA_NAME_BYTE = 1,     /* the name has a byte outside 01 to 3F; place: the first, counted from 0 */
     PIRROZKETA_NAME_LENGTH = 2,   /* the name has over 64 bytes; place 0 */
@@ -124,8 +134,8 @@ enum {
                                      name, from 1 */
     PIRROZKETA_PHONES_ROOM = 4,   /* too few bytes lent for the phones; place: bytes that the whole name needs */
     PIRROZKETA_NUMBERS_ROOM = 5,  /* too few numbers lent for the rules applied; place: numbers that it needs */
-    PIRROZKETA_SHAPE = 6,         /* the added rule breaks the shape, as 63 in it or a class in its target does, or is not 24
-                                     bytes; place 0 */
+    PIRROZKETA_SHAPE = 6,         /* the added rule breaks the shape, as a context over PIRROZKETA_CONTEXT, 63 in it or a class
+                                     in its target does, or is not PIRROZKETA_RULE bytes; place 0 */
     PIRROZKETA_PLACE = 7,         /* the place lies beyond the list; place 0 */
     PIRROZKETA_NO_NUMBER = 8,     /* no rule has the number; place 0 */
     PIRROZKETA_LAST_ISSUED = 10,  /* `last` is 65,535; place 0 */
@@ -148,28 +158,48 @@ enum {
     PIRROZKETA_ACCEPTED = 255
 };
 
-/* The least to lend. More may be lent, and is not looked at. */
+/* Limits, and the sizes that follow from them; what a formula comes to stands first in its comment. */
 enum {
-    PIRROZKETA_IMAGE = 15626,       /* bytes of a ruleset */
-    PIRROZKETA_LIST = 35886         /* words of 32 bits of a list: 143,544 bytes, for the largest */
-};
+    /* Limits of a rule's parts. A longer part is refusal 6 where the rule is added, 14 in a file, 0 in memory that is lent. */
+    PIRROZKETA_CONTEXT = 4,         /* symbols of a left context, and of a right one */
+    PIRROZKETA_TARGET = 4,          /* letters of a target */
+    PIRROZKETA_RULE_PHONES = 4,     /* phones of a rule */
 
-/* Exact sizes. */
-enum {
-    PIRROZKETA_RULE = 24,           /* bytes of a rule to add */
-    PIRROZKETA_REPLY = 5            /* numbers of a reply in pirrozketa_speak_many */
-};
-
-/* The most that is ever needed. Less may be lent: a call for which it is too little says what it needs. */
-enum {
-    PIRROZKETA_WORDS = 524420,      /* 4 + 64 (L + R) words of 16 bits, for L and R states of the two tables */
-    PIRROZKETA_SETS = 65552,        /* 8 (L + R) set words of 64 bits */
+    /* Other limits. */
+    PIRROZKETA_RULES = 512,         /* literal rules of a ruleset, and so rules */
+    PIRROZKETA_CLASSES = 32,        /* classes of a ruleset */
+    PIRROZKETA_CLASS = 32,          /* letters of a class */
     PIRROZKETA_NAME = 64,           /* bytes of a name; a longer one is refusal 2 */
+    PIRROZKETA_LISTED_PHONES = 64,  /* phones of a listed name */
+
+    /* A rule to add: the lengths of left context, target, right context and phones, 1 byte each, then these, from here on: */
+    PIRROZKETA_LEFT_AT = 4,
+    PIRROZKETA_TARGET_AT = PIRROZKETA_LEFT_AT + PIRROZKETA_CONTEXT,             /* 8 */
+    PIRROZKETA_RIGHT_AT = PIRROZKETA_TARGET_AT + PIRROZKETA_TARGET,             /* 12 */
+    PIRROZKETA_PHONES_AT = PIRROZKETA_RIGHT_AT + PIRROZKETA_CONTEXT,            /* 16 */
+
+    /* Exact sizes. */
+    PIRROZKETA_RULE = PIRROZKETA_PHONES_AT + PIRROZKETA_RULE_PHONES,            /* 20: bytes of a rule to add */
+    PIRROZKETA_REPLY = 5,           /* numbers of a reply in pirrozketa_speak_many */
+
+    /* The least to lend. More may be lent, and is not looked at. */
+    PIRROZKETA_IMAGE = 8 + PIRROZKETA_RULES * (2 + PIRROZKETA_RULE) + 8 * PIRROZKETA_CLASSES + 2 + 4 * PIRROZKETA_RULES,
+                                    /* 13,578: bytes of a ruleset */
+    PIRROZKETA_LIST = 35886,        /* words of 32 bits of a list: 143,544 bytes, for the largest */
+
+    /* The most that is ever needed. Less may be lent: a call for which it is too little says what it needs. */
+    PIRROZKETA_LEFT_STATES = 1 + PIRROZKETA_RULES * PIRROZKETA_CONTEXT,
+                                    /* 2,049: L, the states of the left table */
+    PIRROZKETA_RIGHT_STATES = 1 + PIRROZKETA_RULES * (PIRROZKETA_TARGET + PIRROZKETA_CONTEXT),
+                                    /* 4,097: R, the states of the right table */
+    PIRROZKETA_WORDS = 4 + 64 * (PIRROZKETA_LEFT_STATES + PIRROZKETA_RIGHT_STATES),
+                                    /* 393,348: words of 16 bits, 4 and 64 for each state */
+    PIRROZKETA_SETS = 8 * (PIRROZKETA_LEFT_STATES + PIRROZKETA_RIGHT_STATES),
+                                    /* 49,168: set words of 64 bits, 8 for each state */
     PIRROZKETA_PHONES = 2048,       /* phones that one name can give, by 32 listed words; by rules alone 256 */
     PIRROZKETA_NUMBERS = 64,        /* rules that one name can apply */
-    PIRROZKETA_FILE = 31535,        /* bytes of the longest rule file */
-    PIRROZKETA_CLASS = 32,          /* letters of a class */
-    PIRROZKETA_LISTED_PHONES = 64,  /* phones of a listed name */
+    PIRROZKETA_FILE = 15 + PIRROZKETA_CLASSES * (2 * (4 + PIRROZKETA_CLASS) + 1) + PIRROZKETA_RULES * (2 * (4 + PIRROZKETA_RULE) + 1),
+                                    /* 27,439: bytes of the longest rule file: the head, then a line for each class and rule */
     PIRROZKETA_READ_OUT = 130000    /* bytes of the longest read-out */
 };
 
@@ -186,11 +216,10 @@ enum {
 /*
  * Its layout, all numbers high byte first:
  *        0  the rule count (2 bytes), `last` (2), the edit count (4)
- *        8  512 slots of 26 bytes in the order of the rules: number (2), lengths of left context, target, right context and
- *           phones (1 each), then 6, 4, 6 and 4 bytes for them
- *   13,320  the 32 classes 64 to 95, 8 bytes each: bit c of the number is set where letter c is in the class; 0 is undefined
- *   13,576  how many literal rules there are (2)
- *   13,578  512 places of 4 bytes, one for each literal rule in order: the place of its rule in the list (2), and which of
+ *        8  512 slots of 22 bytes in the order of the rules: number (2), then the rule as it is added (20)
+ *   11,272  the 32 classes 64 to 95, 8 bytes each: bit c of the number is set where letter c is in the class; 0 is undefined
+ *   11,528  how many literal rules there are (2)
+ *   11,530  512 places of 4 bytes, one for each literal rule in order: the place of its rule in the list (2), and which of
  *           that rule's literal rules it is, from 0 (2)
  * Bytes past a length mean nothing: an added rule keeps what was handed in, a rule that was read has zeros. Slots past the
  * count and places past the literal rules mean nothing and keep what they held. The same rules may have come about by other
@@ -216,9 +245,10 @@ uint16_t pirrozketa_last(const uint8_t *image, size_t image_len);
    read from a file. Memory too short for a ruleset gives 0. */
 uint32_t pirrozketa_edits(const uint8_t *image, size_t image_len);
 
-/* Adds a rule before place p, counted from 0; p equal to the count puts it at the end. The rule is 24
-   bytes: the lengths of left context, target, right context and phones, then 6, 4, 6 and 4 bytes for
-   them. *place: the refusal's place, or 0. Refusals 0, 6, 20 (a class that is undefined), 7, 21, 10, 23. */
+/* Adds a rule before place p, counted from 0; p equal to the count puts it at the end. The rule is PIRROZKETA_RULE bytes: the
+   lengths of left context, target, right context and phones (1 byte each), then the left context from PIRROZKETA_LEFT_AT, the
+   target from PIRROZKETA_TARGET_AT, the right context from PIRROZKETA_RIGHT_AT and the phones from PIRROZKETA_PHONES_AT on.
+   *place: the refusal's place, or 0. Refusals 0, 6, 20 (a class that is undefined), 7, 21, 10, 23. */
 PIRROZKETA_MUST_CHECK
 uint8_t pirrozketa_add(uint8_t *image, size_t image_len, const uint8_t *rule, size_t rule_len, size_t p, size_t *place);
 

@@ -11,7 +11,7 @@
 #include <stdlib.h>
 #include <string.h>
 
-enum { LIMIT = 32768, STACK = 1 << 20, PAGE = 4096, PAINT = 0xA5, RULES = 512, CLASS = 64 };
+enum { LIMIT = 32768, STACK = 1 << 20, PAGE = 4096, PAINT = 0xA5, RULES = PIRROZKETA_RULES, CLASS = 64 };
 
 static uint8_t image[PIRROZKETA_IMAGE], copy[PIRROZKETA_IMAGE], file[PIRROZKETA_FILE];
 static uint32_t list[PIRROZKETA_LIST], full[PIRROZKETA_LIST];
@@ -21,8 +21,8 @@ static uint64_t sets[PIRROZKETA_SETS];
 static uint8_t names[1 + PIRROZKETA_NAME], *name = names + 1, phones[PIRROZKETA_PHONES];
 static size_t place, given, applied, steps, contested, count, bytes, states, replies[PIRROZKETA_REPLY];
 
-/* Of one letter, a, and the phones given: the last of the 512 rules, and the one that is added. */
-static const uint8_t rule[PIRROZKETA_RULE] = { 0, 1, 0, 4, 0, 0, 0, 0, 0, 0, 1, 0, 0, 0, 0, 0, 0, 0, 0, 0, 9, 9, 9, 9 };
+/* Of one letter, a, and as many phones as there may be: the last of the 512 rules, and the one that is added. */
+static uint8_t rule[PIRROZKETA_RULE] = { 0, 1, 0, PIRROZKETA_RULE_PHONES };
 
 static uint8_t nothing(void) { return PIRROZKETA_ACCEPTED; }
 static uint8_t clear(void) { return pirrozketa_clear(copy, sizeof copy); }
@@ -162,14 +162,16 @@ static void prepare(void)
 {
     for (size_t k = 0; k < sizeof letters; k++)
         letters[k] = (uint8_t)(1 + k);
+    rule[PIRROZKETA_TARGET_AT] = 1;
+    memset(rule + PIRROZKETA_PHONES_AT, 9, PIRROZKETA_RULE_PHONES);
     must(PIRROZKETA_OK(pirrozketa_clear(image, sizeof image)), "no empty ruleset");
     must(PIRROZKETA_OK(pirrozketa_set_class(image, sizeof image, CLASS, letters, 1, &place)), "no class");
     srand(1);
     for (size_t k = 0; k < RULES; k++) {
-        uint8_t longest[PIRROZKETA_RULE] = { 6, 4, 6, 4 };
-        for (size_t i = 4; i < sizeof longest; i++)
+        uint8_t longest[PIRROZKETA_RULE] = { PIRROZKETA_CONTEXT, PIRROZKETA_TARGET, PIRROZKETA_CONTEXT, PIRROZKETA_RULE_PHONES };
+        for (size_t i = PIRROZKETA_LEFT_AT; i < sizeof longest; i++)
             longest[i] = (uint8_t)(2 + rand() % 60);
-        longest[4] = CLASS;
+        longest[PIRROZKETA_LEFT_AT] = CLASS;
         must(PIRROZKETA_OK(pirrozketa_add(image, sizeof image, k + 1 < RULES ? longest : rule, sizeof rule, k, &place)),
              "a rule is refused");
     }

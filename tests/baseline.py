@@ -19,8 +19,8 @@ SOURCE = os.path.join(os.path.dirname(os.path.abspath(__file__)), "..", "bench",
 
 
 class Rule(c.Structure):
-    _fields_ = [("number", c.c_uint16), ("lengths", c.c_uint8 * 4), ("left", c.c_uint8 * 6),
-                ("target", c.c_uint8 * 4), ("right", c.c_uint8 * 6), ("phones", c.c_uint8 * 4)]
+    _fields_ = [("number", c.c_uint16), ("lengths", c.c_uint8 * 4),
+                *((name, c.c_uint8 * room) for name, room in zip(ref.Rule._fields, ref.ROOMS))]
 
 
 class Literal(c.Structure):

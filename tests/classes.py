@@ -75,8 +75,9 @@ def added_rule(source, rs, rule):
     kind = source.random.random()
     if kind < 0.1:
         symbols = [source.pick([FIRST, LAST, source.pick(CLASS_SYMBOLS)])]
-    elif kind < 0.2 and symbols:
-        deep = source.random.randint(1, 12)
+    elif kind < 0.3 and symbols:
+        most = 2 * ref.MAX_CONTEXT
+        deep = source.pick([*range(1, most), most, most, most, most + 1])      # the last is one too many on the right
         classes = bytes(source.pick(symbols) for _ in range(deep))
         return rule._replace(left=classes[:deep // 2], right=classes[deep // 2:])
     return with_classes(source, rule, symbols) if kind < 0.7 else rule
@@ -157,6 +158,11 @@ SINGLES = [Rule(b"", bytes([letter]), b"", bytes([0x60 + letter])) for letter in
 WRITING = b"\x14" + four(ALL)
 
 
+def all_of(symbol):
+    """A rule with as many literal rules as one class can give."""
+    return Rule(bytes([symbol]) * ref.MAX_CONTEXT, K, bytes([symbol]) * ref.MAX_CONTEXT)
+
+
 def faults():
     """Each fault of a class by itself, beside the nearest that is none; then the same where a rule uses the class."""
     faulty = [(symbol, b"\1") for symbol in (FIRST - 1, LAST + 1, 0, 0xFF)]
@@ -169,7 +175,7 @@ def faults():
 
 def orders():
     """6, 20, 7, 21, 10 against each other, and 0 before them; a class in every part of a rule."""
-    first, undefined, many = bytes([FIRST]), Rule(bytes([FIRST + 1]), K), Rule(bytes([LAST]) * 6, K, bytes([LAST]) * 6)
+    first, undefined, many = bytes([FIRST]), Rule(bytes([FIRST + 1]), K), all_of(LAST)
     misshapen = [BEFORE_VOWEL._replace(target=first), undefined._replace(target=b""), Rule(first, K + first), Rule(b"\x60", K),
                  Rule(first + b"\0", K), Rule(b"", K, b"\0" + first)]
     bodies = [setting(FIRST, VOWELS), setting(LAST, NASALS)] + [adding(SINGLES[0])] * 500
@@ -187,7 +193,7 @@ def limit():
     bodies = [setting(FIRST, LETTERS[:32]), setting(LAST, NASALS)] + [adding(thirty_two)] * 16 + [WRITING, BUILDING]
     names = [b"\1" + K, b"\x20" + K, b"\x21" + K, K, b"\x0B\x0B"]
     spoken = [body for name in names for body in (walking(name), ASKING, plainly(name), ASKING)]
-    tries = [adding(SINGLES[0], 16), adding(thirty_two), adding(thirty_two, 99), setting(FIRST, b"\1"), setting(LAST, b"\1")]
+    tries = [adding(all_of(FIRST)), adding(SINGLES[0], 16), adding(thirty_two), adding(thirty_two, 99), setting(FIRST, b"\1"), setting(LAST, b"\1")]
     bodies += spoken + tries + [b"\x11" + two(3)] + [adding(SINGLES[4], 15)] * 33
     bodies += [b"\x12" + two(9) + two(0), b"\x12" + two(99) + two(0), WRITING, counting(77), BUILDING]
     return bodies + spoken + [b"\x11" + two(k) for k in range(1, 17)] + tries + [counting(77)] + spoken + [BUILDING] + spoken + [WRITING]

@@ -1,7 +1,8 @@
 #!/usr/bin/env python3
 """The example rulesets: the .hex files are what their readable sources say, and each name sounds
 as its .names file says, by plain reading and by walk; with letter classes and written out alike. The
-examples of docs/MONITOR.md: one conversation, answered as it stands there."""
+examples of docs/MONITOR.md: one conversation, answered as it stands there. The tools' limits are those of
+the reference."""
 
 import os
 import re
@@ -90,6 +91,7 @@ def check_classes(check, alphabets):
 
 def main():
     check = ref.Check()
+    check.equal("the limits of the tools", tuple(ruletext.LIMITS.values()), ref.ROOMS)
     check_monitor(check)
     alphabets = {}
     for name in ("six", "basque", "basque_classes", "silent_e"):

@@ -16,6 +16,7 @@ import sys
 
 import classes
 import contested
+import contexts
 import lists
 import reference as ref
 import stale
@@ -50,7 +51,8 @@ class Source:
         return bytes(self.pick(alphabet) for _ in range(length))
 
     def rule(self, alphabet, deep=None):
-        deep = self.upto(6) if deep is None else deep
+        """Of the shape; `deep` is the most symbols in a context."""
+        deep = self.upto(ref.MAX_CONTEXT) if deep is None else deep
         left = self.symbols(alphabet, self.upto(deep))
         right = self.symbols(alphabet, self.upto(deep))
         if left and self.chance(0.35):
@@ -69,9 +71,9 @@ class Source:
             left = left[1:]
         elif kind == 1:
             right = right[:-1]
-        elif kind == 2 and len(left) < 6 and left[:1] != b"\0":
+        elif kind == 2 and len(left) < ref.MAX_CONTEXT and left[:1] != b"\0":
             left = self.symbols(alphabet, 1) + left
-        elif kind == 3 and len(right) < 6 and right[-1:] != b"\0":
+        elif kind == 3 and len(right) < ref.MAX_CONTEXT and right[-1:] != b"\0":
             right = right + self.symbols(alphabet, 1)
         elif kind == 4:
             target = target[:-1] + self.symbols(alphabet, 1)
@@ -83,17 +85,16 @@ class Source:
         """A rule that breaks the shape in one way; a length may exceed its field."""
         rule = self.rule(alphabet)
         many = lambda n: self.symbols(alphabet, n)
+        inner = self.random.randint(1, ref.MAX_CONTEXT - 1)
         return self.pick([
             lambda: rule._replace(target=b""),
             lambda: rule._replace(target=many(self.pick([5, 6, 255]))),
-            lambda: rule._replace(left=many(self.pick([7, 8, 255]))),
-            lambda: rule._replace(right=many(self.pick([7, 8, 255]))),
             lambda: rule._replace(phones=many(self.pick([5, 6, 255]))),
-            lambda: rule._replace(left=many(self.random.randint(1, 5)) + b"\0"),
-            lambda: rule._replace(right=b"\0" + many(self.random.randint(1, 5))),
+            lambda: rule._replace(left=many(inner) + b"\0"),
+            lambda: rule._replace(right=b"\0" + many(inner)),
             lambda: rule._replace(target=self.spoil(rule.target, [0, 0x3F, 0x3F, 0x40, 0x5F, 0xFF])),
-            lambda: rule._replace(left=self.spoil(rule.left + many(1), [0x3F, 0x3F, 0x60, 0x61, 0xFF])[:6]),
-            lambda: rule._replace(right=self.spoil(many(1) + rule.right, [0x3F, 0x3F, 0x60, 0x61, 0xFF])[-6:]),
+            lambda: rule._replace(left=self.spoil(rule.left + many(1), [0x3F, 0x3F, 0x60, 0x61, 0xFF])[:ref.MAX_CONTEXT]),
+            lambda: rule._replace(right=self.spoil(many(1) + rule.right, [0x3F, 0x3F, 0x60, 0x61, 0xFF])[-ref.MAX_CONTEXT:]),
             lambda: rule._replace(phones=self.spoil((rule.phones + b"\1")[:4], [0])),
         ])()
 
@@ -126,7 +127,7 @@ class Source:
         """Half of them with classes; `most` is of literal rules then, or there are about as many as there may be."""
         alphabet = self.alphabet()
         count = min(most, self.pick([0, 1, 2, 5, 10, 20, 20, 40, 64, 65, 130, 512]))
-        rules = self.rule_list(count, alphabet, self.pick([None, 1, 2, 3, 6]))
+        rules = self.rule_list(count, alphabet, self.pick([None, 1, 2, 3, ref.MAX_CONTEXT]))
         ending = self.covered([], alphabet) if self.chance(0.7) else []
         if self.chance(0.5):
             return self.numbered((rules + ending)[-most:])
@@ -165,14 +166,21 @@ class Source:
     def edit(self, rs, alphabet):
         kind = self.random.random()
         if kind < 0.5:
-            rule = (self.bad_rule(alphabet) if self.chance(0.12)
-                    else classes.added_rule(self, rs, self.rule(alphabet, self.pick([0, 0, 1, 2, 6]))))
-            return "add", rule, self.place(len(rs.rules))
+            return "add", self.added_rule(rs, alphabet), self.place(len(rs.rules))
         if kind < 0.65:
             return classes.setting_edit(self, rs, alphabet)
         if kind < 0.82:
             return "drop", self.number(rs)
         return "move", self.number(rs), self.place(len(rs.rules))
+
+    def added_rule(self, rs, alphabet):
+        """Mostly one that can be added; some break the shape, others have a context that is too long, of letters or with classes, defined or not."""
+        if self.chance(0.1):
+            return self.bad_rule(alphabet)
+        if self.chance(0.08):
+            symbols = [given.symbol for given in rs.classes] or [classes.FIRST]
+            return classes.with_classes(self, contexts.too_long(self, self.rule(alphabet), alphabet), self.pick([[], symbols]))
+        return classes.added_rule(self, rs, self.rule(alphabet, self.pick([0, 0, 1, 2, ref.MAX_CONTEXT])))
 
     def edits(self, count, rs=EMPTY):
         """A list of edits that knows the ledger, so that most of it is accepted."""
@@ -234,9 +242,9 @@ class Source:
         """A file after one accident of a card, an editor or a cable."""
         lines = split_lines(data) or [b""]
         at, k, m = self.upto(max(0, len(data) - 1)), self.upto(len(lines) - 1), self.upto(len(lines) - 1)
-        kind = self.upto(18)
+        kind = self.upto(20)
         if kind >= 16:
-            return b"".join(classes.damaged(self, lines))
+            return b"".join((classes if kind < 19 else contexts).damaged(self, lines))
         if kind == 0 and data:          # a bit
             return data[:at] + bytes([data[at] ^ 1 << self.upto(7)]) + data[at + 1:]
         if kind == 1:                   # a digit
@@ -430,7 +438,7 @@ class Source:
             if self.chance(0.5):
                 symbols = b"\0" + b"".join(r.target for _, r in rs.rules)
                 built_lefts, built_rights = ref.states_in(held.words)
-                at, value = self.word_damage(min(built_lefts, 3073), min(built_rights, 5121), symbols)
+                at, value = self.word_damage(min(built_lefts, ref.MAX_LEFT_STATES), min(built_rights, ref.MAX_RIGHT_STATES), symbols)
                 at = self.pick([at, at, at, at, ref.MONITOR_WORDS - 1, ref.MONITOR_WORDS, 0xFFFFFFFF])
                 return b"\x18" + four(at) + two(value)
             at = self.upto(sets - 1) if self.chance(0.5) else 8 * self.upto(min(3, sets // 8 - 1))
@@ -543,23 +551,35 @@ def short_names():
     return ref.SIX_FILE, lines, ref.say(ref.SIX_FILE, b"".join(lines))
 
 
-def one_file(rules_hex):
+def one_file(rules_hex, names=(b"\x0B\5", b"\x0E\x0B\1\x0D", b"\x0B")):
     """A file, sound or not, and names by it."""
-    lines = [frame_line(b"\x03" + name) for name in (b"\x0B\5", b"\x0E\x0B\1\x0D", b"\x0B")]
+    lines = [frame_line(b"\x03" + name) for name in names]
     return rules_hex, lines, ref.say(rules_hex, b"".join(lines))
 
 
+def refused_file():
+    """Bodies about a file that is refused: the ruleset, its edit count and its tables stay."""
+    return lists.SIX + [lists.BUILDING, b"\x13", lists.ASKING_EDITS, lists.walking(lists.KNEE), classes.WRITING, b"\x1F", b"\x13", classes.WRITING]
+
+
+LOW_FILE = frame_line(b"\1\1" + two(6) + two(5)) + ref.SIX_FILE.partition(b"\n")[2]
+
+
 def files():
-    """A number above `last`, and every fault of a class line."""
-    low = frame_line(b"\1\1" + two(6) + two(5)) + ref.SIX_FILE.partition(b"\n")[2]
-    named = {"a number above last": low, **{f"class lines {k}": data for k, data in enumerate(classes.class_lines())}}
-    return {name: lambda data=data: one_file(data) for name, data in named.items()}
+    """A number above `last`, every fault of a class line, and contexts about their limit."""
+    named = {"a number above last": LOW_FILE, **{f"class lines {k}": data for k, data in enumerate(classes.class_lines())}}
+    return {**{name: lambda data=data: one_file(data) for name, data in named.items()},
+            **{name: lambda data=data: one_file(data, contexts.NAMES) for name, data in contexts.context_files().items()}}
 
 
 FIXED = {"say": {"short names": short_names, **files()},
-         "monitor": {"long lines": long_lines, **conversations(contested.FIXED), **conversations(classes.FIXED),
+         "monitor": {"long lines": long_lines, **conversations(contested.FIXED), **conversations(classes.FIXED), **conversations(contexts.FIXED),
                      **conversations(stale.FIXED), "edit counts and files": lambda: conversation(stale.files, ref.SIX_FILE),
-                     "many rules": lambda: conversation(contested.many_rules, contested.many_rules_file())},
+                     "a number above last": lambda: conversation(refused_file, LOW_FILE),
+                     "a long context in a file": lambda: conversation(refused_file, contexts.long_context_file()),
+                     "the longest file": lambda: conversation(contexts.longest_file, ref.file_text(ref.longest_ruleset())),
+                     "many rules": lambda: conversation(contested.many_rules, contested.many_rules_file()),
+                     "many states": lambda: conversation(contexts.many_states, ref.file_text(contexts.many_states_ruleset()))},
          "lists": conversations(lists.FIXED)}
 
 

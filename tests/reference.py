@@ -24,7 +24,7 @@ from typing import NamedTuple
 BOUNDARY = 0            # the symbol #
 SPACE = 0x3F            # separates the words of a name
 SYMBOLS = 64            # 00 to 3F
-MAX_CONTEXT = 6
+MAX_CONTEXT = 4         # symbols of a left or right context; all sizes below follow it
 MAX_TARGET = 4
 MAX_RULE_PHONES = 4
 MAX_NAME = 64
@@ -34,21 +34,26 @@ MAX_EDITS = 2**32 - 1
 CLASS_SYMBOLS = range(0x40, 0x60)
 MAX_CLASS = 32          # letters of a class
 
+ROOMS = (MAX_CONTEXT, MAX_TARGET, MAX_CONTEXT, MAX_RULE_PHONES)     # of the four parts of a rule
 SLOTS = 8               # where the rules begin in lent memory
-SLOT = 26               # one of them
+SLOT = 6 + sum(ROOMS)   # one of them: number (2), four lengths, their bytes
 MASKS = SLOTS + MAX_RULES * SLOT                # 8 bytes for each class
 TOTAL = MASKS + 8 * len(CLASS_SYMBOLS)          # of literal rules
 LITERALS = TOTAL + 2                            # 4 bytes for each of them
 MEMORY = LITERALS + 4 * MAX_RULES
 ROWS = 4                # where the rows begin in the words
-LONGEST_FILE = 31_535
+MAX_LEFT_STATES = 1 + MAX_RULES * MAX_CONTEXT
+MAX_RIGHT_STATES = 1 + MAX_RULES * (MAX_TARGET + MAX_CONTEXT)
+# How many lines of how many bytes: head, classes, rules. A line has two digits for each byte and for the sum, then 0A.
+LONGEST_LINES = ((1, 6), (len(CLASS_SYMBOLS), 3 + MAX_CLASS), (MAX_RULES, 1 + SLOT))
+LONGEST_FILE = sum(lines * (2 * (size + 1) + 1) for lines, size in LONGEST_LINES)
 LONGEST_INPUT = 32_768  # bytes of either input of `say`
 SAY_WORDS = 32_768
 SAY_SETS = 4_096
 SAY_PHONES = 256
 SAY_NUMBERS = 64
-MONITOR_WORDS = 524_420
-MONITOR_SETS = 65_552
+MONITOR_WORDS = ROWS + SYMBOLS * (MAX_LEFT_STATES + MAX_RIGHT_STATES)
+MONITOR_SETS = 8 * (MAX_LEFT_STATES + MAX_RIGHT_STATES)
 MONITOR_LINE = 4_096
 
 MAX_LISTED = 1_000      # names of an exceptions list
@@ -496,13 +501,13 @@ def replay(edits, rs=EMPTY):
 
 
 # The ruleset in lent memory -------------------------------------------------
-# count (2), last (2), edit count (4), then 512 slots: number (2), four lengths, 6 left,
-# 4 target, 6 right, 4 phones; 32 classes as masks of 64 bits, bit c for letter c; the literal
-# total (2) and, for each literal rule, its numbered rule's place (2) and which of that rule's
-# literal rules it is (2). Bytes past a length, slots past the count and literal rules past the
-# total are not judged.
+# count (2), last (2), edit count (4), then 512 slots: number (2), four lengths, left, target, right,
+# phones, each with room for its longest; 32 classes as masks of 64 bits, bit c for letter c; the
+# literal total (2) and, for each literal rule, its numbered rule's place (2) and which of that
+# rule's literal rules it is (2). Bytes past a length, slots past the count and literal rules past
+# the total are not judged.
 
-FIELDS = ((6, MAX_CONTEXT), (12, MAX_TARGET), (16, MAX_CONTEXT), (22, MAX_RULE_PHONES))
+FIELDS = tuple((6 + sum(ROOMS[:k]), room) for k, room in enumerate(ROOMS))     # where each begins in its slot, and its room
 
 
 def two(number):
@@ -1185,6 +1190,19 @@ def with_word(words, index, value):
     return words[:index] + array("H", [value]) + words[index + 1:]
 
 
+def with_bytes(memory, at, some):
+    return memory[:at] + some + memory[at + len(some):]
+
+
+LONGEST_RULE = Rule(*(b"\1" * room for room in ROOMS))
+
+
+def longest_ruleset():
+    """Of the longest file: all classes with all their letters, all rules with all their symbols and phones."""
+    classes = tuple(Class(symbol, bytes(range(1, MAX_CLASS + 1))) for symbol in CLASS_SYMBOLS)
+    return Ruleset(tuple(Numbered(n, LONGEST_RULE) for n in range(1, MAX_RULES + 1)), MAX_RULES, classes)
+
+
 def check_edits(check):
     answers, six = replay([("add", rule, at) for at, rule in enumerate(SIX_RULES)])
     check.equal("six additions", answers, [None] * 6)
@@ -1222,7 +1240,7 @@ def check_edits(check):
             ("move: 7 against the remaining list", move(six, 1, 6)[0], (7, 0))]:
         check.equal(what, got, wanted)
     memory = memory_of(six, fill=0xEE)
-    check.equal("memory of a ruleset", len(memory), 15_626)
+    check.equal("memory of a ruleset", len(memory), MEMORY)
     check.equal("memory read back", ruleset_in(memory), six)
     check.equal("memory one short", ruleset_in(memory[:-1]), None)
     check.equal("memory longer", ruleset_in(memory + b"\xEE"), six)
@@ -1234,9 +1252,7 @@ def check_edits(check):
 def check_file(check, six):
     check.equal("the six-rule file", file_text(six), SIX_FILE)
     check.equal("and back, without the edit count", read_file(SIX_FILE), six._replace(edits=0))
-    longest = Rule(b"\1" * 6, b"\1" * 4, b"\1" * 6, b"\1" * 4)
-    widest = tuple(Class(symbol, bytes(range(1, 33))) for symbol in CLASS_SYMBOLS)
-    full = Ruleset(tuple(Numbered(n, longest) for n in range(1, 513)), 512, widest)
+    full = longest_ruleset()
     check.equal("the longest file", len(file_text(full)), LONGEST_FILE)
     check.equal("and back", read_file(file_text(full)), full)
     lines = SIX_FILE.splitlines(keepends=True)
@@ -1261,7 +1277,7 @@ def check_file(check, six):
             ("14: another first byte", lines[1] + SIX_FILE, (14, 0)),
             ("14: bytes after the last rule", SIX_FILE + b"x", (14, starts[7])),
             ("14: a number above last", head(6, 5) + b"".join(lines[1:]), (14, starts[6])),
-            ("14: number 0", head(1, 1) + frame_line(rule_body(Numbered(0, longest))), (14, 15)),
+            ("14: number 0", head(1, 1) + frame_line(rule_body(Numbered(0, LONGEST_RULE))), (14, 15)),
             ("14: a repeated number, at its later line", head(2, 6) + lines[1] * 2, (14, 15 + 23)),
             ("14: lengths that don't add up", head(1, 1) + frame_line(b"\2\0\1\0\1\0\0\1\1"), (14, 15)),
             ("14: the shape", head(1, 1) + frame_line(rule_body(Numbered(1, Rule()))), (14, 15)),
@@ -1441,7 +1457,7 @@ def check_classes(check):
     brim = rs._replace(rules=fill(507), last=600)
     for what, rule, p, wanted in [("512 literal rules", k_before, 0, None), ("21: 513", between, 0, (21, 0)), ("7 before 21", between, 508, (7, 0)),
                                   ("20 before 7", Rule(b"\x41", b"\1"), 508, (20, 0)),
-                                  ("21 of very many", Rule(b"\x40" * 6, b"\1", b"\x40" * 6), 0, (21, 0))]:
+                                  ("21 of very many", Rule(b"\x40" * MAX_CONTEXT, b"\1", b"\x40" * MAX_CONTEXT), 0, (21, 0))]:
         check.equal("classes, " + what, add(brim, rule, p)[0], wanted)
     check.equal("21 before 10", add(brim._replace(last=MAX_NUMBER), between, 0)[0], (21, 0))
     check.equal("10", add(brim._replace(last=MAX_NUMBER), k_before, 0)[0], (10, 0))
@@ -1457,16 +1473,16 @@ def check_classes(check):
 def check_class_memory(check, rs):
     memory = memory_of(rs, fill=0xEE)
     check.equal("classes in memory", ruleset_in(memory), rs)
-    # The vowels' mask, the total, and the literal rules of the second numbered rule.
-    check.equal("vowels", memory[13_320:13_328].hex(), "0000000000208222")
-    check.equal("the total", memory[13_576:13_578].hex(), "001a")
-    check.equal("literal rules", memory[13_578 + 4 * 19:13_578 + 4 * 22].hex(), "00000013" "00010000" "00010001")
-    for what, at, some in [("bit 0", 13_327, b"\x23"), ("bit 63", 13_320, b"\x80"), ("33 letters", 13_328, b"\0\0\0\3\xFF\xFF\xFF\xFE"),
-                           ("an undefined class", 13_568, bytes(8)), ("another class", 13_327, b"\x20"), ("the total", 13_577, b"\x19"),
-                           ("a place", 13_578 + 4 * 20 + 1, b"\0"), ("which", 13_578 + 4 * 20 + 3, b"\1"), ("the last", 13_578 + 4 * 25 + 3, b"\1")]:
-        check.equal("0: " + what, ruleset_in(memory[:at] + some + memory[at + len(some):]), None)
-    for what, at, some in [("an unused class", 13_335, b"\2"), ("past the literal rules", 13_578 + 4 * 26, b"\1\1\1\1")]:
-        check.equal("no fault: " + what, ruleset_in(memory[:at] + some + memory[at + len(some):]) is not None, True)
+    # The masks of the vowels and of the next class, the total, and the literal rules of the second numbered rule.
+    check.equal("vowels", memory[MASKS:MASKS + 8].hex(), "0000000000208222")
+    check.equal("the total", memory[TOTAL:TOTAL + 2].hex(), "001a")
+    check.equal("literal rules", memory[LITERALS + 4 * 19:LITERALS + 4 * 22].hex(), "00000013" "00010000" "00010001")
+    for what, at, some in [("bit 0", MASKS + 7, b"\x23"), ("bit 63", MASKS, b"\x80"), ("33 letters", MASKS + 8, b"\0\0\0\3\xFF\xFF\xFF\xFE"),
+                           ("an undefined class", TOTAL - 8, bytes(8)), ("another class", MASKS + 7, b"\x20"), ("the total", TOTAL + 1, b"\x19"),
+                           ("a place", LITERALS + 4 * 20 + 1, b"\0"), ("which", LITERALS + 4 * 20 + 3, b"\1"), ("the last", LITERALS + 4 * 25 + 3, b"\1")]:
+        check.equal("0: " + what, ruleset_in(with_bytes(memory, at, some)), None)
+    for what, at, some in [("an unused class", MASKS + 15, b"\2"), ("past the literal rules", LITERALS + 4 * 26, b"\1\1\1\1")]:
+        check.equal("no fault: " + what, ruleset_in(with_bytes(memory, at, some)) is not None, True)
 
 
 def check_class_file(check, rs):
@@ -1687,6 +1703,79 @@ def check_spent(check, six):
     check.equal("a file has no count", (file_text(spent), read_file(file_text(spent)).edits), (SIX_FILE, 0))
 
 
+def check_limits(check):
+    """The documents' numbers, with those of the memory that a host lends, beside what follows here from the limits."""
+    check.equal("state bounds", (MAX_LEFT_STATES, MAX_RIGHT_STATES), (2_049, 4_097))
+    check.equal("the longest file's bytes", LONGEST_FILE, 27_439)
+    check.equal("a slot and its fields", (SLOT, FIELDS), (22, ((6, 4), (10, 4), (14, 4), (18, 4))))
+    check.equal("a ruleset's memory", (SLOTS, MASKS, TOTAL, LITERALS, MEMORY), (8, 11_272, 11_528, 11_530, 13_578))
+    check.equal("monitor's memory", (MONITOR_WORDS, MONITOR_SETS), (393_348, 49_168))
+
+
+def check_contexts(check):
+    """Four symbols on either side, # and classes among them, are taken; more are 6, 14 at the rule's line, and 0 handed in."""
+    one = (Class(0x40, b"\1"),)
+    for length, taken in [(0, True), (1, True), (3, True), (4, True), (5, False), (6, False), (7, False), (200, False), (255, False)]:
+        for symbol, outer in product((b"\1", b"\x40"), (b"", b"\0")):
+            context = (outer + symbol * length)[:length]
+            for side, rule in [("left", Rule(context, b"\2")), ("right", Rule(b"", b"\2", context[::-1]))]:
+                what = f"{length} on the {side}, {context[:2].hex()}"
+                check.equal(f"added, {what}", add(Ruleset(classes=one), rule, 0)[0], None if taken else (6, 0))
+                check_context_line(check, what, rule, taken, one)
+    for left, right, taken in [(4, 4, True), (4, 5, False), (5, 4, False), (3, 5, False), (5, 3, False), (8, 0, False), (0, 8, False)]:
+        check.equal(f"{left} and {right}", has_shape(Rule(b"\1" * left, b"\2", b"\1" * right)), taken)
+    check_context_orders(check)
+    check_context_memory(check)
+    check_context_names(check)
+
+
+def check_context_line(check, what, rule, taken, classes):
+    """A file with the rule between two others, and the ruleset of the three."""
+    rs = Ruleset(tuple(Numbered(k, rule if k == 2 else SIX_RULES[1]) for k in (1, 2, 3)), 3, classes)
+    text = file_text(rs)
+    lines = text.splitlines(keepends=True)      # the head, a class, the rules
+    at = sum(map(len, lines[:3]))
+    check.equal(f"in a file, {what}", read_file(text), rs if taken else (14, at))
+    check.equal(f"unsound, {what}", read_file(text[:at] + b"G" + text[at + 1:]), (13, at))
+    check.equal(f"handed in, {what}", drop(rs, 9)[0], (8, 0) if taken else (0, 0))
+
+
+def check_context_orders(check):
+    """6 of a long context before every refusal of an addition but 0."""
+    full = Ruleset(tuple(Numbered(n, SIX_RULES[1]) for n in range(1, 513)), 512)
+    spent = Ruleset((), MAX_NUMBER, (), MAX_EDITS)
+    for rule in (Rule(b"\x40" * 5, b"\1"), Rule(b"", b"\1", b"\x40" * 5)):
+        for what, rs, p in [("20 and 7", EMPTY, 9), ("21", full, 0), ("10 and 23", spent, 0)]:
+            check.equal("6 before " + what, add(rs, rule, p), (Refusal(6, 0), rs))
+        check.equal("0 before 6", add(full._replace(last=5), rule, 0)[0], (0, 0))
+
+
+def check_context_memory(check):
+    """The length bytes of a slot: up to 4 of a context, whatever lies past it; slots past the count are not judged."""
+    whole = Rule(b"\1\2\3\4", b"\5", b"\6\7\x08\x09", b"")
+    rs = Ruleset(tuple(Numbered(k, whole) for k in (1, 2, 3)), 3)
+    for (side, field), fill, length in product([("left", 0), ("right", 2)], (0, 1, 0xEE), (0, 3, 4, 5, 6, 7, 8, 200, 255)):
+        memory = memory_of(rs, fill)
+        cut = whole._replace(**{side: getattr(whole, side)[:length]})
+        in_slot = lambda k: ruleset_in(with_bytes(memory, SLOTS + k * SLOT + 2 + field, bytes([length])))
+        wanted = rs._replace(rules=(rs.rules[0], Numbered(2, cut), rs.rules[2])) if length <= 4 else None
+        check.equal(f"{length} on the {side} in memory", in_slot(1), wanted)
+        check.equal(f"{length} on the {side} past the rules", in_slot(3), rs)
+
+
+def check_context_names(check):
+    """Contexts of four with and without #, by plain reading and by walk."""
+    _, rs = replay([("add", Rule(b"\0\1\1\1", b"\2", b"\1\1\1\0", b"\x61"), 0), ("add", Rule(b"\1" * 4, b"\2", b"\1" * 4, b"\x62"), 1),
+                    ("add", Rule(b"", b"\1"), 2)])
+    words, sets = build(rs, MONITOR_WORDS, MONITOR_SETS)
+    check.equal("states of contexts of four", states_in(words), (1 + 4 + 4, 1 + 5 + 5))
+    for before, after, phones in [(3, 3, b"\x61"), (4, 4, b"\x62"), (5, 4, b"\x62"), (4, 5, b"\x62"), (3, 4, None), (4, 3, None), (5, 3, None)]:
+        name = b"\1" * before + b"\2" + b"\1" * after
+        answer, steps = walk(rs, words, sets, name, 9, 64)
+        check.equal(f"{before} and {after} around", answer.phones if isinstance(answer, Spoken) else answer, phones or Refusal(3, before + 1))
+        check.equal(f"{before} and {after} around, plain", (plain_reading(rs, name, 9, 64), 2 * len(name) + 2), (answer, steps))
+
+
 def check_tables(check):
     """The quick table against the definition, and the bounds on states."""
     rules = [Rule(bytes([0, 1, 2, 1][:k % 5]), bytes([1 + k % 2] * (1 + k % 3)), bytes([2, 1, 0][3 - k % 4:]))
@@ -1698,9 +1787,6 @@ def check_tables(check):
         check.equal("entries", list(rows), [entry(numbered, s, c) for s in numbered for c in range(SYMBOLS)])
         check.equal("sets", list(sets), [w for s in numbered for w in set_of(patterns, s)])
         check.equal("states", count, len(numbered))
-
-    check.equal("bounds", (1 + 512 * 6, 1 + 512 * 10), (3073, 5121))
-    check.equal("monitor's memory", (4 + 64 * (3073 + 5121), 8 * (3073 + 5121)), (MONITOR_WORDS, MONITOR_SETS))
 
 
 def check_programs(check, six):
@@ -1722,16 +1808,17 @@ def check_programs(check, six):
             ("a space", SIX_FILE, b"033FBE\n", frame_line(b"\4\0\4\0\0\0")),
             ("a rule with 3F", SIX_FILE.replace(b"010E6E7A", b"013F6E49"), b"033FBE\n", refusal_line(Refusal(14, 124)))]:
         check.equal("say: " + what, say(rules, names), wanted)
-    wide = Ruleset(tuple(Numbered(k + 1, Rule(bytes([1 + k % 62, 1 + k // 62]) * 3, b"\1"))
-                         for k in range(100)), 100)
+    # 200 left contexts of four: 62 first letters, then each its own.
+    wide = Ruleset(tuple(Numbered(k + 1, Rule(bytes([1 + k % 62, 1 + k // 62]) * 2, b"\1")) for k in range(200)), 200)
+    check.equal("the words of wide tables", needed(wide)[2], 4 + 64 * (1 + 62 + 3 * 200 + 2))
     check.equal("say: tables above 32,768 words", say(file_text(wide), b"03FD\n"),
                 refusal_line(Refusal(11, needed(wide)[2])))
 
-    held = Monitor(SIX_FILE)
+    held, most, more = Monitor(SIX_FILE), f"{MAX_CONTEXT:02X}", f"{MAX_CONTEXT + 1:02X}"
     for what, body, wanted in [
             ("none contested yet", "27", "0A00"),
             ("plain, empty ruleset", "1701000040050505", "050300000001"),
-            ("walk, unbuilt", "16000802840001001001000040", "08000010" + "00000000"),
+            ("walk, unbuilt", f"16{MONITOR_WORDS:08X}{MONITOR_SETS:08X}01000040", "08000010" + "00000000"),
             ("none spoken yet", "27", "0A00"),
             ("read", "13", "060006"),
             ("build", "15000002840000004F", "050C" + "00000050"),
@@ -1754,8 +1841,10 @@ def check_programs(check, six):
             ("contested in e", "27", "0A01"),
             ("show words", "1A0000000004", "0A0000000000020008"),
             ("show past", "1A0000028401", "0AFFFF"),
-            ("outside", "1A0008008401", "050D00000000"),
-            ("the last word", "1A0008008301", "0AFFFF"),
+            ("outside", f"1A{MONITOR_WORDS:08X}01", "050D00000000"),
+            ("the last word", f"1A{MONITOR_WORDS - 1:08X}01", "0AFFFF"),
+            ("set words outside", f"1B{MONITOR_SETS:08X}01", "050D00000000"),
+            ("the last set word", f"1B{MONITOR_SETS - 1:08X}01", "0A" + "FF" * 8),
             ("force", "1E0000000700060006", "06"),
             ("refused by 0", "110001", "050000000000"),
             ("plain, refused by 0", "170100004005", "050000000000"),
@@ -1764,12 +1853,16 @@ def check_programs(check, six):
             ("the count after them", "27", "0A01"),
             ("drop", "110001", "050800000000"),
             ("add", "100000000100010B6B", "060001"),
-            ("add, long left", "100000070100010101010101010B6B01", "050600000000"),
+            ("add, the longest contexts", f"100000{most}01{most}00" + "05" * MAX_CONTEXT + "0B" + "05" * MAX_CONTEXT, "060002"),
+            ("add, one more on the left", f"100000{more}010001" + "05" * MAX_CONTEXT + "050B6B", "050600000000"),
+            ("add, one more on the right", f"1000000001{more}01" + "0B05" + "05" * MAX_CONTEXT + "6B", "050600000000"),
+            ("add, one more told and not sent", f"100000{more}010001" + "05" * MAX_CONTEXT + "0B6B", "050D00000000"),
+            ("drop it", "110002", "060002"),
             ("write", "140000000E", "050F" + "00000024"),
             ("write", "14FFFFFFFF", None)]:
         body = bytes.fromhex(body)
         answer = held.answer(frame_line(body)[:-1])
-        wanted = (file_text(Ruleset((Numbered(1, SIX_RULES[1]),), 1)) if wanted is None
+        wanted = (file_text(Ruleset((Numbered(1, SIX_RULES[1]),), 2)) if wanted is None
                   else frame_line(bytes.fromhex(wanted)))
         check.equal("monitor: " + what, answer, wanted)
     check.equal("monitor: phones", held.answer(b"1CE4"), frame_line(b"\x0A\x6E\x69" + b"\xEE" * 254))
@@ -1880,6 +1973,8 @@ def self_test():
     check_classes(check)
     check_list(check, six)
     check_stale(check, six)
+    check_limits(check)
+    check_contexts(check)
     check_tables(check)
     check_programs(check, six)
     print(f"{check.passed} passed, {check.failed} failed")

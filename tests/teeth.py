@@ -1,10 +1,13 @@
 #!/usr/bin/env python3
-"""Does the comparison bite? Each planted fault in a copy of reference.py must show in some run.
+"""Does the comparison bite? Each planted fault in a copy of reference.py must show in some run, or in the copy's own self-test where no
+program reaches it.
 
     python3 tests/teeth.py [--count N] [--seed S]
 """
 
 import argparse
+import contextlib
+import io
 import sys
 import types
 
@@ -18,7 +21,12 @@ WALKED = (PASSES + "        answer = speak_words(name, listed, phone_room, numbe
 COUNTED = "    return None, rs._replace(rules=rules, last=last, edits=rs.edits + 1)\n"
 SPENT = "    if rs.edits == MAX_EDITS:\n        return Refusal(23, 0), rs\n"
 
-# (what, line of reference.py, what stands there instead, runs that must show it)
+ADDED = "    elif not has_shape(rule):\n"
+READ = "    if not has_shape(rule) or"
+LIMIT = "MAX_CONTEXT = 4  "
+CUT = "rule._replace(left=rule.left[-MAX_CONTEXT:], right=rule.right[:MAX_CONTEXT])"
+
+# (what, line of reference.py, what stands there instead, runs that must show it; "alone" is the copy's self-test)
 FAULTS = [
     ("stops before the last letter", "    framed, n, i = word.framed, len(word.letters), 1\n",
      "    framed, n, i = word.framed, len(word.letters) - 1, 1\n", "monitor"),
@@ -299,7 +307,7 @@ FAULTS = [
     ("16 without the count's words", "len(words) < ROWS + SYMBOLS", "len(words) < 2 + SYMBOLS", "monitor"),
     ("11 without the count's words", "    return lefts, rights, ROWS + SYMBOLS", "    return lefts, rights, 2 + SYMBOLS", "say monitor"),
     ("the count's words for the states", "map(two, states_in(words))", "map(two, words[:2])", "monitor"),
-    ("524,418 words", "MONITOR_WORDS = 524_420\n", "MONITOR_WORDS = 524_418\n", "monitor"),
+    ("words without the count's", "MONITOR_WORDS = ROWS + SYMBOLS", "MONITOR_WORDS = 2 + SYMBOLS", "monitor"),
     ("the count wraps", SPENT + COUNTED, COUNTED.replace("rs.edits + 1", "(rs.edits + 1) % 2**32"), "monitor"),
     ("the count stays at its last", SPENT + COUNTED, COUNTED.replace("rs.edits + 1", "min(MAX_EDITS, rs.edits + 1)"), "monitor"),
     ("23 one too early", SPENT, SPENT.replace("== MAX_EDITS", ">= MAX_EDITS - 1"), "monitor"),
@@ -322,6 +330,57 @@ FAULTS = [
      "    def store_edits(self, edits):\n        if not is_ruleset(self.ruleset()):\n            return Refusal(0, 0)\n", "monitor"),
     ("2A into the words too", "    def store_edits(self, edits):\n",
      "    def store_edits(self, edits):\n        self.words[0], self.words[1] = edits >> 16, edits & 0xFFFF\n", "monitor"),
+    # Contexts of four.
+    ("contexts of six", LIMIT, LIMIT.replace("4", "6"), "say monitor alone"),
+    ("contexts of five", LIMIT, LIMIT.replace("4", "5"), "say monitor alone"),
+    ("contexts of three at most", LIMIT, LIMIT.replace("4", "3"), "say monitor alone"),
+    ("a left context of five", "    return (len(rule.left) <= MAX_CONTEXT\n", "    return (len(rule.left) <= MAX_CONTEXT + 1\n", "say monitor"),
+    ("a right context of five", "            and len(rule.right) <= MAX_CONTEXT\n", "            and len(rule.right) <= MAX_CONTEXT + 1\n", "say monitor"),
+    ("a left context of three at most", "    return (len(rule.left) <= MAX_CONTEXT\n", "    return (len(rule.left) < MAX_CONTEXT\n", "say monitor"),
+    ("a right context of three at most", "            and len(rule.right) <= MAX_CONTEXT\n", "            and len(rule.right) < MAX_CONTEXT\n", "say monitor"),
+    ("no limit on the left", "    return (len(rule.left) <= MAX_CONTEXT\n", "    return (True\n", "say monitor"),
+    ("no limit on the right", "            and len(rule.right) <= MAX_CONTEXT\n", "", "say monitor"),
+    ("a length of 200 taken", "    return (len(rule.left) <= MAX_CONTEXT\n", "    return (not MAX_CONTEXT < len(rule.left) < 200\n", "say monitor"),
+    ("eight on both sides together", "    return (len(rule.left) <= MAX_CONTEXT\n            and 1 <= len(rule.target) <= MAX_TARGET\n"
+     "            and len(rule.right) <= MAX_CONTEXT\n",
+     "    return (len(rule.left + rule.right) <= 2 * MAX_CONTEXT\n            and 1 <= len(rule.target) <= MAX_TARGET\n", "say monitor"),
+    ("# on the left not counted", "    return (len(rule.left) <= MAX_CONTEXT\n", "    return (len(rule.left.lstrip(b'\\0')) <= MAX_CONTEXT\n", "say monitor"),
+    ("# on the right not counted", "            and len(rule.right) <= MAX_CONTEXT\n",
+     "            and len(rule.right.rstrip(b'\\0')) <= MAX_CONTEXT\n", "say monitor"),
+    ("classes on the left not counted", "    return (len(rule.left) <= MAX_CONTEXT\n",
+     "    return (sum(c not in CLASS_SYMBOLS for c in rule.left) <= MAX_CONTEXT\n", "say monitor"),
+    ("classes on the right not counted", "            and len(rule.right) <= MAX_CONTEXT\n",
+     "            and sum(c not in CLASS_SYMBOLS for c in rule.right) <= MAX_CONTEXT\n", "say monitor"),
+    ("a context of five added", ADDED, ADDED.replace("(rule)", f"({CUT}) or max(len(rule.left), len(rule.right)) > 5"), "monitor"),
+    ("a longer context cut when it is added", "def add(rs, rule, p):\n", f"def add(rs, rule, p):\n    rule = {CUT}\n", "monitor"),
+    ("7 before 6 of a long context", ADDED,
+     ADDED.replace("(rule)", f"(rule) and not (p > len(rs.rules) and has_shape({CUT}))"), "monitor"),
+    ("20 before 6 of a long context", ADDED,
+     ADDED.replace("(rule)", f"(rule) and not (has_shape({CUT}) and not uses(rule) <= defined(rs))"), "monitor"),
+    ("21 before 6 of a long context", ADDED,
+     ADDED.replace("(rule)", f"(rule) and not (has_shape({CUT}) and uses(rule) <= defined(rs) and p <= len(rs.rules) and literal_total(rs) == MAX_RULES)"),
+     "monitor"),
+    ("a context of five in a file", READ, READ.replace("(rule)", f"({CUT}) or max(len(rule.left), len(rule.right)) > 5"), "say monitor"),
+    ("a longer context cut when it is read", READ, f"    rule = {CUT}\n" + READ, "say monitor"),
+    ("a rule line that is longer than any unsound", "        if body is None:\n            return Refusal(13, start)\n        numbered",
+     "        if body is None or len(body) > 1 + SLOT:\n            return Refusal(13, start)\n        numbered", "say"),
+    ("a long context at the next line", "        numbered = rule_of(body, last, seen)\n",
+     "        numbered = rule_of(body, last, seen)\n        start = at if body[0] == 0x02 and max(body[3:6:2], default=0) > MAX_CONTEXT else start\n",
+     "say monitor"),
+    ("a long context after the later lines", "        numbered = rule_of(body, last, seen)\n",
+     "        numbered = rule_of(body, last, seen)\n"
+     "        if numbered is None and max(body[3:6:2], default=0) > MAX_CONTEXT and line_here()[0] is None and at < len(data):\n"
+     "            return Refusal(13, at)\n", "say"),
+    ("a long context in memory", ".ljust(length, b\"\\0\"))\n", ")\n", "alone"),
+    ("a context of five in memory", ".ljust(length, b\"\\0\"))\n", ".ljust(length if length > 5 else 0, b\"\\0\"))\n", "alone"),
+    ("a context of five handed in", "            and all(has_shape(rule) for _, rule in rs.rules)\n",
+     f"            and all(has_shape({CUT}) and max(len(rule.left), len(rule.right)) <= 5 for _, rule in rs.rules)\n", "alone"),
+    ("slots past the count judged", "for k in range(count))\n", "for k in range(min(MAX_RULES, count + 1)))\n", "alone"),
+    ("slots of 26 bytes", "SLOT = 6 + sum(ROOMS) ", "SLOT = 26 ", "alone"),
+    ("words and set words for contexts of six", "MAX_LEFT_STATES = 1 + MAX_RULES * MAX_CONTEXT\n", "MAX_LEFT_STATES = 1 + MAX_RULES * 6\n", "monitor alone"),
+    ("a word too many", "MONITOR_WORDS = ROWS", "MONITOR_WORDS = 1 + ROWS", "monitor alone"),
+    ("a set word too many", "MONITOR_SETS = 8 * (", "MONITOR_SETS = 1 + 8 * (", "monitor alone"),
+    ("a file of 27,438 bytes at most", "min(room, LONGEST_FILE)", "min(room, LONGEST_FILE - 1)", "monitor"),
     # The exceptions list.
     ("a listed name by the rules", "    phones = listed.phones.get(bytes(name))\n", "    phones = None\n", "monitor lists"),
     ("a listed name by a walk with steps", "    if answer:\n        return answer, 0\n",
@@ -383,6 +442,17 @@ def faulty(old, new):
     return module
 
 
+def shown_alone(module):
+    """The first example of the documents that the copy fails, or None."""
+    told = io.StringIO()
+    try:
+        with contextlib.redirect_stdout(told):
+            failed = module.self_test()
+    except Exception as error:
+        return repr(error)
+    return told.getvalue().removeprefix("FAILED ").partition(": got")[0] if failed else None
+
+
 def shown_by(module, kind, cases):
     """The first run in which the fault shows, or None."""
     for which, (rules_hex, lines, expected) in cases:
@@ -405,7 +475,7 @@ def main():
     for what, old, new, kinds in FAULTS:
         module = faulty(old, new)
         for kind in kinds.split():
-            which = shown_by(module, kind, cases[kind])
+            which = shown_alone(module) if kind == "alone" else shown_by(module, kind, cases[kind])
             passed, failed = passed + (which is not None), failed + (which is None)
             print(f"{what}: " + (f"{kind}, {which}" if which is not None else f"NOT SHOWN by {kind}"), flush=True)
     print(f"{passed} passed, {failed} failed")

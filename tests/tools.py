@@ -19,6 +19,7 @@ ROOT = os.path.dirname(os.path.dirname(os.path.realpath(__file__)))
 sys.path.insert(0, os.path.join(ROOT, "tools"))
 
 import frames
+import reference as ref
 import ruletext
 
 SAY, MONITOR = (os.path.join(ROOT, "target", "bin", name) for name in ("say", "monitor"))
@@ -28,6 +29,7 @@ KNEE_CONTESTED = (KNEE.replace("steps", "steps, 2 contested") + "  * 1 k   appli
 UNSOUND = "a line is missing, not ended, or not sound"
 IN_USE = "refused 20 at 0: the class is undefined, in use, of a symbol outside 40 to 5F, or of other letters than 1 to 32 from 01 to 3E, ascending\n"
 SPACE_IN_RULE = "the space bar, 3F, separates words and stands in no rule; # is a word's boundary"
+MOST = ref.MAX_CONTEXT
 PROVING = "Proving and building `say` from its sources. This is done once and takes some minutes.\n"
 
 
@@ -47,6 +49,8 @@ SIX = example("six.hex")
 CLASSES = "class 5F Nasal nm\nclass 40 vowel a e\n#<nasal> [k] <VOWEL> = 61\n[k] \\40 = 62\n[k] = 63\n[a] = 64\n[n] = 65\n"
 CLASSES_HEX = "010100050005F4\n0740020105B1\n075F020D0E7D\n02000102010101005F0B4061ED\n020002000101010B40624C\n020003000100010B638B\n" \
               "02000400010001016493\n020005000100010E6584\n"
+LONG_CONTEXT = ref.file_text(ref.Ruleset((ref.Numbered(1, ref.Rule(b"", b"\x0B")), ref.Numbered(2, ref.Rule(b"\5" * (MOST + 1), b"\x0B"))), 2))
+LONG_AT = LONG_CONTEXT.rfind(b"\n", 0, -1) + 1      # its last line
 FILES = {       # in the folder that the tools are called in
     "six.hex": SIX,
     "rules.hex": SIX,
@@ -59,6 +63,7 @@ FILES = {       # in the folder that the tools are called in
     "longest.hex": SIX.ljust(32_768, b"\n"),
     "empty.hex": b"",
     "sum.hex": SIX.replace(b"F2", b"F3"),
+    "context.hex": LONG_CONTEXT,
     "large.rules": "".join(f"[{a}{b}] = 61\n" for a in "abcdefghijklmnopqrs" for b in "abcdefghijklmnopqrstuvwxyz").encode(),
     "source.rules": b"[k] = 6B\n[e] = \xE7",
     "three.rules": "letter 1B ç\n# [çk] # = 61\n[ç] k = 62 63\n[ç] =\n[k] = 64\n".encode(),
@@ -160,6 +165,7 @@ def rule_files(tools):
             ("empty.hex", f"refused 13 at 0: {UNSOUND} (line 1, missing)"),
             ("sum.hex", f"refused 13 at 0: {UNSOUND} (line 1, sum not zero)"),
             ("long.hex", f"refused 13 at 32768: {UNSOUND} (the file has 32,769 bytes, `say` takes 32,768)"),
+            ("context.hex", f"refused 14 at {LONG_AT}: a sound line breaks the file's form (line 3)"),
             ("longest.hex", "refused 14 at 145: a sound line breaks the file's form (line 8, under 2 bytes)"),
             # 19 times 26 targets: 1 left state; right the empty string, 26 letters and 494 targets.
             ("large.rules", "refused 11 at 33412: too few words for the tables (they need 33,412, `say` has 32,768)"),
@@ -233,6 +239,11 @@ def readable_rules(tools):
     symbols = [line[14:24] for line in out.splitlines()[1:5]]
     tools.compare("written out", (status, len(out.splitlines()), symbols), (0, 1 + 9, ["000D0B0161", "000D0B0561", "000E0B0161", "000E0B0561"]))
     tools.expect(["rules2hex.py", "--written-out", "six.rules"], 0, SIX.decode())
+    # Contexts as long as they can be.
+    vowels, inner = ref.Class(0x40, b"\1\5"), "e" * (MOST - 2)
+    longest = ref.Rule(b"\0\x40" + b"\5" * (MOST - 2), b"\x0B", b"\5" * (MOST - 2) + b"\x40\0", b"\x6B")
+    tools.expect(["rules2hex.py", "-"], 0, ref.file_text(ref.Ruleset((ref.Numbered(1, longest),), 1, (vowels,))).decode(),
+                 given=f"class 40 v a e\n#<v>{inner} [k] {inner}<v># = 6B\n".encode())
     tools.expect(["rules2hex.py", "source.rules"], 2, err="rules2hex: source.rules: line 2, column 7: byte E7 is not UTF-8\n")
     tools.expect(["rules2hex.py", "missing"], 2, err="rules2hex: missing: No such file or directory\n")
     for text, place, fault in [
@@ -246,6 +257,12 @@ def readable_rules(tools):
             ("n\u0303", "line 1, column 1", "a rule has one =, before its phones"),
             ("n\u0303 [k] = 6B", "line 1, column 1", "no letter for 'ñ' (U+00F1 LATIN SMALL LETTER N WITH TILDE)"),
             ("e [kkkkk] = 6B", "line 1, column 4", "at most 4 in the target, not 5"),
+            (f"{'e' * (MOST + 1)} [k] = 6B", "line 1, column 1", f"at most {MOST} in the left context, not {MOST + 1}"),
+            (f"[k] {'e' * (MOST + 2)} = 6B", "line 1, column 5", f"at most {MOST} in the right context, not {MOST + 2}"),
+            (f"[k] = 6B\n#{'e' * MOST} [k] = 6B", "line 2, column 1", f"at most {MOST} in the left context, not {MOST + 1}"),
+            (f"( [ k ] {'e ' * MOST}# = 6B )", "line 1, column 9", f"at most {MOST} in the right context, not {MOST + 1}"),
+            (f"class 40 v a\n{'<v>' * (MOST + 1)}[k] = 6B", "line 2, column 1", f"at most {MOST} in the left context, not {MOST + 1}"),
+            (f"class 40 v a\n[k]{'<v>' * MOST}# = 6B", "line 2, column 4", f"at most {MOST} in the right context, not {MOST + 1}"),
             ("e [] = 6B", "line 1, column 4", "the target is empty"),
             ("[k]  #e = 6B", "line 1, column 6", "# may stand only first in a left context or last in a right one"),
             ("[k] \\60 = 6B", "line 1, column 5", "letters are 01 to 3E, classes 40 to 5F"),
@@ -313,6 +330,12 @@ def monitor(tools):
                  "> plain eke  nab\nrefused 3 at 6: no rule fits the letter at that position\n> exception nab = 61\ndone, names 1, states 4\n"
                  "> plain eke nab\n65 6B 61 by rules 5 2 3, 0 steps\n> plain eke_nab phones=2\nrefused 4 at 3: more phones than the lent bytes hold\n",
                  given=b"read\nadd 0 [_] = 20\nplain eke  nab\nexception nab = 61\nplain eke nab\nplain eke_nab phones=2\n")
+    four, five = "e" * MOST, "e" * (MOST + 1)
+    broken = "refused 6 at 0: the rule breaks the shape of a rule\n"
+    tools.expect(["monitor.py", "--rules", "context.hex"], 0,
+                 f"> read\nrefused 14 at {LONG_AT}: a sound line breaks the file's form\n> add 0 {four} [k] {four} =\ndone, last 1\n"
+                 f"> add 0 {five} [k] =\n{broken}> add 0 [k] {four}# =\n{broken}> plain {four}k{four}\nrefused 3 at 1: no rule fits the letter at that position\n",
+                 given=f"read\nadd 0 {four} [k] {four} =\nadd 0 {five} [k] =\nadd 0 [k] {four}# =\nplain {four}k{four}\n".encode())
     tools.expect(["monitor.py", "--rules", "six.hex"], 0,
                  "> contested\n0 contested\n> read\ndone, last 6\n> plain eke knee\n65 6B 6E 69 by rules 5 2 3 1 6 4, 0 steps\n"
                  "> contested\n3 contested\n> plain nab\nrefused 3 at 2: no rule fits the letter at that position\n"

@@ -27,7 +27,8 @@ from inputs import Mistake
 
 BOUNDARY, LAST_LETTER, SPACE = 0x00, 0x3E, 0x3F
 FIRST_CLASS, LAST_CLASS = 0x40, 0x5F
-LIMITS = {"left context": 6, "target": 4, "right context": 6, "phones": 4}
+MOST_CONTEXT = 4        # symbols of a left or right context
+LIMITS = {"left context": MOST_CONTEXT, "target": 4, "right context": MOST_CONTEXT, "phones": 4}
 MOST_RULES = 512        # literal ones
 MOST_CLASS = 32         # letters of a class
 

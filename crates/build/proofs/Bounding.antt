@@ -15,7 +15,7 @@ use Rattle.rules.specs.Shape.{Entry}
 use Rattle.image.specs.Image.{valid, totalOf, literalsOf}
 use Rattle.image.proofs.Literals.{total-is, literals-few}
 use Rattle.literals.specs.Places.{literalEntry}
-use Rattle.reading.specs.Fitting.{Str}
+use Rattle.fitting.specs.Fitting.{Str}
 use Rattle.tables.proofs.Count.{total, states-total}
 use Rattle.build.specs.Sides.{sideOf, patternIn, sideTable}
 use Rattle.build.proofs.Symbols.{both-long, left-most, target-most, right-most}

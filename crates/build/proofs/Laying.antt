@@ -16,7 +16,7 @@ use Rattle.rules.specs.Shape.{Entry}
 use Rattle.image.specs.Image.{valid, totalOf, literalsOf}
 use Rattle.image.proofs.Literals.{total-is, literals-few}
 use Rattle.literals.specs.Places.{literalEntry}
-use Rattle.reading.specs.Fitting.{Str}
+use Rattle.fitting.specs.Fitting.{Str}
 use Rattle.side.specs.Patterns.{patternAt, patternsOf}
 use Rattle.side.specs.Wrote.{Wrote}
 use Rattle.build.specs.Sides.{sideOf, patternIn, Scratch, Laid}

@@ -9,7 +9,7 @@ use Rattle.classes.specs.Classes.{Classes, letters}
 use Rattle.classes.specs.Expansion.{size}
 use Rattle.classes.specs.Ordinal.{choiceAt}
 use Rattle.classes.proofs.Ordinal.{choice-symbol, choice-long, size-at}
-use Rattle.reading.specs.Fitting.{Str}
+use Rattle.fitting.specs.Fitting.{Str}
 use Rattle.literals.proofs.Matching.{quotient-begin, quotient-next}
 use Rattle.side.specs.Wrote.{Wrote}
 use Rattle.side.proofs.Writing as W

@@ -18,7 +18,7 @@ use Rattle.classes.specs.Ordinal.{choiceAt}
 use Rattle.classes.proofs.Ordinal.{choice-long}
 use Rattle.image.specs.Image.{valid, totalOf}
 use Rattle.image.proofs.Literals.{LiteralShaped, total-is, literals-shaped}
-use Rattle.reading.specs.Fitting.{Str}
+use Rattle.fitting.specs.Fitting.{Str}
 use Rattle.tables.specs.Words.{rowSize}
 use Rattle.side.specs.Wrote.{Wrote}
 use Rattle.side.proofs.Writing.{both, copied}

@@ -12,7 +12,7 @@ use Rattle.rules.specs.Memory.{over}
 use Rattle.rules.specs.Shape.{Entry}
 use Rattle.rules.specs.Refusals.{accepted, declined}
 use Rattle.image.specs.Image.{valid, editsOf, literalsOf, totalOf}
-use Rattle.reading.specs.Fitting.{Str, ends}
+use Rattle.fitting.specs.Fitting.{Str, ends}
 use Rattle.tables.specs.States.{states}
 use Rattle.tables.specs.Tables.{Table, at, tableOf}
 use Rattle.tables.specs.Words.{tab, wordsHead, rowsOf, setsOf, builtWords, builtSets, neededWords, neededSets, wordsFor, setsFor, building, builtFrom, built, rowSize, setSize}

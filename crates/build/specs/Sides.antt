@@ -8,7 +8,7 @@ use lib.ListN.{length, getD}
 use Rattle.rules.specs.Limits.{maxRules, maxPattern}
 use Rattle.rules.specs.Shape.{Entry}
 use Rattle.image.specs.Image.{literalsOf, totalOf}
-use Rattle.reading.specs.Fitting.{Str}
+use Rattle.fitting.specs.Fitting.{Str}
 use Rattle.tables.specs.States.{rightStates}
 use Rattle.tables.specs.Words.{rowSize}
 use Rattle.tables.specs.Tables.{Table, tableOf, leftPattern, rightPattern}

@@ -99,7 +99,7 @@ fn fits(image: &[u8], place: usize, frame: &[u8], i: usize) -> bool
     if frame.len() < i {
         return false;
     }
-    reading::choice::fits_at(image, place, frame, i)
+    fitting::fits_at(image, place, frame, i)
 }
 
 // Whether the rules at two places both fit in a name after its first `before` letters.

@@ -7,12 +7,12 @@ use native.Mathlib.Omega.{arith}
 use borrow.Author.Tests.{ne-eqb}
 use lib.ListN.{length, getD, List·getD-eq-default}
 use Rattle.rules.specs.Memory.{over}
-use Rattle.commands.specs.Answers.{Effect, Effects, SpeechEffect, Answered, BothAnswered, SpeechAnswered, malformedLine, added, dropped, moved, classSet}
-use Rattle.commands.specs.Memory.{forcedBy, recountedBy, clearedBy, storedWord, storedSet, shownWords, shownSets, shownPhones, shownNumbers, shownContested, shownEdits}
+use Rattle.command_parts.specs.Answers.{Effect, Effects, SpeechEffect, Answered, BothAnswered, SpeechAnswered, malformedLine, added, dropped, moved, classSet}
+use Rattle.command_parts.specs.Memory.{forcedBy, recountedBy, clearedBy, storedWord, storedSet, shownWords, shownSets, shownPhones, shownNumbers, shownContested, shownEdits}
 use Rattle.commands.specs.Lent.{builtBy, walkedBy, plainBy}
 use Rattle.commands.specs.Filing.{loadedBy, writeLine}
 use Rattle.commands.specs.Monitor.{State, holding, Response, onImage, onWords, onSets, onTables, onSpeech, shows, byKind, answerTo, Replied}
-use Rattle.commands.proofs.Replies.{Gives, within, length-malformed}
+use Rattle.command_parts.proofs.Replies.{Gives, within, length-malformed}
 
 -- an answer that was given had room
 abbrev pub Given : Response → State → ℕ → List ℕ → List ℕ → Type 0

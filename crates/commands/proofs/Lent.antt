@@ -10,7 +10,7 @@ use Rattle.numbers.specs.Numbers.{two}
 use Rattle.rules.specs.Refusals.{Reply, declined, Report}
 use Rattle.image.specs.Image.{Edited, outcome}
 use Rattle.exceptions.specs.Judging.{Listing, listingOf}
-use Rattle.commands.specs.Fields.{four}
+use Rattle.command_parts.specs.Fields.{four, lentOf}
 use Rattle.reading.specs.Speech.{Told, spoken, refused, Said, saying, plainOutcome, plainSaid}
 use Rattle.tables.specs.Words.{building, built}
 use Rattle.tables.specs.Walk.{Walked, walkSaid}
@@ -18,7 +18,7 @@ use Rattle.file.specs.Loading.{filing, filed, loaded}
 use Rattle.loader.specs.Prepared.{maxInput}
 use Rattle.transcript.specs.Names.{ToldWithin}
 use Rattle.transcript.proofs.Spoken.{delivered-within, walk-within}
-use Rattle.commands.specs.Lent.{lentOf, builtBack, builtIn, saidBack, plainIn, walkedBack, walkIn}
+use Rattle.commands.specs.Lent.{builtBack, builtIn, saidBack, plainIn, walkedBack, walkIn}
 use Rattle.commands.specs.Filing.{loadedFrom, filedBack, filedIn}
 
 pub built-back : (r : Reply) (n m : ℕ) (image ws ss x y : List ℕ) → building r x y ≡ built image (take n ws) (take m ss)

@@ -1,8 +1,5 @@
-pub mod AddFrame
-pub mod Replies
-pub mod Shown
-pub mod Eights
 pub mod Lent
+pub mod Spoken
 pub mod Writing
 pub mod Dispatch
 pub mod CommandLine

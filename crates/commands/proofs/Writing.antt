@@ -17,14 +17,13 @@ use Rattle.file.specs.File.{encode}
 use Rattle.file.specs.Loading.{Filed, filing, filed, rulesetIn}
 use Rattle.rules.specs.declared.Written.{Written}
 use Rattle.rules.specs.declared.Written.the-variants.{Bytes, Refused}
-use Rattle.transcript.specs.Answers.{refusedBody, refusalLine}
-use Rattle.transcript.proofs.Printed.{length-printed}
+use Rattle.lines.specs.Printed.{refusedBody, refusalLine}
+use Rattle.lines.proofs.Printed.{length-printed}
 use Rattle.file.specs.Layout.{longestFile}
-use Rattle.commands.specs.Fields.{four}
-use Rattle.commands.specs.Answers.{malformedLine}
-use Rattle.commands.specs.Lent.{lentOf, back}
+use Rattle.command_parts.specs.Fields.{four, lentOf, back}
+use Rattle.command_parts.specs.Answers.{malformedLine}
 use Rattle.commands.specs.Filing.{filedBack, filedIn, reportLine, fileLine, writeLine}
-use Rattle.commands.proofs.Replies.{Gives, length-malformed}
+use Rattle.command_parts.proofs.Replies.{Gives, length-malformed}
 
 back-over : (ys xs : List ℕ) (n : ℕ) → length ys ≤ n → n ≤ length xs → back n (over ys (take n xs)) xs ≡ over ys xs
 back-over [] xs n h k = take-append-drop n xs

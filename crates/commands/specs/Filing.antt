@@ -11,11 +11,10 @@ use Rattle.file.specs.Loading.{loaded, Filed, filing, filed, rulesetIn}
 use Rattle.rules.specs.Refusals.{Report, wrote, refused}
 use Rattle.file.specs.File.{encode}
 use Rattle.loader.specs.Prepared.{maxInput}
-use Rattle.transcript.specs.Answers.{printed, refusedBody}
+use Rattle.lines.specs.Printed.{refusedBody, printed}
 use Rattle.file.specs.Layout.{longestFile}
-use Rattle.commands.specs.Fields.{four}
-use Rattle.commands.specs.Answers.{Effect, ruled, sizedTo, malformedLine}
-use Rattle.commands.specs.Lent.{lentOf, back}
+use Rattle.command_parts.specs.Fields.{four, lentOf, back}
+use Rattle.command_parts.specs.Answers.{Effect, ruled, sizedTo, malformedLine}
 
 -- rules.hex read into the ruleset; over 32,768 bytes are refused
 unfoldable pub loadedFrom : List ℕ → List ℕ → Edited

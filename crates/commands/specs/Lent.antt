@@ -10,17 +10,10 @@ use Rattle.reading.specs.Speech.{Told, spoken, refused, Said, saying, plainSaid
 use Rattle.tables.specs.Words.{leftCount, rightCount, Built, building, built}
 use Rattle.tables.specs.Walk.{Walked, walkSaid}
 use Rattle.rules.specs.Refusals.{Reply, accepted, declined}
-use Rattle.transcript.specs.Answers.{printed, refusedBody, spokenBody, toldBody}
-use Rattle.commands.specs.Fields.{four}
-use Rattle.commands.specs.Answers.{Effects, leavingBoth, bothSized, SpeechEffect, leavingSpeech, speechSized, statesLine, walkRefusal}
-
--- so many as are asked for; more than there are counts as all
-abbrev pub lentOf : ℕ → ℕ → ℕ
-lentOf asked there = min asked there
-
--- a call that was lent the first n of xs left ys there
-abbrev pub back : ℕ → List ℕ → List ℕ → List ℕ
-back n ys xs = ys ++ drop n xs
+use Rattle.lines.specs.Printed.{refusedBody, printed}
+use Rattle.transcript.specs.Answers.{spokenBody, toldBody}
+use Rattle.command_parts.specs.Fields.{four, lentOf, back}
+use Rattle.command_parts.specs.Answers.{Effects, leavingBoth, bothSized, SpeechEffect, leavingSpeech, speechSized, statesLine, walkRefusal}
 
 abbrev pub builtBack : ℕ → ℕ → List ℕ → List ℕ → Built → Built
 builtBack n m ws ss b = building (b .reply) (back n (b .words) ws) (back m (b .sets) ss)

@@ -1,6 +1,6 @@
 // The commands that change the ruleset.
-use crate::answers;
-use crate::fields;
+use command_parts::answers;
+use command_parts::fields;
 use file::layout;
 use rules::Answer;
 ghost use mathlib.Core.Path.{_≡_};
@@ -11,9 +11,9 @@ ghost use Rattle.rules.specs.Refusals.{replyOf};
 ghost use Rattle.image.specs.Image.{imageSize, outcome};
 ghost use Rattle.edits.specs.Ledger.{Edit};
 ghost use Rattle.edits.specs.Edits.{edited};
-ghost use Rattle.commands.specs.Answers.{Answered, added, dropped, moved, classSet};
-ghost use Rattle.commands.specs.Fields.{AddSized, addedRule};
-ghost use Rattle.commands.specs.Memory.{renumbered, forced, forcedBy, recounted, recountedBy, clearedBy};
+ghost use Rattle.command_parts.specs.Answers.{Answered, added, dropped, moved, classSet};
+ghost use Rattle.command_parts.specs.Fields.{AddSized, addedRule};
+ghost use Rattle.command_parts.specs.Memory.{renumbered, forced, forcedBy, recounted, recountedBy, clearedBy};
 
 // 10, p (2), four lengths, their bytes.
 pub fn add(f: &[u8], image: &mut [u8]) -> Answer

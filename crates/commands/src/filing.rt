@@ -1,7 +1,7 @@
 // The commands that read and write the rule file.
-use crate::answers;
-use crate::fields;
 use crate::speaking;
+use command_parts::answers;
+use command_parts::fields;
 use rules::Answer;
 use rules::Refusal;
 use rules::Written;
@@ -14,7 +14,7 @@ ghost use Rattle.image.specs.Image.{imageSize, outcome};
 ghost use Rattle.file.specs.Loading.{filing};
 ghost use Rattle.rules.specs.Refusals.{reportOf};
 ghost use Rattle.file.specs.Layout.{longestFile};
-ghost use Rattle.commands.specs.Answers.{Answered};
+ghost use Rattle.command_parts.specs.Answers.{Answered};
 ghost use Rattle.commands.specs.Filing.{loadedFrom, loadedBy, filedIn, writeLine};
 
 // The bytes of rules.hex become the ruleset; over 32,768 of them are refused.
@@ -56,10 +56,10 @@ pub fn write_command(f: &[u8], image: &[u8], out: &mut [u8]) -> usize
     if f.len() != 5 {
         return answers::malformed(out);
     }
-    let n = speaking::lent(fields::four_at(f, 1), crate::LONGEST_FILE);
+    let n = fields::lent(fields::four_at(f, 1), crate::LONGEST_FILE);
     let written = write_in(image, &mut *out, n);
     match written {
         Written::Bytes(k) => k,
-        Written::Refused(x) => transcript::refusal_line(x, out),
+        Written::Refused(x) => lines::refusal_line(x, out),
     }
 }

@@ -1,9 +1,6 @@
 // The commands of the monitor, one function each: a command's bytes without their checksum in, the answer's lines out.
-pub mod answers;
 mod editing;
-pub mod fields;
 mod filing;
-pub mod memory;
 pub mod speaking;
 
 use file::layout;
@@ -12,7 +9,7 @@ ghost use Prim.Native.Nat.{_≤_};
 ghost use lib.ListN.{length, take};
 ghost use Rattle.rules.specs.Memory.{over};
 ghost use Rattle.frames.specs.Lines.{soundLine, decoded};
-ghost use Rattle.commands.specs.Memory.{Held};
+ghost use Rattle.command_parts.specs.Memory.{Held};
 ghost use Rattle.commands.specs.Monitor.{commandIn, readsFile, holding, answerTo, Replied};
 
 // The bytes of the longest rule file: a head line, 32 lines of classes with 32 letters, and 512 rule lines with each field full. No answer has

@@ -1,6 +1,6 @@
 // The commands that build tables and speak names, over the first so many of what the monitor holds.
-use crate::answers;
-use crate::fields;
+use command_parts::answers;
+use command_parts::fields;
 use reading::Speech;
 use rules::Answer;
 use walk::WalkAnswer;
@@ -15,16 +15,9 @@ ghost use Rattle.tables.specs.Words.{building};
 ghost use Rattle.walk.specs.Walked.{walkedOf};
 ghost use Rattle.transcript.specs.Names.{ToldWithin};
 ghost use Rattle.transcript.specs.Answers.{longestLine};
-ghost use Rattle.commands.specs.Answers.{BothAnswered, SpeechAnswered};
-ghost use Rattle.commands.specs.Fields.{four};
-ghost use Rattle.commands.specs.Lent.{lentOf, builtIn, plainIn, walkIn, builtBy, contestedAfter, plainLine, plainBy, walkLine, walkedBy};
-
-// So many as are asked for; more than there are counts as all.
-pub fn lent(asked: usize, there: usize) -> usize
-    ensures { λ r. ⌜ (r ≡ lentOf asked there) × ((r ≤ asked) × (r ≤ there)) ⌝ }
-{
-    if asked < there { asked } else { there }
-}
+ghost use Rattle.command_parts.specs.Answers.{BothAnswered, SpeechAnswered};
+ghost use Rattle.command_parts.specs.Fields.{four, lentOf};
+ghost use Rattle.commands.specs.Lent.{builtIn, plainIn, walkIn, builtBy, contestedAfter, plainLine, plainBy, walkLine, walkedBy};
 
 // Tables built into the first so many words and set words.
 fn build_in(image: &[u8], words: &mut [u16], n: usize, sets: &mut [u64], m: usize) -> Answer
@@ -39,8 +32,8 @@ pub fn build_lent(f: &[u8], image: &[u8], words: &mut [u16], sets: &mut [u64]) -
     requires { ⌜ length (now f) ≡ 9 ⌝ }
     ensures { λ r. ⌜ building (replyOf r) (now (words .exit)) (now (sets .exit)) ≡ builtIn (lentOf (four 1 (now (f .entry))) (length (now (words .entry)))) (lentOf (four 5 (now (f .entry))) (length (now (sets .entry)))) (now (image .entry)) (now (words .entry)) (now (sets .entry)) ⌝ }
 {
-    let n = lent(fields::four_at(f, 1), words.len());
-    let m = lent(fields::four_at(f, 5), sets.len());
+    let n = fields::lent(fields::four_at(f, 1), words.len());
+    let m = fields::lent(fields::four_at(f, 5), sets.len());
     build_in(image, words, n, sets, m)
 }
 
@@ -65,7 +58,7 @@ pub fn build_command(
             let r = compiled::state_count(words, tables::RIGHT_COUNT);
             answers::states_line(l, r, out)
         },
-        Answer::Refused(x) => transcript::refusal_line(x, out),
+        Answer::Refused(x) => lines::refusal_line(x, out),
     }
 }
 
@@ -97,8 +90,8 @@ pub fn plain_lent(
     ensures said { λ r. ⌜ saying (toldOf r) (now (phones .exit)) (now (numbers .exit)) ≡ plainIn (lentOf (two 1 (now (f .entry))) (length (now (phones .entry)))) (lentOf (two 3 (now (f .entry))) (length (now (numbers .entry)))) (now (image .entry)) (now (list .entry)) (drop 5 (now (f .entry))) (now (phones .entry)) (now (numbers .entry)) ⌝ }
     ensures within { λ r. ⌜ ToldWithin (toldOf r) (length (now (phones .entry))) (length (now (numbers .entry))) ⌝ }
 {
-    let n = lent(fields::two_at(f, 1), phones.len());
-    let m = lent(fields::two_at(f, 3), numbers.len());
+    let n = fields::lent(fields::two_at(f, 1), phones.len());
+    let m = fields::lent(fields::two_at(f, 3), numbers.len());
     plain_in(image, list, &f[5..], phones, n, numbers, m)
 }
 
@@ -142,10 +135,10 @@ pub fn walk_lent<'a>(
     ensures walked { λ r. ⌜ walkedOf r (now (phones .exit)) (now (numbers .exit)) ≡ walkIn (lentOf (two 9 (now (f .entry))) (length (now (phones .entry)))) (lentOf (two 11 (now (f .entry))) (length (now (numbers .entry)))) (now (image .entry)) (now (list .entry)) (take (lentOf (four 1 (now (f .entry))) (length (now (words .entry)))) (now (words .entry))) (take (lentOf (four 5 (now (f .entry))) (length (now (sets .entry)))) (now (sets .entry))) (drop 13 (now (f .entry))) (now (phones .entry)) (now (numbers .entry)) ⌝ }
     ensures within { λ r. ⌜ ToldWithin (toldOf (r .speech)) (length (now (phones .entry))) (length (now (numbers .entry))) ⌝ }
 {
-    let a = lent(fields::four_at(f, 1), words.len());
-    let b = lent(fields::four_at(f, 5), sets.len());
-    let n = lent(fields::two_at(f, 9), phones.len());
-    let m = lent(fields::two_at(f, 11), numbers.len());
+    let a = fields::lent(fields::four_at(f, 1), words.len());
+    let b = fields::lent(fields::four_at(f, 5), sets.len());
+    let n = fields::lent(fields::two_at(f, 9), phones.len());
+    let m = fields::lent(fields::two_at(f, 11), numbers.len());
     walk_in(
         image,
         list,

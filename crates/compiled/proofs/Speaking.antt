@@ -13,7 +13,7 @@ use Rattle.rules.specs.declared.Refusal.{Refusal}
 use Rattle.rules.specs.declared.Refusal.the-variants.{NotRuleset, BadList}
 use Rattle.exceptions.specs.Judging.{isList, Listing, listingOf}
 use Rattle.image.specs.Image.{valid, editsOf, literalsOf}
-use Rattle.reading.specs.Fitting.{Str}
+use Rattle.fitting.specs.Fitting.{Str}
 use Rattle.reading.specs.Speech.{Outcome, atOnce, saidFrom, listedOr, Following, judgedCall, toldOf, Said as Told, saying}
 use Rattle.reading.specs.Places.{SaysListed}
 use Rattle.reading.specs.declared.Speech.{Speech}

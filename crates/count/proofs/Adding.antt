@@ -10,7 +10,7 @@ use mathlib.Core.List.{List, [], _∷_, _++_}
 use lib.ListN.{length, take, length-append}
 use lib.Seq.{take-suc, take-all, length-take-le}
 use Rattle.rules.proofs.Cases.{byBool}
-use Rattle.reading.specs.Fitting.{Str, starts}
+use Rattle.fitting.specs.Fitting.{Str, starts}
 use Rattle.tables.specs.States.{states, member, numberOne}
 use Rattle.tables.proofs.Trie.{startsAny}
 use Rattle.tables.proofs.Truth.{contra}

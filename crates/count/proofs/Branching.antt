@@ -12,7 +12,7 @@ use lib.ListN.{length, getD, take, length-append, List·getD-append}
 use lib.Seq.{getD-at, take-suc, length-take-le}
 use borrow.Author.Tests.{eqb-false}
 use Rattle.rules.proofs.Cases.{byBool}
-use Rattle.reading.specs.Fitting.{Str, starts}
+use Rattle.fitting.specs.Fitting.{Str, starts}
 use Rattle.tables.specs.Words.{rowSize}
 use Rattle.tables.proofs.Trie.{startsAny}
 use Rattle.tables.proofs.Truth.{clash, contra, true-eq}

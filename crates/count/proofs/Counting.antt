@@ -8,7 +8,7 @@ use mathlib.Core.List.{List, [], _∷_, _++_}
 use lib.ListN.{length, getD, take, set, replicate, length-replicate}
 use lib.Seq.{take-all}
 use Rattle.side.proofs.Writing.{zeros}
-use Rattle.reading.specs.Fitting.{Str}
+use Rattle.fitting.specs.Fitting.{Str}
 use Rattle.tables.specs.States.{states}
 use Rattle.tables.specs.Words.{rowSize}
 use Rattle.tables.proofs.Trie.{startsAny}

@@ -10,7 +10,7 @@ use lib.Dec.{eqb}
 use lib.ListN.{length, getD, take, drop}
 use lib.Seq.{drop-cons, take-suc, length-take-le}
 use Rattle.rules.proofs.Cases.{byBool}
-use Rattle.reading.specs.Fitting.{Str, starts}
+use Rattle.fitting.specs.Fitting.{Str, starts}
 use Rattle.tables.specs.States.{states, numbered}
 use Rattle.tables.specs.Words.{rowSize}
 use Rattle.tables.proofs.Trie.{startsAny}

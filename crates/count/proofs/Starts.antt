@@ -9,7 +9,7 @@ use lib.Dec.{eqb, eqb→eq}
 use lib.ListN.{length, getD, take}
 use borrow.Author.Tests.{eq-eqb}
 use Rattle.rules.proofs.Cases.{byBool}
-use Rattle.reading.specs.Fitting.{Str, starts}
+use Rattle.fitting.specs.Fitting.{Str, starts}
 use Rattle.tables.specs.States.{states, numbered}
 use Rattle.tables.proofs.Trie.{startsAny}
 use Rattle.tables.proofs.Truth.{clash, true-eq, and-left, and-right, or-left-false, or-right-false}

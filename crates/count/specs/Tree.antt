@@ -5,7 +5,7 @@ use Prim.Native.Nat.{ℕ, zero, suc, _+_, _*_, _≤_, _<_}
 use mathlib.Core.Bool.{Bool, true, false, cond}
 use mathlib.Core.List.{List, [], _∷_, _++_}
 use lib.ListN.{length, getD, take, drop}
-use Rattle.reading.specs.Fitting.{Str, starts}
+use Rattle.fitting.specs.Fitting.{Str, starts}
 use Rattle.tables.specs.States.{states, numbered}
 use Rattle.tables.specs.Words.{rowSize}
 use Rattle.side.specs.Patterns.{patternAt, patternsOf, stateCount}

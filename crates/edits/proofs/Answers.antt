@@ -20,7 +20,7 @@ use Rattle.classes.specs.Setting.{listUses, settable}
 use Rattle.image.specs.State.{rulesOf, relist, insertAt, removeAt, relocated}
 use Rattle.rule_bytes.specs.RuleBytes.{Filled}
 use Rattle.image.specs.Image.{classStart, ledgerOf, entriesOf, masksIn, laid, settled, sound, valid, outcome, rulesIn, numberedAt, countOf, lastOf, editsOf}
-use Rattle.image.proofs.Laid.{length-removeAt}
+use Rattle.slots.proofs.Laid.{length-removeAt}
 use Rattle.image.proofs.Scan.{here}
 use Rattle.image.proofs.Stored.{Fine, valid-fine}
 use Rattle.image.proofs.Tests.{valid-long}

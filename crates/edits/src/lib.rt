@@ -84,7 +84,7 @@ pub fn add_rule(image: &mut [u8], rule: Rule, p: usize) -> Answer
     }
     let last = image::last_issued(image);
     let number = last + 1;
-    image::slots::insert(image, p, Numbered { number, rule }, number);
+    slots::insert(image, p, Numbered { number, rule }, number);
     image::table::settle(image);
     Answer::Accepted
 }
@@ -104,7 +104,7 @@ pub fn drop_rule(image: &mut [u8], number: u16) -> Answer
     if rules::MAX_EDITS <= image::edit_count(image) {
         return Answer::Refused(Refusal::EditsSpent(0));
     }
-    image::slots::remove(image, k);
+    slots::remove(image, k);
     image::table::settle(image);
     Answer::Accepted
 }
@@ -127,7 +127,7 @@ pub fn move_rule(image: &mut [u8], number: u16, p: usize) -> Answer
     if rules::MAX_EDITS <= image::edit_count(image) {
         return Answer::Refused(Refusal::EditsSpent(0));
     }
-    image::slots::relocate(image, k, p);
+    slots::relocate(image, k, p);
     image::table::settle(image);
     Answer::Accepted
 }

@@ -18,7 +18,7 @@ use Rattle.image.specs.State.{Ledger, rulesOf}
 use Rattle.image.specs.Image.{ledgerOf, valid, entriesOf, literalsOf}
 use Rattle.history.specs.Replay.{Replay, FromEmpty, Replayed}
 use Rattle.history.proofs.EveryList.{replay-accepted}
-use Rattle.reading.specs.Fitting.{Str}
+use Rattle.fitting.specs.Fitting.{Str}
 use Rattle.reading.specs.Speech.{Outcome, speaks, declines, phonesOf, numbersOf, delivered, plainOutcome, plainSaid}
 use Rattle.reading.proofs.Listed.{sayingListed, listed-said}
 use Rattle.tables.specs.Words.{editsIn, wordsFor, setsFor, Built, built}

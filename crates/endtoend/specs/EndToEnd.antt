@@ -17,7 +17,7 @@ use Rattle.image.specs.State.{Ledger, start, rulesOf}
 use Rattle.image.specs.Image.{imageSize}
 use Rattle.edits.specs.Ledger.{Edit, afterAll, counted}
 use Rattle.history.specs.Replay.{taken, Replay, FromEmpty, Replayed}
-use Rattle.reading.specs.Fitting.{Str}
+use Rattle.fitting.specs.Fitting.{Str}
 use Rattle.reading.specs.Words.{Word, wordsIn, unlisted, stepsFor}
 use Rattle.reading.specs.Speech.{Told, spoken, refused, saidOf, Unlisted, ListedAs, Said, plainSaid}
 use Rattle.tables.specs.Words.{editsIn, wordsFor, setsFor, Built, built}

@@ -8,7 +8,7 @@ use Rattle.exceptions.specs.Judging.{Listing}
 use Rattle.image.specs.Image.{ledgerOf}
 use Rattle.edits.specs.Ledger.{Edit, counted}
 use Rattle.edits.specs.Edits.{imageAll}
-use Rattle.reading.specs.Fitting.{Str}
+use Rattle.fitting.specs.Fitting.{Str}
 use Rattle.reading.specs.Words.{wordsIn, unlisted}
 use Rattle.reading.specs.Speech.{atOnce, saidOf, Unlisted}
 use Rattle.tables.specs.Words.{built}

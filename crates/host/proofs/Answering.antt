@@ -14,7 +14,7 @@ use Rattle.rules.proofs.Memory.{over-length, put-tail, tail-is}
 use Rattle.rules.proofs.Cases.{byBool}
 use Rattle.image.specs.Image.{valid, editsOf, literalsOf}
 use Rattle.exceptions.specs.Judging.{isList, Listing, listingOf}
-use Rattle.reading.specs.Fitting.{Str}
+use Rattle.fitting.specs.Fitting.{Str}
 use Rattle.reading.specs.Speech.{Outcome, speaks, declines, judgedCall, phonesOf, numbersOf, Said, toldOf, saying, delivered, refused}
 use Rattle.tables.specs.Words.{compiledFrom}
 use Rattle.tables.specs.Walk.{Walked, walkThrough, walkFor, walkSaid}

@@ -11,7 +11,7 @@ use Rattle.rules.specs.Memory.{over}
 use Rattle.image.specs.Image.{valid}
 use mathlib.Core.Option.{none, some}
 use Rattle.exceptions.specs.Judging.{Listing}
-use Rattle.reading.specs.Fitting.{Str}
+use Rattle.fitting.specs.Fitting.{Str}
 use Rattle.tables.specs.Walk.{Walked, walkSaid}
 use Rattle.host.specs.Codes.{spokenCode, phonesOrPlace, phonesGiven, numbersGiven, contestedGiven}
 use Rattle.host.specs.declared.many.Progress.{Progress}

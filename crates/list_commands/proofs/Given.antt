@@ -7,9 +7,9 @@ use mathlib.Core.Bool.{false}
 use lib.Dec.{eqb}
 use lib.ListN.{length, getD, take}
 use borrow.Author.Tests.{eqb-false}
-use Rattle.commands.specs.Answers.{leaving, Answered}
-use Rattle.commands.specs.Lent.{back}
-use Rattle.commands.proofs.Replies.{Gives}
+use Rattle.command_parts.specs.Answers.{leaving, Answered}
+use Rattle.command_parts.specs.Fields.{back}
+use Rattle.command_parts.proofs.Replies.{Gives}
 use Rattle.list_commands.specs.ListCommands.{Adds, Removes, emptiedBy, readOutBy, shownText, lentLine, lentAfter, storedUnit, Listed, holding, responding, Carried, Replied}
 
 -- a command has one first byte

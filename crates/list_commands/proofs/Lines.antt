@@ -13,10 +13,10 @@ use Rattle.rules.specs.declared.Written.{Written}
 use Rattle.rules.specs.declared.Written.the-variants.{Bytes, Refused as NotWritten}
 use Rattle.exceptions.specs.Calls.{nameCount, stateCount}
 use Rattle.numbers.specs.Numbers.{bytes4}
-use Rattle.transcript.specs.Answers.{printed, refusedBody, refusalLine}
-use Rattle.transcript.proofs.Printed.{length-printed}
-use Rattle.commands.specs.Answers.{doneLine, statesLine, malformedLine}
-use Rattle.commands.proofs.Replies.{Gives, answered-done, gives-counts}
+use Rattle.lines.specs.Printed.{refusedBody, printed, refusalLine}
+use Rattle.lines.proofs.Printed.{length-printed}
+use Rattle.command_parts.specs.Answers.{doneLine, statesLine, malformedLine}
+use Rattle.command_parts.proofs.Replies.{Gives, answered-done, gives-counts}
 use Rattle.list_commands.specs.ListCommands.{changeLine, emptyLine, readOutLine}
 
 module _ (len : ℕ) (out out′ : List ℕ) where

@@ -11,10 +11,9 @@ use Rattle.rules.specs.Memory.{over}
 use Rattle.rules.specs.Refusals.{Reply, Report}
 use Rattle.exceptions.specs.Calls.{emptying, emptied}
 use Rattle.change.specs.Change.{Change, Changed}
-use Rattle.commands.specs.Fields.{four}
-use Rattle.commands.specs.Answers.{leaving, malformedLine, doneLine, Answered}
-use Rattle.commands.specs.Lent.{lentOf}
-use Rattle.commands.proofs.Replies.{Gives, answered-not}
+use Rattle.command_parts.specs.Fields.{four, lentOf}
+use Rattle.command_parts.specs.Answers.{leaving, malformedLine, doneLine, Answered}
+use Rattle.command_parts.proofs.Replies.{Gives, answered-not}
 use Rattle.list_commands.specs.ListCommands.{changeLine, Changes, addSized, addition, Adds, emptyLine, emptyEffect, emptiedBy, readOutLine, readOutIn, readOutBy, lentLine, lentAfter, Carried}
 use Rattle.list_commands.proofs.Lines.{gives-malformed, gives-done}
 

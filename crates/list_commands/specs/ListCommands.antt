@@ -14,11 +14,10 @@ use Rattle.change.specs.Change.{Change, Changed}
 use Rattle.change.specs.Change.Change.{Add, Remove}
 use Rattle.readout.specs.ReadOut.{ReadOut, readOut}
 use Rattle.numbers.specs.Numbers.{bytes4}
-use Rattle.transcript.specs.Answers.{printed, refusedBody}
-use Rattle.commands.specs.Fields.{four}
-use Rattle.commands.specs.Answers.{Effect, leaving, sizedTo, doneLine, statesLine, malformedLine}
-use Rattle.commands.specs.Lent.{lentOf, back}
-use Rattle.commands.specs.Memory.{storedAt, shown}
+use Rattle.lines.specs.Printed.{refusedBody, printed}
+use Rattle.command_parts.specs.Fields.{four, lentOf, back}
+use Rattle.command_parts.specs.Answers.{Effect, leaving, sizedTo, doneLine, statesLine, malformedLine}
+use Rattle.command_parts.specs.Memory.{storedAt, shown}
 
 -- bytes of the longest answer: 0A, 255 bytes and their checksum, two digits each, and the line's end
 abbrev pub longestAnswer : ℕ

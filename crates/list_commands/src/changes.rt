@@ -1,5 +1,5 @@
 // The commands that change the list: each is lent the lent part of it.
-use commands::answers;
+use command_parts::answers;
 use rules::Answer;
 ghost use mathlib.Core.Path.{_≡_};
 ghost use mathlib.Core.Bool.{true};
@@ -7,7 +7,7 @@ ghost use Prim.Native.Nat.{_≤_};
 ghost use lib.ListN.{length};
 ghost use Rattle.rules.specs.Memory.{over};
 ghost use Rattle.rules.specs.Refusals.{replyOf};
-ghost use Rattle.commands.specs.Answers.{Answered};
+ghost use Rattle.command_parts.specs.Answers.{Answered};
 ghost use Rattle.change.specs.Change.{Changed};
 ghost use Rattle.list_commands.specs.ListCommands.{changeLine, addSized, addition, Adds, Removes, emptyLine, emptiedBy, Carried};
 
@@ -23,7 +23,7 @@ fn change_line(answer: Answer, list: &[u32], out: &mut [u8]) -> usize
             let states = exceptions::state_count(list);
             answers::states_line(names, states, out)
         },
-        Answer::Refused(x) => transcript::refusal_line(x, out),
+        Answer::Refused(x) => lines::refusal_line(x, out),
     }
 }
 
@@ -75,7 +75,7 @@ fn empty_line(answer: Answer, out: &mut [u8]) -> usize
 {
     match answer {
         Answer::Accepted => answers::done_line(out),
-        Answer::Refused(x) => transcript::refusal_line(x, out),
+        Answer::Refused(x) => lines::refusal_line(x, out),
     }
 }
 

@@ -1,8 +1,7 @@
 // The commands on the read-out bytes.
-use commands::answers;
-use commands::fields;
-use commands::memory;
-use commands::speaking;
+use command_parts::answers;
+use command_parts::fields;
+use command_parts::memory;
 use frames::writer;
 use rules::Written;
 ghost use mathlib.Core.Path.{_≡_};
@@ -12,8 +11,8 @@ ghost use lib.ListN.{length};
 ghost use Rattle.rules.specs.Memory.{over};
 ghost use Rattle.rules.specs.Refusals.{reportOf};
 ghost use Rattle.numbers.specs.Numbers.{bytes4};
-ghost use Rattle.transcript.specs.Answers.{printed};
-ghost use Rattle.commands.specs.Answers.{Answered, leaving};
+ghost use Rattle.lines.specs.Printed.{printed};
+ghost use Rattle.command_parts.specs.Answers.{Answered, leaving};
 ghost use Rattle.list_commands.specs.ListCommands.{longestAnswer, readOutLine, readOutIn, readOutBy, shownText};
 
 // 06 and a number of four bytes.
@@ -36,7 +35,7 @@ fn read_out_line(written: Written, out: &mut [u8]) -> usize
 {
     match written {
         Written::Bytes(n) => count_line(n, out),
-        Written::Refused(x) => transcript::refusal_line(x, out),
+        Written::Refused(x) => lines::refusal_line(x, out),
     }
 }
 
@@ -56,7 +55,7 @@ pub fn read_out_command(f: &[u8], list: &[u32], text: &mut [u8], out: &mut [u8])
     if f.len() != 5 {
         return answers::malformed(out);
     }
-    let n = speaking::lent(fields::four_at(f, 1), text.len());
+    let n = fields::lent(fields::four_at(f, 1), text.len());
     let written = read_out_in(list, text, n);
     read_out_line(written, out)
 }

@@ -1,13 +1,12 @@
 // The commands on the list's memory: how many of its units are lent, and one unit stored.
 use crate::Reply;
-use commands::answers;
-use commands::fields;
-use commands::speaking;
+use command_parts::answers;
+use command_parts::fields;
 ghost use mathlib.Core.Path.{_≡_};
 ghost use Prim.Native.Nat.{_≤_};
 ghost use lib.ListN.{length};
 ghost use Rattle.rules.specs.Memory.{over};
-ghost use Rattle.commands.specs.Answers.{Answered};
+ghost use Rattle.command_parts.specs.Answers.{Answered};
 ghost use Rattle.list_commands.specs.ListCommands.{lentLine, lentAfter, storedUnit};
 
 // 25, units (4): so many of those that are there are lent from now on.
@@ -22,7 +21,7 @@ pub fn lend_command(f: &[u8], there: usize, lent: usize, out: &mut [u8]) -> Repl
         let len = answers::malformed(out);
         return Reply { len, lent };
     }
-    let asked = speaking::lent(fields::four_at(f, 1), there);
+    let asked = fields::lent(fields::four_at(f, 1), there);
     let len = answers::done_line(out);
     Reply { len, lent: asked }
 }

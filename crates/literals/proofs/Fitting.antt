@@ -11,8 +11,8 @@ use Rattle.classes.specs.Classes.{Classes}
 use Rattle.classes.specs.Expansion.{size}
 use Rattle.classes.specs.Ordinal.{choiceAt, literalAt}
 use Rattle.classes.specs.declared.Rest.the-variants.{Differs, Next}
-use Rattle.reading.specs.Fitting.{Str, starts, ends, fits}
-use Rattle.reading.proofs.Strings.{and-turn, starts-append, starts-most}
+use Rattle.fitting.specs.Fitting.{Str, starts, ends, fits}
+use Rattle.fitting.proofs.Strings.{and-turn, starts-append, starts-most}
 use Rattle.literals.specs.Matching.{started, ruleWith}
 use Rattle.literals.proofs.Matching.{started-no, started-yes, started-rest}
 

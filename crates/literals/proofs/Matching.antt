@@ -17,8 +17,8 @@ use Rattle.classes.specs.Ordinal.{choiceAt}
 use Rattle.classes.specs.Steps.{stepped}
 use Rattle.classes.specs.declared.Rest.the-variants.{Differs, Next}
 use Rattle.classes.proofs.Ordinal.{choice-cons, choice-none, choice-long, choice-drop, size-drop}
-use Rattle.reading.specs.Fitting.{Str, same, starts, ends}
-use Rattle.reading.proofs.Strings.{clash, starts-past, starts-run, ends-past, ends-run}
+use Rattle.fitting.specs.Fitting.{Str, same, starts, ends}
+use Rattle.fitting.proofs.Strings.{clash, starts-past, starts-run, ends-past, ends-run}
 use Rattle.literals.specs.Matching.{matched, started}
 
 -- ---- the answer of a comparison

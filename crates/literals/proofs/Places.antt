@@ -18,8 +18,8 @@ use Rattle.classes.proofs.Ordinal.{choice-long}
 use Rattle.image.specs.Image.{valid, countOf, totalOf, classStart, masksIn, classesOf, entryAt, originsOf}
 use Rattle.image.proofs.Tests.{valid-long}
 use Rattle.image.proofs.Literals.{LiteralAt, literal-is}
-use Rattle.reading.specs.Fitting.{Str, starts, ends, fits}
-use Rattle.reading.specs.Reading.{apply}
+use Rattle.fitting.specs.Fitting.{Str, starts, ends, fits}
+use Rattle.fitting.specs.Reading.{apply}
 use Rattle.literals.specs.Matching.{ruleWith}
 use Rattle.literals.specs.Places.{literalEntry}
 

@@ -9,7 +9,7 @@ use Rattle.classes.specs.Expansion.{size}
 use Rattle.classes.specs.Ordinal.{choiceAt}
 use Rattle.classes.specs.declared.Rest.{Rest}
 use Rattle.classes.specs.declared.Rest.the-variants.{Differs, Next}
-use Rattle.reading.specs.Fitting.{Str, same, starts}
+use Rattle.fitting.specs.Fitting.{Str, same, starts}
 
 -- choice j of s is w: what is left of j for the symbols before s
 abbrev pub matched : Classes → Str → Str → ℕ → Rest

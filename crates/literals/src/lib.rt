@@ -8,7 +8,7 @@ ghost use Rattle.classes.specs.Expansion.{size};
 ghost use Rattle.classes.specs.Masks.{masksSize, classesIn};
 ghost use Rattle.classes.specs.Ordinal.{choiceAt, literalAt};
 ghost use Rattle.image.specs.Image.{valid, totalOf};
-ghost use Rattle.reading.specs.Fitting.{ends, fits};
+ghost use Rattle.fitting.specs.Fitting.{ends, fits};
 ghost use Rattle.literals.specs.Matching.{matched, started, ruleWith};
 ghost use Rattle.literals.specs.Places.{literalEntry};
 
@@ -70,7 +70,7 @@ fn literal_fits(
     requires { ⌜ (masksSize ≤ length (now masks)) × ((1 ≤ size (classesIn (now masks)) (now left)) × ((1 ≤ size (classesIn (now masks)) (now right)) × (i ≤ length (now frame)))) ⌝ }
     ensures { λ r. ⌜ r ≡ fits (literalAt (classesIn (now (masks .entry))) (ruleWith (now (left .entry)) (now (target .entry)) (now (right .entry))) j) (now (frame .entry)) i ⌝ }
 {
-    if !reading::choice::starts_at(target, frame, i) {
+    if !fitting::starts_at(target, frame, i) {
         return false;
     }
     let rest = starts_choice(masks, right, j, frame, i + target.len());

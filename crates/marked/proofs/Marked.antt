@@ -3,7 +3,7 @@
 use mathlib.Core.Path.{_≡_, refl}
 use mathlib.Core.List.{map}
 use Rattle.rules.specs.Names.{judgedName}
-use Rattle.reading.specs.Reading.{plain}
+use Rattle.fitting.specs.Reading.{plain}
 use Rattle.reading.specs.Words.{wordsIn}
 use Rattle.numbers.specs.Bits.{bit}
 use Rattle.tables.specs.Words.{pack, builtWords, builtSets}

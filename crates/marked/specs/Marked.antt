@@ -9,7 +9,7 @@ use Rattle.rules.specs.Shape.{Entry}
 use Rattle.classes.specs.Classes.{noClasses}
 use Rattle.classes.specs.Expansion.{expand}
 use Rattle.exceptions.specs.Judging.{noList}
-use Rattle.reading.specs.Fitting.{Str}
+use Rattle.fitting.specs.Fitting.{Str}
 use Rattle.reading.specs.Speech.{Outcome, speaks, declines, stepsOf, answered, judgedFor, phonesOf, numbersOf, contestedOf, plainWords}
 use Rattle.tables.specs.States.{states}
 use Rattle.tables.specs.Tables.{rightPattern}

@@ -8,7 +8,7 @@ use list_commands::Reply;
 ghost use Prim.Native.Nat.{_≤_};
 ghost use lib.ListN.{length};
 ghost use Rattle.io.specs.Counts.{Counts};
-ghost use Rattle.commands.specs.Memory.{Held};
+ghost use Rattle.command_parts.specs.Memory.{Held};
 
 // A command: how many bytes it has, and how many rules.hex where it asks for them.
 struct Command {

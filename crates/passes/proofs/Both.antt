@@ -6,7 +6,7 @@ use mathlib.Core.Bool.{Bool, true, false, _&&_}
 use mathlib.Core.List.{List}
 use lib.Dec.{ltb}
 use lib.ListN.{take}
-use Rattle.reading.specs.Fitting.{frame}
+use Rattle.fitting.specs.Fitting.{frame}
 use Rattle.reading.specs.Places.{frameSize}
 use Rattle.tables.specs.Words.{rightRows}
 use Rattle.tables.specs.Walk.{step, pass, allBelow, usable}

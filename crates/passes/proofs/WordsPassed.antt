@@ -12,10 +12,10 @@ use lib.Seq.{getD-set-same, getD-set-other, getD-append-add, getD-take, getD-dro
 use Rattle.rules.proofs.Cases.{and-l}
 use Rattle.rules.specs.Names.{SoundName}
 use Rattle.exceptions.specs.Judging.{saysOf}
-use Rattle.reading.specs.Fitting.{Str, frame}
+use Rattle.fitting.specs.Fitting.{Str, frame}
 use Rattle.reading.specs.Words.{Word, word, wordsIn, unless, unlisted, frameOf, wordAt, endAt, Starts, WordOf, wordsFrom}
 use Rattle.reading.specs.Places.{frameSize, FoundFor}
-use Rattle.reading.proofs.Strings.{frame-long}
+use Rattle.fitting.proofs.Strings.{frame-long}
 use Rattle.reading.proofs.NameWords.{words-begin, words-step, words-past, end-most, starts-first, starts-next, no-start, word-long, frame-length, frame-symbols}
 use Rattle.reading.proofs.WordReading.{part-long}
 use Rattle.tables.specs.Walk.{walkUsable, allWords, sumWords}

@@ -7,7 +7,7 @@ use mathlib.Core.List.{List, [], reverse}
 use lib.Dec.{ltb}
 use lib.ListN.{length, getD, take, drop}
 use Rattle.exceptions.specs.Judging.{saysOf}
-use Rattle.reading.specs.Fitting.{Str, frame}
+use Rattle.fitting.specs.Fitting.{Str, frame}
 use Rattle.reading.specs.Words.{wordsIn, unlisted, wordAt, Starts}
 use Rattle.reading.specs.Places.{frameSize, FoundFor}
 use Rattle.tables.specs.Tables.{Table}

@@ -19,8 +19,8 @@ use Rattle.rules.proofs.Names.{sound-judged, accepted-sound, Judgement, sound, 
 use Rattle.exceptions.specs.Layout.{wordsOf, phonesFor}
 use Rattle.exceptions.specs.Judging.{isList, Listing, listingOf}
 use Rattle.image.specs.Image.{valid}
-use Rattle.reading.specs.Fitting.{Str}
-use Rattle.reading.specs.Reading.{listed}
+use Rattle.fitting.specs.Fitting.{Str}
+use Rattle.fitting.specs.Reading.{listed}
 use Rattle.reading.specs.Speech.{Outcome, speaks, atOnce, saidFrom, listedOr, Following, judgedCall, saidOf, Unlisted, ListedAs}
 
 -- ---- what was found

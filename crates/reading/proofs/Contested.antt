@@ -12,8 +12,8 @@ use Rattle.rules.proofs.Cases.{byBool}
 use Rattle.rules.specs.Shape.{Entry}
 use Rattle.classes.specs.Classes.{Classes}
 use Rattle.image.specs.State.{noEntry}
-use Rattle.reading.specs.Fitting.{Str, frame, FitsAt}
-use Rattle.reading.specs.Reading.{Application, Piece, applied, past}
+use Rattle.fitting.specs.Fitting.{Str, frame, FitsAt}
+use Rattle.fitting.specs.Reading.{Application, Piece, applied, past}
 use Rattle.reading.specs.Speech.{contestedIn, contestedOf}
 use Rattle.reading.specs.Meaning.{Fitting, none, one, other, Contested, Arrives, begins, goes, Contests, nowhere, there, elsewhere, piecesOf}
 

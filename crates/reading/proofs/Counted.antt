@@ -13,7 +13,7 @@ use lib.ListN.{length, getD, take, drop, length-append, drop-of-length-le}
 use lib.Seq.{take-suc, drop-cons, take-all}
 use Rattle.rules.specs.Limits.{maxRules, maxPhones}
 use Rattle.rules.proofs.Cases.{byBool}
-use Rattle.reading.specs.Reading.{Piece, applied, listed}
+use Rattle.fitting.specs.Reading.{Piece, applied, listed}
 use Rattle.reading.specs.Places.{placeIn, rulesAmong}
 use Rattle.reading.specs.Speech.{phonesIn, phonesOf, numbersIn, numbersOf, contestedIn, contestedOf}
 

@@ -23,12 +23,12 @@ use Rattle.classes.specs.Expansion.{grid, choices, within, literals, under, lit
 use Rattle.classes.proofs.Grid.{any-map, any-and, any-or, any-none, any-count, any-grid, count, count-append, count-map, count-none, count-grid, one-pos, mul-few}
 use Rattle.image.specs.Image.{valid, entriesOf, classesOf, literalsOf}
 use Rattle.image.proofs.Literals.{classes-proper, literals-shaped}
-use Rattle.reading.specs.Fitting.{Str, frame, same, starts, ends, fits, sameBy, startsBy, endsBy, fitsBy}
-use Rattle.reading.specs.Reading.{Application, apply, Choice, chosen, readFrom, firstRule, passing, firstFit, firstLiteral, plain, plainLiteral, Reading}
+use Rattle.fitting.specs.Fitting.{Str, frame, same, starts, ends, fits, sameBy, startsBy, endsBy, fitsBy}
+use Rattle.fitting.specs.Reading.{Application, apply, Choice, chosen, readFrom, firstRule, passing, firstFit, firstLiteral, plain, plainLiteral, Reading}
 use Rattle.reading.specs.Words.{wordsIn, readWords}
 use Rattle.reading.specs.Speech.{plainWords, literalWords}
-use Rattle.reading.proofs.Search.{Targets}
-use Rattle.reading.proofs.Strings.{starts-append, starts-long, starts-same, ends-long, ends-same}
+use Rattle.fitting.proofs.Search.{Targets}
+use Rattle.fitting.proofs.Strings.{starts-append, starts-long, starts-same, ends-long, ends-same}
 
 -- ---- one of the choices of a string is, starts or ends a given string
 

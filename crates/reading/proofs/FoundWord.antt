@@ -13,7 +13,7 @@ use Rattle.exceptions.specs.Calls.{EndsInList}
 use Rattle.exceptions.specs.declared.Ending.{Ending}
 use Rattle.exceptions.specs.declared.Ending.the-variants.{State, Absent}
 use Rattle.exceptions.proofs.Decided.{list-facts}
-use Rattle.reading.specs.Fitting.{Str}
+use Rattle.fitting.specs.Fitting.{Str}
 use Rattle.reading.specs.Words.{wordAt, endAt}
 use Rattle.reading.specs.Places.{Unsaid, FoundFor}
 use Rattle.reading.proofs.NameWords.{word-cut, word-whole, word-sound}

@@ -12,8 +12,8 @@ use Rattle.rules.specs.Memory.{over}
 use Rattle.rules.specs.Names.{SoundName}
 use Rattle.exceptions.specs.Judging.{Listing}
 use Rattle.image.specs.Image.{valid, entriesOf, classesOf}
-use Rattle.reading.specs.Fitting.{Str}
-use Rattle.reading.specs.Reading.{listed}
+use Rattle.fitting.specs.Fitting.{Str}
+use Rattle.fitting.specs.Reading.{listed}
 use Rattle.reading.specs.Speech.{Outcome, speaks, answered, ListedAs, spoken, refused, Said as Told, saying, delivered, plainWords, plainSaid}
 use Rattle.reading.proofs.Call.{call-listed}
 

@@ -17,8 +17,8 @@ use Rattle.exceptions.proofs.Looking.{says-list, says-none}
 use Rattle.exceptions.specs.Calls.{LookedUp, lookingUp, lookedUp}
 use Rattle.exceptions.specs.declared.Lookup.{Lookup}
 use Rattle.exceptions.specs.declared.Lookup.the-variants.{Unlisted as Absent, Given, NoRoom}
-use Rattle.reading.specs.Fitting.{Str}
-use Rattle.reading.specs.Reading.{listed}
+use Rattle.fitting.specs.Fitting.{Str}
+use Rattle.fitting.specs.Reading.{listed}
 use Rattle.reading.specs.Speech.{Outcome, speaks, stepsOf, saidFrom, spoken, refused, toldOf, saying, delivered}
 use Rattle.reading.specs.Places.{Unsaid, SaysListed}
 use Rattle.reading.specs.declared.Speech.{Speech}

@@ -9,11 +9,11 @@ use mathlib.Core.List.{List, [], _∷_, _++_}
 use native.Mathlib.Omega.{arith}
 use Rattle.rules.specs.Shape.{Entry}
 use Rattle.classes.specs.Classes.{Classes}
-use Rattle.reading.specs.Fitting.{Str}
-use Rattle.reading.specs.Reading.{Piece, listed, Reading, finished, uncovered, plain}
+use Rattle.fitting.specs.Fitting.{Str}
+use Rattle.fitting.specs.Reading.{Piece, listed, Reading, finished, uncovered, plain}
 use Rattle.reading.specs.Words.{Word, inName, phonesOr, readWord, followed, readWords}
 use Rattle.reading.specs.Meaning.{Uncovered, piecesOf, SaidWord, fromList, byRules, SaidWords, none, next, UncoveredIn, here, later}
-use Rattle.reading.proofs.Search.{Targets}
+use Rattle.fitting.proofs.Search.{Targets}
 use Rattle.reading.proofs.WordReading.{listed-word}
 use Rattle.reading.proofs.Meaning.{Ending, ended, stuck, plain-ends, reads-finished, is-uncovered}
 

@@ -8,8 +8,8 @@ use mathlib.Core.Logic.{_⊎_, ⊎-elim}
 use denote.Enum.Declared.{tagOf}
 use lib.ListN.{length, take}
 use Rattle.rules.specs.Names.{SoundName}
-use Rattle.reading.specs.Fitting.{Str, frame}
-use Rattle.reading.specs.Reading.{Piece, Reading, finished, uncovered, badTables, after}
+use Rattle.fitting.specs.Fitting.{Str, frame}
+use Rattle.fitting.specs.Reading.{Piece, Reading, finished, uncovered, badTables, after}
 use Rattle.reading.specs.Words.{Word, word, wordsIn, readWord, followed, readWords, wordAt, endAt, Starts, WordOf, wordsFrom}
 use Rattle.reading.specs.Places.{EndsBy, partsAt, frameSize, partsReading, PartsSoFar, ReadOn}
 use Rattle.reading.specs.declared.Reached.{Reached}

@@ -14,13 +14,13 @@ use Rattle.rules.specs.Shape.{Entry}
 use Rattle.exceptions.specs.Judging.{Listing}
 use Rattle.classes.specs.Classes.{Classes}
 use Rattle.image.specs.Image.{valid, entriesOf, classesOf}
-use Rattle.reading.specs.Fitting.{Str}
-use Rattle.reading.specs.Reading.{Piece, listed, Reading}
+use Rattle.fitting.specs.Fitting.{Str}
+use Rattle.fitting.specs.Reading.{Piece, listed, Reading}
 use Rattle.reading.specs.Words.{wordsIn}
 use Rattle.reading.specs.Speech.{Outcome, speaks, declines, atOnce, stepsOf, answered, Following, saidOf, Unlisted, phonesOf, numbersOf, spoken, refused, saying, delivered, plainWords, plainOutcome, plainSaid}
 use Rattle.reading.specs.Meaning.{UncoveredIn}
 use Rattle.reading.proofs.Call.{call-unlisted, CallCase, refuses, lists, follows, call-case}
-use Rattle.reading.proofs.Search.{Targets, valid-targets}
+use Rattle.fitting.proofs.Search.{Targets, valid-targets}
 use Rattle.reading.proofs.NameMeaning.{WordsEnding, finish, stop, words-end, uncovered-stops}
 
 -- reading for want of a rule ends at i: the call is not refused before it reads, the name is not on the list, and no rule covers the letter at i of

@@ -18,8 +18,8 @@ use Rattle.exceptions.specs.Layout.{wordsOf, phonesEnding}
 use Rattle.exceptions.specs.Judging.{saysOf, StateOf}
 use Rattle.image.specs.Image.{countOf, valid}
 use Rattle.image.proofs.Tests.{valid-count}
-use Rattle.reading.specs.Fitting.{Str, frame}
-use Rattle.reading.specs.Reading.{Piece, listed, Reading, finished, after}
+use Rattle.fitting.specs.Fitting.{Str, frame}
+use Rattle.fitting.specs.Reading.{Piece, listed, Reading, finished, after}
 use Rattle.reading.specs.Words.{Word, word, inName, phonesOr, readWord, frameOf, wordAt, WordOf}
 use Rattle.reading.specs.Places.{placeIn, piecesAt, pieceAt, Within, readingOf, EndsBy, Placed, partAt, partsAt, PartIn, PartsIn, frameSize, FoundFor, PartsSoFar, ReadOn, endedIn}
 use Rattle.reading.specs.declared.Reached.{Reached}
@@ -27,7 +27,7 @@ use Rattle.reading.specs.declared.Reached.the-variants.{Rules, Uncovered
 use Rattle.reading.proofs.Plain.{not-rules, not-rules-16}
 use Rattle.reading.proofs.NameWords.{word-long, word-frame, frame-length}
 use Rattle.reading.proofs.FoundWord.{state-most}
-use Rattle.reading.proofs.Strings.{frame-long}
+use Rattle.fitting.proofs.Strings.{frame-long}
 
 -- ---- the frame of a word, a part of the name's
 

@@ -7,8 +7,8 @@ use mathlib.Core.List.{List, [], _∷_, _++_, map}
 use lib.Dec.{eqb, leb}
 use lib.ListN.{length, getD, drop}
 use Rattle.rules.specs.Limits.{separator}
-use Rattle.reading.specs.Fitting.{Str}
-use Rattle.reading.specs.Reading.{listed, Reading, finished, uncovered, badTables, after}
+use Rattle.fitting.specs.Fitting.{Str}
+use Rattle.fitting.specs.Reading.{listed, Reading, finished, uncovered, badTables, after}
 
 -- ---- the words of a name
 

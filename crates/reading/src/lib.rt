@@ -1,10 +1,9 @@
 // The plain reading of a name, word by word: at each reached letter the first rule in order that fits (document 01, "Letters, rules, fitting").
-pub mod choice;
 pub mod delivery;
 pub mod words;
 
-use choice::Fit;
 use delivery::Listed;
+use fitting::Fit;
 use rules::Answer;
 use rules::Refusal;
 ghost use mathlib.Core.Path.{_≡_};
@@ -16,7 +15,7 @@ ghost use Rattle.rules.specs.Names.{SoundName};
 ghost use Rattle.exceptions.specs.Layout.{wordsOf, phonesFor};
 ghost use Rattle.exceptions.specs.Judging.{isList, listingOf, noList, saysOf};
 ghost use Rattle.image.specs.Image.{entriesOf, classesOf, valid};
-ghost use Rattle.reading.specs.Reading.{firstFit, plain};
+ghost use Rattle.fitting.specs.Reading.{firstFit, plain};
 ghost use Rattle.reading.specs.Words.{word, readWord, frameOf, wordAt, WordOf};
 ghost use Rattle.reading.specs.Speech.{toldOf, saying, answered, listedOr, delivered, plainWords, plainSaid};
 ghost use Rattle.reading.specs.Places.{ReadBy, Unsaid, frameSize, partsAt, PartsSoFar, ReadOn};
@@ -55,13 +54,13 @@ fn read_letters(image: &[u8], frame: &[u8], parts: &mut [u32]) -> Reached
     let mut k = 0;
     let mut i = 1;
     while i <= n {
-        let fit = choice::first_fit(image, count, frame, i);
+        let fit = fitting::first_fit(image, count, frame, i);
         let Fit::Rule(place, fitting) = fit else {
             return Reached::Uncovered(i);
         };
         parts[k] = delivery::part_of(place, fitting);
         k += 1;
-        i += choice::target_len_at(image, place);
+        i += fitting::target_len_at(image, place);
     }
     Reached::Rules(k)
 }

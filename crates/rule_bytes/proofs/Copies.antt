@@ -1,17 +1,27 @@
 -- Bytes that were stored in lent memory from a place on: all of it, as much of it as there was room for, or one field of a rule after the other.
 -- Assumes nothing.
-use Prim.Native.Nat.{ℕ, zero, suc, _+_, _≤_, _<_}
+use Prim.Native.Nat.{ℕ, zero, suc, _+_, _-_, _≤_, _<_}
 use mathlib.Core.Path.{_≡_, refl, sym, ap, _∙_}
 use mathlib.Core.List.{List, [], _∷_, _++_, append-assoc}
 use native.Mathlib.Omega.{arith}
 use native.Mathlib.Numerals.{add-one}
-use lib.ListN.{length, getD, take, set, replicate, length-append}
-use lib.Seq.{paste, paste-suc, length-paste, take-all}
+use lib.ListN.{length, getD, take, drop, set, replicate, length-append}
+use lib.Seq.{paste, paste-suc, length-paste, length-paste-head, getD-drop, getD-append-add, take-all}
 use Rattle.rules.specs.Memory.{over, overAt}
 use Rattle.rules.specs.Shape.{first}
 use Rattle.rules.specs.declared.Rule.{Rule}
 use Rattle.rules.proofs.Memory.{over-pasted, over-both}
 use Rattle.rule_bytes.specs.RuleBytes.{leftStart, lengthBytes, ruleBytes}
+
+-- past what is copied the list is as it was
+pub paste-past : (d : List ℕ) (at : ℕ) (t : List ℕ) (n k : ℕ) → at ≤ length d → n ≤ length t → at + n ≤ k → getD (paste d at t n) k 0 ≡ getD d k 0
+paste-past d at t n k hd ht h =
+    let l : length (take at d ++ take n t) ≡ at + n = length-paste-head d at t n hd ht in
+    let e : length (take at d ++ take n t) + (k - (at + n)) ≡ k = omega arith in
+    let f : at + n + (k - (at + n)) ≡ k = omega arith in
+    ap (λ (i : ℕ). getD (paste d at t n) i 0) (sym e)
+    ∙ (getD-append-add (take at d ++ take n t) (drop (at + n) d) (k - (at + n)) 0
+    ∙ (getD-drop (at + n) d (k - (at + n)) 0 ∙ ap (λ (i : ℕ). getD d i 0) f))
 
 -- a copy leaves the length
 pub same-by : (d s : List ℕ) (at : ℕ) (t : List ℕ) (n : ℕ) → s ≡ paste d at t n → at + n ≤ length d → n ≤ length t → length s ≡ length d

@@ -13,7 +13,7 @@ ghost use Rattle.image.specs.Image.{valid};
 // A refusal's line.
 fn print_refusal(x: Refusal) {
     let mut out = [0u8; 15];
-    transcript::refusal_line(x, &mut out);
+    lines::refusal_line(x, &mut out);
     io::write_all(STDOUT_FILENO, &out);
 }
 

@@ -10,7 +10,7 @@ use lib.Bits.{bitOr}
 use lib.ListN.{length, getD, take, drop, length-append, length-take, length-drop, List·getD-append}
 use lib.Seq.{take-all, ext-getD, getD-append-add, getD-drop}
 use Rattle.rules.specs.Memory.{over}
-use Rattle.reading.specs.Fitting.{Str}
+use Rattle.fitting.specs.Fitting.{Str}
 use Rattle.tables.specs.States.{states, member, index, longest, numbered}
 use Rattle.tables.proofs.Trie.{failure}
 use Rattle.tables.specs.Words.{tab, rowSize, setSize}

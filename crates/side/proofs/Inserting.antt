@@ -14,7 +14,7 @@ use lib.Seq.{append-snoc, take-suc, take-all, getD-take, getD-drop}
 use borrow.Author.Tests.{eqb-false}
 use Rattle.tables.specs.Words.{rowSize}
 use Rattle.rules.proofs.Cases.{byBool}
-use Rattle.reading.specs.Fitting.{Str}
+use Rattle.fitting.specs.Fitting.{Str}
 use Rattle.tables.specs.States.{member, index, numberOne, states, numbered, child, rightStates}
 use Rattle.tables.proofs.Trie.{distinct, insert}
 use Rattle.tables.proofs.Truth.{clash, true-eq}

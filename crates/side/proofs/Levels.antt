@@ -11,7 +11,7 @@ use lib.Bits.{bitOr}
 use lib.ListN.{length, getD, length-append}
 use lib.Seq.{append-snoc}
 use Rattle.rules.proofs.Cases.{byBool}
-use Rattle.reading.specs.Fitting.{Str, same, ends}
+use Rattle.fitting.specs.Fitting.{Str, same, ends}
 use Rattle.tables.specs.States.{longest, member, index, states, numbered, entry, child}
 use Rattle.tables.proofs.Trie.{failure}
 use Rattle.tables.proofs.Suffix.{same-refl, Closed, longest-passes}

@@ -15,7 +15,7 @@ use lib.Seq.{take-suc}
 use borrow.Author.Tests.{eqb-false, ne-eqb, eq-eqb}
 use Rattle.rules.specs.Limits.{maxRules}
 use Rattle.rules.proofs.Cases.{byBool}
-use Rattle.reading.specs.Fitting.{Str, same}
+use Rattle.fitting.specs.Fitting.{Str, same}
 use Rattle.tables.specs.States.{member, index, states}
 use Rattle.tables.proofs.Truth.{true-eq}
 use Rattle.tables.proofs.Suffix.{same-refl, same-eq}

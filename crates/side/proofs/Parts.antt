@@ -8,7 +8,7 @@ use mathlib.Core.List.{List, [], _∷_, _++_, tail}
 use lib.ListN.{length, getD, take, drop, List·getD-append}
 use lib.Seq.{drop-cons, getD-at}
 use Rattle.tables.specs.Words.{rowSize}
-use Rattle.reading.specs.Fitting.{Str}
+use Rattle.fitting.specs.Fitting.{Str}
 use Rattle.tables.proofs.Symbols.{Small}
 use Rattle.rules.specs.Limits.{maxPattern}
 use Rattle.side.specs.Patterns.{patternAt, patternsOf, Patterns}

@@ -11,7 +11,7 @@ use lib.Dec.{eqb, eqb→eq, eqb-refl}
 use lib.ListN.{length, getD, take, drop, length-take, take-append-drop}
 use lib.Seq.{take-suc, getD-take}
 use Rattle.rules.proofs.Cases.{byBool}
-use Rattle.reading.specs.Fitting.{Str, same, starts}
+use Rattle.fitting.specs.Fitting.{Str, same, starts}
 use Rattle.tables.specs.States.{member, index, numberAll, prefixes, allPrefixes, states}
 use Rattle.tables.proofs.Trie.{startsAny}
 use Rattle.tables.proofs.Truth.{clash, true-eq, eq-true, and-left, and-right}

@@ -14,7 +14,7 @@ use lib.Seq.{getD-take}
 use borrow.Author.Tests.{eqb-false}
 use Rattle.tables.specs.Words.{rowSize, setSize}
 use Rattle.rules.proofs.Cases.{byBool}
-use Rattle.reading.specs.Fitting.{Str}
+use Rattle.fitting.specs.Fitting.{Str}
 use Rattle.tables.specs.States.{longest, member, index, states, numbered, entry, child}
 use Rattle.tables.proofs.Trie.{failure}
 use Rattle.tables.proofs.Truth.{true-eq}

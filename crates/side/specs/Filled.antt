@@ -6,7 +6,7 @@ use Prim.Native.Nat.{ℕ, zero, suc, _+_, _*_, _/_, _%_, _≤_, _<_}
 use mathlib.Core.Bool.{Bool, false}
 use mathlib.Core.List.{List, [], _∷_}
 use lib.ListN.{length, getD, take}
-use Rattle.reading.specs.Fitting.{Str, same, ends}
+use Rattle.fitting.specs.Fitting.{Str, same, ends}
 use Rattle.tables.specs.States.{states, entry, index, child}
 use Rattle.tables.specs.Words.{pack, tab, rowSize, setSize}
 use Rattle.side.specs.Wrote.{Wrote}

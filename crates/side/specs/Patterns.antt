@@ -5,7 +5,7 @@ use mathlib.Core.List.{List, [], _∷_, _++_}
 use lib.ListN.{length, getD, take, drop}
 use Rattle.rules.specs.Limits.{maxRules, maxPattern}
 use Rattle.tables.specs.Words.{rowSize}
-use Rattle.reading.specs.Fitting.{Str}
+use Rattle.fitting.specs.Fitting.{Str}
 use Rattle.tables.specs.States.{states}
 
 abbrev pub patternAt : List ℕ → List ℕ → ℕ → Str

@@ -9,7 +9,7 @@ use lib.Dec.{eqb}
 use lib.ListN.{length, getD, take, drop}
 use lib.Bits.{bitOr}
 use Rattle.tables.specs.Words.{rowSize, setSize}
-use Rattle.reading.specs.Fitting.{Str}
+use Rattle.fitting.specs.Fitting.{Str}
 use Rattle.tables.specs.States.{states, child}
 use Rattle.side.specs.Patterns.{patternsOf}
 use Rattle.side.specs.Wrote.{Past}

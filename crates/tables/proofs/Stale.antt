@@ -10,7 +10,7 @@ use Rattle.rules.specs.Refusals.{accepted, declined}
 use Rattle.rules.specs.Shape.{Entry}
 use Rattle.exceptions.specs.Judging.{Listing}
 use Rattle.image.specs.Image.{valid, editsOf, literalsOf}
-use Rattle.reading.specs.Fitting.{Str}
+use Rattle.fitting.specs.Fitting.{Str}
 use Rattle.reading.specs.Words.{Word, wordsIn, unlisted}
 use Rattle.reading.specs.Speech.{Outcome, atOnce, saidOf, Unlisted}
 use Rattle.reading.proofs.Call.{call-unlisted}

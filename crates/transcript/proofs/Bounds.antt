@@ -12,10 +12,11 @@ use Rattle.exceptions.specs.Judging.{noList}
 use Rattle.frames.specs.Lines.{pastLine, lineAfter, soundLine}
 use Rattle.reading.specs.Speech.{Told, spoken, refused}
 use Rattle.tables.specs.Walk.{walkSaid}
-use Rattle.transcript.specs.Answers.{longestLine, spokenBody, refusedBody, printed, toldBody}
+use Rattle.lines.specs.Printed.{refusedBody, printed}
+use Rattle.transcript.specs.Answers.{longestLine, spokenBody, toldBody}
 use Rattle.transcript.specs.Names.{Asked, unsound, name, asked, lentPhones, lentNumbers, nameLine, answerTo, nameAnswer, ToldWithin}
 use Rattle.transcript.proofs.Fields.{length-spoken}
-use Rattle.transcript.proofs.Printed.{length-printed}
+use Rattle.lines.proofs.Printed.{length-printed}
 use Rattle.transcript.proofs.Spoken.{walk-within}
 
 past-within : (s : List ℕ) → length (pastLine s) ≤ length s

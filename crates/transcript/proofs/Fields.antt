@@ -1,15 +1,13 @@
 -- The bytes of what was spoken, counted.
 -- Assumes nothing.
 use Prim.Native.Nat.{ℕ, _+_, _*_, _%_}
-use mathlib.Core.Path.{_≡_, refl}
+use mathlib.Core.Path.{_≡_}
 use mathlib.Core.List.{List, [], _∷_, _++_}
 use native.Mathlib.Omega.{arith}
 use lib.ListN.{length, length-append}
-use Rattle.transcript.specs.Answers.{twos, spokenFront, spokenBody}
-
-pub length-twos : (l : List ℕ) → length (twos l) ≡ 2 * length l
-length-twos [] = refl
-length-twos (n ∷ l) = omega (arith, length-twos l)
+use Rattle.lines.specs.Printed.{twos}
+use Rattle.lines.proofs.Printed.{length-twos}
+use Rattle.transcript.specs.Answers.{spokenFront, spokenBody}
 
 pub length-spoken : (steps : ℕ) (phones numbers : List ℕ) → length (spokenBody steps phones numbers) ≡ 6 + length phones + 2 * length numbers
 unfolding spokenBody

@@ -1,5 +1,4 @@
 pub mod Fields
-pub mod Printed
 pub mod NameLine
 pub mod Spoken
 pub mod Bounds

@@ -24,8 +24,9 @@ use Rattle.reading.proofs.Call.{call-refused}
 use Rattle.reading.proofs.Counted.{contested-most}
 use Rattle.tables.specs.Words.{compiledFrom}
 use Rattle.tables.specs.Walk.{Walked, walkedAs, walkThrough, walkFor, walkSaid}
-use Rattle.transcript.specs.Answers.{spokenBody, refusedBody, printed, refusalLine, toldBody, walkedLine}
-use Rattle.transcript.proofs.Printed.{length-printed}
+use Rattle.lines.specs.Printed.{refusedBody, printed, refusalLine}
+use Rattle.transcript.specs.Answers.{spokenBody, toldBody, walkedLine}
+use Rattle.lines.proofs.Printed.{length-printed}
 use Rattle.transcript.specs.Names.{Asked, unsound, name, lentPhones, lentNumbers, nameLine, asked, answerTo, nameAnswer, cut, nameIn, ToldWithin}
 
 pub delivered-within : (o : Outcome) (phones numbers : List ℕ) → ToldWithin (delivered o phones numbers .told) (length phones) (length numbers)

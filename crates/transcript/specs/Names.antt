@@ -10,7 +10,8 @@ use Rattle.frames.specs.Lines.{Parsed, soundLine}
 use Rattle.frames.specs.Lines.Parsed.{Bad, Good}
 use Rattle.reading.specs.Speech.{Told, spoken, refused}
 use Rattle.tables.specs.Walk.{walkSaid}
-use Rattle.transcript.specs.Answers.{refusedBody, printed, walkedLine}
+use Rattle.lines.specs.Printed.{refusedBody, printed}
+use Rattle.transcript.specs.Answers.{walkedLine}
 
 -- what a line asks for: the speech of a name, or nothing that can be spoken
 pub data Asked : Type 0 where

@@ -14,41 +14,14 @@ ghost use Rattle.frames.specs.Lines.{soundLine, lineAfter};
 ghost use Rattle.frames.specs.Output.{output, Sent};
 ghost use Rattle.reading.specs.Speech.{toldOf};
 ghost use Rattle.image.specs.Image.{valid};
-ghost use Rattle.transcript.specs.Answers.{longestLine, twos, spokenFront, spokenBody, printed, refusalLine, toldBody};
+ghost use Rattle.lines.specs.Printed.{twos, printed, refusalLine};
+ghost use Rattle.transcript.specs.Answers.{longestLine, spokenFront, spokenBody, toldBody};
 ghost use Rattle.transcript.specs.Names.{asked, nameLine, nameAnswer, cut, nameIn, ToldWithin};
 
 // ---- answers
 
 // No line that is printed for a name has more bytes, its 0A included.
 pub const LONGEST_LINE: usize = 783;
-
-// The line of a refusal, and its length.
-pub fn refusal_line(x: Refusal, out: &mut [u8]) -> usize
-    requires { ⌜ 15 ≤ length (now out) ⌝ }
-    ensures len { λ r. ⌜ r ≡ 15 ⌝ }
-    ensures bytes { λ _. ⌜ now (out .exit) ≡ over (refusalLine x) (now (out .entry)) ⌝ }
-{
-    let start = writer::begin(0);
-    let kind = writer::put(&mut *out, start, 5);
-    let number = writer::put(&mut *out, kind, rules::refusal_number(x));
-    let place = writer::put_four(&mut *out, number, rules::refusal_place(x));
-    writer::end(out, place)
-}
-
-// Rule numbers, two bytes each.
-pub fn put_numbers(out: &mut [u8], w: Writer, numbers: &[u16]) -> Writer
-    requires { ⌜ w .at + 4 * length (now numbers) ≤ length (now out) ⌝ }
-    ensures next { λ r. ⌜ r .at ≡ w .at + 4 * length (now (numbers .entry)) ⌝ }
-    ensures sent { λ r. ⌜ Sent (twos (now (numbers .entry))) (output w (now (out .entry))) (output r (now (out .exit))) ⌝ }
-{
-    let mut next = w;
-    let mut k: usize = 0;
-    while k < numbers.len() {
-        next = writer::put_two(&mut *out, next, numbers::wide16(numbers[k]));
-        k += 1;
-    }
-    next
-}
 
 // 04, the steps and the phone count.
 fn put_front(out: &mut [u8], w: Writer, steps: usize, count: usize) -> Writer
@@ -70,7 +43,7 @@ fn put_spoken(out: &mut [u8], w: Writer, steps: usize, phones: &[u8], numbers: &
     let front = put_front(&mut *out, w, steps, phones.len());
     let said = writer::put_all(&mut *out, front, phones);
     let count = writer::put(&mut *out, said, numbers::low(numbers.len()));
-    put_numbers(out, count, numbers)
+    lines::put_numbers(out, count, numbers)
 }
 
 // The line of what was spoken, and its length.
@@ -97,7 +70,7 @@ pub fn answer_line(answer: WalkAnswer, phones: &[u8], numbers: &[u16], out: &mut
             numbers: n,
             contested: _,
         } => { spoken_line(answer.steps, &phones[..p], &numbers[..n], out) }
-        Speech::Refused(x) => refusal_line(x, out),
+        Speech::Refused(x) => lines::refusal_line(x, out),
     }
 }
 
@@ -160,7 +133,7 @@ pub fn answer_name<'a>(
     let mut frame = [0u8; 67];
     let end = name_in(text, at, &mut frame);
     if end == 0 {
-        let len = refusal_line(Refusal::BadLine(0), out);
+        let len = lines::refusal_line(Refusal::BadLine(0), out);
         return Answered { next, len };
     }
     let len = speak(image, words, sets, &frame[1..end], out);

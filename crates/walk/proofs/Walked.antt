@@ -15,8 +15,8 @@ use Rattle.rules.specs.Names.{SoundName}
 use Rattle.exceptions.specs.Judging.{saysOf}
 use Rattle.rules.specs.Refusals.{Reply, accepted, declined}
 use Rattle.image.specs.Image.{editsOf, literalsOf}
-use Rattle.reading.specs.Fitting.{Str, frame, fits}
-use Rattle.reading.specs.Reading.{Choice, chosen, nothing, unusable, applied, Reading, cons, past, onward, readFrom}
+use Rattle.fitting.specs.Fitting.{Str, frame, fits}
+use Rattle.fitting.specs.Reading.{Choice, chosen, nothing, unusable, applied, Reading, cons, past, onward, readFrom}
 use Rattle.reading.specs.Words.{Word, wordsIn, readWords, unlisted, wordAt}
 use Rattle.reading.specs.Speech.{Outcome, atOnce, stepsOf, answered, judgedBy, Said, delivered, saying, toldOf}
 use Rattle.reading.specs.Places.{frameSize, partsReading, Parted}
@@ -29,7 +29,7 @@ use Rattle.tables.specs.Walk.{Step as State, step, pass, from, allBelow, lookup
 use Rattle.tables.proofs.SetWords.{choice-tables, shared-tables}
 use Rattle.tables.proofs.Theorem.{delivered-steps}
 use Rattle.passes.specs.Passes.{rowsAt, Passed, leftRowsOf, rightRowsOf, Memory, passable, stepsOn, AllPassed}
-use Rattle.walk.specs.Letters.{lowestShared, countShared, choiceBy, choicesBy, Held, Tells, NameRead}
+use Rattle.table_reading.specs.Letters.{lowestShared, countShared, choiceBy, choicesBy, Held, Tells, NameRead}
 use Rattle.walk.specs.Walked.{walkedOf, compiledWith, stepsWith, Fit, verdict, FitsAs}
 use Rattle.passes.specs.declared.Pass.{Pass}
 use Rattle.walk.specs.declared.WalkAnswer.{WalkAnswer}

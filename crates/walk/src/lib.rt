@@ -1,6 +1,5 @@
 // The walk of a name through lent tables (document 01, "The walk", and refusal 16; document 02, refusal 22): the covered part that the compiled ruleset is taken
 // apart for.
-mod letters;
 
 use reading::Reached;
 use reading::Speech;
@@ -95,7 +94,7 @@ fn walk_frame<'a>(
         return at_once(Refusal::BadTables(0));
     }
     let mut parts = [0u32; reading::MAX_FRAME];
-    let reached = letters::read_words(
+    let reached = table_reading::read_words(
         sets,
         right_base(fit, left_states),
         image,

@@ -7,6 +7,7 @@ use crate::random::Random;
 use crate::reference::classes::SYMBOLS;
 use crate::reference::file::{self, line};
 use crate::reference::image::{decode, HEAD, IMAGE, LITERALS, MASKS, TOTAL};
+use crate::reference::rule::CONTEXT;
 use crate::reference::{refuse, ACCEPTED};
 use crate::tally::Tally;
 
@@ -147,7 +148,7 @@ fn orders(tally: &mut Tally, random: &mut Random) {
     for p in [0, 1, usize::MAX] {
         let code = if p > 0 { 7 } else { 21 };
         edited.add([&[V, V], &[K], &[], &[]], p, code);
-        edited.add([&[V; 6], &[K], &[V; 6], &[]], p, code);
+        edited.add([&[V; CONTEXT], &[K], &[V; CONTEXT], &[]], p, code);
     }
     // One rule of 32 literal ones and `last` 65,535: 21 comes before 10.
     let text = [
@@ -232,7 +233,7 @@ fn limit(tally: &mut Tally, random: &mut Random) {
         edited.add([&[V, V], &[K], &[], &[]], 0, 21);
         edited.add([&[V], &[K], &[], &[]], 5, ACCEPTED);
         edited.add(ALONE, 0, 21);
-        let mut out = Lent::any(31_535, edited.random);
+        let mut out = Lent::any(file::LONGEST, edited.random);
         lent::write_file(edited.tally, &edited.image, &mut out);
         lent::read_file(edited.tally, &out, &mut Lent::any(IMAGE, edited.random));
         lent::build(edited.tally, &edited.image, &mut Compiled::any(10_000, 1_000, edited.random));

@@ -7,9 +7,9 @@ use crate::random::Random;
 use crate::reference::classes::SYMBOLS;
 use crate::reference::file;
 use crate::reference::image::{edits, last, put, IMAGE, SLOT};
-use crate::reference::rule::Rule;
+use crate::reference::rule::{Rule, CONTEXT, PHONES, TARGET};
 use crate::reference::ruleset::Ruleset;
-use crate::reference::tables::{sets_needed, words_needed};
+use crate::reference::tables::{sets_needed, words_needed, MOST_LEFT, MOST_RIGHT};
 use crate::tally::Tally;
 
 pub fn extremes(tally: &mut Tally, random: &mut Random) {
@@ -22,12 +22,14 @@ pub fn extremes(tally: &mut Tally, random: &mut Random) {
 }
 
 /// 512 rules of full length whose patterns share no more than they must. There are only 63 first symbols,
-/// so this is the most: the paper's bounds 3,073 and 5,121 hold, but no ruleset reaches them.
+/// so this is the most: the paper's bounds on the states hold, but no ruleset reaches them.
 fn greatest(tally: &mut Tally, random: &mut Random) {
+    let inner: Vec<u8> = (1..CONTEXT as u8 - 1).collect();
     let rules = (0..512).map(|k| {
         let (first, second) = ((k % 63) as u8, 1 + (k / 63) as u8);
-        let (left, right) = ([first, second, 1, 2, 3, 4], [1, 2, 3, 4, second, first]);
-        let rule = Rule::new([&left, &[5, 6, 7, 0x3E], &right, &[255; 4]]);
+        let left = [&[first, second], &inner[..]].concat();
+        let right = [&inner[..], &[second, first]].concat();
+        let rule = Rule::new([&left, &[5, 6, 7, 0x3E], &right, &[255; PHONES]]);
         (65_535 - k, rule.expect("the parts are short enough"))
     });
     let mut set = Ruleset { last: 65_535, rules: rules.collect(), ..Ruleset::default() };
@@ -35,17 +37,18 @@ fn greatest(tally: &mut Tally, random: &mut Random) {
         set.classes.set(symbol, &(first..first + 32).collect::<Vec<u8>>());
     }
     let text = file::write(&set);
-    tally.equal("the longest file", text.len(), 31_535);
+    tally.equal("the longest file", text.len(), file::LONGEST);
 
-    let (left, right) = (1 + 63 + 512 * 5, 1 + 63 + 512 * 9);
+    let (left, right) = (1 + 63 + 512 * (CONTEXT - 1), 1 + 63 + 512 * (CONTEXT + TARGET - 1));
     let (words, sets) = (words_needed(left, right), sets_needed(left, right));
     let loaded = Loaded::new(tally, &text, words, sets, random);
     tally.equal("L and R", loaded.compiled.words.contents()[2..4].to_vec(), vec![left as u16, right as u16]);
     Loaded::new(tally, &text, words - 1, sets, random);
     Loaded::new(tally, &text, words, sets - 1, random);
-    // As much as the header says to lend at most.
-    Loaded::new(tally, &text, 524_420, 65_552, random);
-    for room in [31_534, 31_535, 31_536] {
+    // As much as is ever to be lent.
+    let (words, sets) = (words_needed(MOST_LEFT, MOST_RIGHT), sets_needed(MOST_LEFT, MOST_RIGHT));
+    Loaded::new(tally, &text, words, sets, random);
+    for room in [file::LONGEST - 1, file::LONGEST, file::LONGEST + 1] {
         lent::write_file(tally, &loaded.image, &mut Lent::any(room, random));
     }
     let mut longer = text.clone();
@@ -62,7 +65,7 @@ fn too_many(tally: &mut Tally, random: &mut Random) {
         put(&Ruleset { last: count, rules, ..Ruleset::default() }, &mut image);
         let mut image = Lent::new(&image, random);
         lent::check(tally, &image);
-        lent::write_file(tally, &image, &mut Lent::any(31_535, random));
+        lent::write_file(tally, &image, &mut Lent::any(file::LONGEST, random));
         lent::shift(tally, &mut image, count, 0);
         lent::drop(tally, &mut image, count);
     }

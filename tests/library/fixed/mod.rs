@@ -2,7 +2,9 @@
 
 mod classes;
 mod contested;
+mod contexts;
 mod extremes;
+mod header;
 mod lists;
 mod paper;
 mod refusals;
@@ -22,7 +24,8 @@ type Case = fn(&mut Tally, &mut Random);
 
 pub fn fixed(tally: &mut Tally) {
     let random = &mut Random::new(1);
-    let cases: [(&str, Case); 10] = [
+    let cases: [(&str, Case); 12] = [
+        ("the header's sizes", header::header),
         ("the paper's marks", paper::paper),
         ("the paper's refusals", refusals::refusals),
         ("the paper's ways to be wrong", wrong::wrong),
@@ -32,6 +35,7 @@ pub fn fixed(tally: &mut Tally) {
         ("contested letters", contested::contested),
         ("letter classes", classes::classes),
         ("tables from before an edit", stale::stale),
+        ("contexts of four", contexts::contexts),
         ("threads", threads::threads),
     ];
     for (subject, case) in cases {

@@ -5,7 +5,8 @@ use super::{letters, Loaded, Spoken, SIX_RULES, SIX_SETS, SIX_WORDS};
 use crate::lent::{self, Compiled, Lent, Room};
 use crate::random::Random;
 use crate::reference::file::line;
-use crate::reference::image::{last, HEAD, IMAGE, SLOT};
+use crate::reference::image::{last, HEAD, IMAGE, NUMBER, SLOT};
+use crate::reference::rule::{RULE, STARTS};
 use crate::tally::Tally;
 
 pub fn wrong(tally: &mut Tally, random: &mut Random) {
@@ -41,8 +42,8 @@ fn ends_inside(tally: &mut Tally, random: &mut Random) {
 fn last_after_drop(tally: &mut Tally, random: &mut Random) {
     let mut image = Lent::any(IMAGE, random);
     lent::clear(tally, &mut image);
-    let mut rule = [0; 24];
-    (rule[1], rule[10]) = (1, 5);
+    let mut rule = [0; RULE];
+    (rule[1], rule[STARTS[1]]) = (1, 5);
     let rule = Lent::new(&rule, random);
     lent::add(tally, &mut image, &rule, 0);
     lent::drop(tally, &mut image, 1);
@@ -70,7 +71,8 @@ fn words_decide(tally: &mut Tally, random: &mut Random) {
 /// targets of rules 2 and 4.
 fn name_inside_image(tally: &mut Tally, random: &mut Random) {
     let six = Loaded::new(tally, SIX_RULES, SIX_WORDS, SIX_SETS, random);
-    for start in [0, HEAD + SLOT + 12, HEAD + SLOT * 3 + 12] {
+    let target = |place: usize| HEAD + SLOT * place + NUMBER + STARTS[1];
+    for start in [0, target(1), target(3)] {
         for length in [0, 1, 2, 70] {
             let mut room = Room::any(256, 64, random);
             lent::read_own_bytes(tally, &six.image, &six.list, start, length, &mut room);

@@ -17,6 +17,7 @@ pub use names::{read_name, read_own_bytes, speak, speak_many, Heard, Room};
 pub use tables::{build, Compiled};
 
 use crate::reference::{Answer, ACCEPTED};
+use std::ffi::CStr;
 
 /// What stands in the numbers that a call gives before it is made: "written in every case".
 const UNWRITTEN: usize = 0x5EED_5EED;
@@ -27,6 +28,11 @@ fn code_and_place(answer: &Answer<usize>) -> (u8, usize) {
         Ok(given) => (ACCEPTED, *given),
         Err(refused) => (refused.number, refused.place),
     }
+}
+
+/// A size of the header, by its name without PIRROZKETA_, as a C compiler reads it; the highest number for another name.
+pub fn header_size(name: &CStr) -> usize {
+    unsafe { binding::header_size(name.as_ptr()) }
 }
 
 /// The codes that the header names with each call, in rising order.

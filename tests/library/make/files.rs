@@ -1,7 +1,9 @@
 //! Rule files, damaged as text and as frames whose sums still hold.
 
+use super::rules::SOME_LENGTHS;
 use crate::random::Random;
 use crate::reference::file::{frame, line};
+use crate::reference::rule::{CONTEXT, MOST};
 
 /// Damaged in one way; it may still be a rule file, for the reference judges it.
 pub fn damaged(file: &[u8], random: &mut Random) -> Vec<u8> {
@@ -71,7 +73,7 @@ fn damaged_frame(file: &[u8], random: &mut Random) -> Vec<u8> {
     let at = if random.one_in(4) { 0 } else { random.below(lines.len()) };
     lines[at] = reframed(&lines[at], |bytes| {
         let place = random.below(bytes.len());
-        match random.below(11) {
+        match random.below(12) {
             0 => bytes[place] = random.pick(&[0, 1, 2, 4, 5, 6, 7, 0x3F, 0x40, 255]),
             1 => bytes[place] = bytes[place].wrapping_add(1),
             2 => bytes[place] = bytes[place].wrapping_sub(1),
@@ -85,10 +87,11 @@ fn damaged_frame(file: &[u8], random: &mut Random) -> Vec<u8> {
                 bytes.extend(random.bytes(more));
             }
             9 => *bytes = long_parts(bytes, random),
+            10 => long_context(bytes, random),
             _ => {
                 // The lengths of a rule line, or a head's count and `last`.
                 let field = random.within(2, 6).min(bytes.len() - 1);
-                bytes[field] = random.pick(&[0, 1, 2, 4, 5, 7, 255]);
+                bytes[field] = random.pick(&SOME_LENGTHS);
             }
         }
     });
@@ -132,11 +135,29 @@ fn damaged_classes(file: &[u8], random: &mut Random) -> Vec<u8> {
 
 /// A rule line whose lengths agree with its bytes, within the shape or just past it.
 fn long_parts(bytes: &[u8], random: &mut Random) -> Vec<u8> {
-    let lengths = [6, 4, 6, 4].map(|most| random.within(0, most + 1));
+    let lengths = MOST.map(|most| random.within(0, most + 1));
     let mut longer = bytes[..3].to_vec();
     longer.extend(lengths.map(|length| length as u8));
     longer.extend((0..lengths.iter().sum()).map(|_| random.within(1, 0x3F) as u8));
     longer
+}
+
+/// A rule line with more symbols put into one of its contexts, inside of a # at its outer end: up to the limit, one or
+/// two past it, or many. Its lengths agree with its bytes.
+fn long_context(bytes: &mut Vec<u8>, random: &mut Random) {
+    let [2, _, _, left, target, right, ..] = bytes[..] else {
+        return;
+    };
+    let (field, length, inner) = match random.below(2) {
+        0 => (3, left, 7 + left as usize),
+        _ => (5, right, 7 + left as usize + target as usize),
+    };
+    let wanted = random.pick(&[CONTEXT, CONTEXT + 1, CONTEXT + 1, CONTEXT + 1, CONTEXT + 2, 200]);
+    if (length as usize) < wanted && inner <= bytes.len() {
+        let more = vec![random.within(1, 0x3E) as u8; wanted - length as usize];
+        bytes.splice(inner..inner, more);
+        bytes[field] = wanted as u8;
+    }
 }
 
 fn lines(file: &[u8]) -> Vec<Vec<u8>> {

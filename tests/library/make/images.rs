@@ -1,10 +1,10 @@
 //! Rulesets as memory: sound, damaged, or anything.
 
-use super::rules::edits;
+use super::rules::{edits, too_long, SOME_LENGTHS};
 use crate::random::Random;
 use crate::reference::classes::CLASSES;
-use crate::reference::image::{put, EDITS, HEAD, IMAGE, LITERAL, LITERALS, MASK, MASKS, SLOT, TOTAL};
-use crate::reference::rule::SPACE;
+use crate::reference::image::{put, EDITS, HEAD, IMAGE, LITERAL, LITERALS, MASK, MASKS, NUMBER, SLOT, TOTAL};
+use crate::reference::rule::{LENGTHS, RULE, SPACE};
 use crate::reference::ruleset::Ruleset;
 
 /// A sound image. What lies past its rules, past its literal rules and past its length may be anything.
@@ -21,22 +21,24 @@ pub fn damaged(set: &Ruleset, random: &mut Random) -> Vec<u8> {
     let held = set.rules.len();
     let used = HEAD + SLOT * held;
     let slot = HEAD + SLOT * random.below(held.max(1));
-    match random.below(19) {
+    let rule = slot + NUMBER;
+    match random.below(20) {
         0 => flip(&mut image[..used], random),
         1 => flip(&mut image[slot..slot + SLOT], random),
         2 => image.truncate(random.pick(&[0, 1, 3, 4, 7, HEAD, used.min(IMAGE - 1), IMAGE - 1])),
         3 => {
             let other = HEAD + SLOT * random.below(held.max(1));
-            image.copy_within(other..other + 2, slot);
+            image.copy_within(other..other + NUMBER, slot);
         }
         4 => put_field(&mut image, slot, set.last.wrapping_add(1)),
         5 => put_field(&mut image, slot, 0),
         6 => put_field(&mut image, 0, random.pick(&[512, 513, 514, 1024, 32_768, 65_535])),
         7 => put_field(&mut image, 0, (held + random.within(1, 3)) as u16),
         8 => put_field(&mut image, 2, random.below(held + 2) as u16),
-        9 => image[slot + 2 + random.below(4)] = random.pick(&[0, 1, 4, 5, 6, 7, 255]),
+        9 => image[rule + random.below(LENGTHS)] = random.pick(&SOME_LENGTHS),
         10 => {
-            image[slot + 6 + random.below(20)] = random.pick(&[0x00, SPACE, SPACE, 0x40, 0x5F, 0x60, 0xFF])
+            let at = rule + random.within(LENGTHS, RULE - 1);
+            image[at] = random.pick(&[0x00, SPACE, SPACE, 0x40, 0x5F, 0x60, 0xFF])
         }
         11 => image = random.bytes(IMAGE),
         12 | 13 => damage_mask(&mut image, random),
@@ -44,6 +46,7 @@ pub fn damaged(set: &Ruleset, random: &mut Random) -> Vec<u8> {
         16 => flip(&mut image[MASKS..], random),
         // Any edit count is one.
         17 => image[EDITS..HEAD].copy_from_slice(&edits(random).to_be_bytes()),
+        18 => too_long(&mut image[rule..rule + RULE], random),
         _ => {
             // A sound count over random rules.
             image = random.bytes(IMAGE);

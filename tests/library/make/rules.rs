@@ -3,9 +3,16 @@
 use super::classes::{classed, some_classes, with_classes};
 use crate::random::Random;
 use crate::reference::classes::Classes;
-use crate::reference::rule::{Rule, SPACE};
+use crate::reference::rule::{Rule, CONTEXT, LENGTHS, PHONES, RULE, SPACE, STARTS, TARGET};
 use crate::reference::ruleset::{Ruleset, MOST_RULES};
 use std::collections::HashSet;
+
+/// Lengths for a part of a rule, at and past its limit: one more, two more, which contexts could have once, and many
+/// more than there is room for.
+pub const SOME_LENGTHS: [u8; 9] = {
+    let context = CONTEXT as u8;
+    [0, 1, 2, context, context + 1, context + 2, context + 3, 200, 255]
+};
 
 /// The letters that a ruleset and its names use.
 pub fn letters(random: &mut Random) -> Vec<u8> {
@@ -21,9 +28,9 @@ pub fn rule(letters: &[u8], earlier: &[(u16, Rule)], random: &mut Random) -> Rul
     if !earlier.is_empty() && random.one_in(10) {
         return random.pick(earlier).1;
     }
-    let mut left = word(letters, 0, 6, random);
-    let mut right = word(letters, 0, 6, random);
-    let mut target = word(letters, 1, 4, random);
+    let mut left = word(letters, 0, CONTEXT, random);
+    let mut right = word(letters, 0, CONTEXT, random);
+    let mut target = word(letters, 1, TARGET, random);
     if !earlier.is_empty() && random.one_in(3) {
         // Patterns that share a prefix or a suffix with an earlier rule's.
         let (_, model) = random.pick(earlier);
@@ -33,15 +40,15 @@ pub fn rule(letters: &[u8], earlier: &[(u16, Rule)], random: &mut Random) -> Rul
             _ => target = model.target().to_vec(),
         }
     }
-    if random.one_in(3) && left.len() < 6 {
+    if random.one_in(3) && left.len() < CONTEXT {
         left.retain(|symbol| *symbol != 0);
         left.insert(0, 0);
     }
-    if random.one_in(3) && right.len() < 6 {
+    if random.one_in(3) && right.len() < CONTEXT {
         right.retain(|symbol| *symbol != 0);
         right.push(0);
     }
-    let phones: Vec<u8> = (0..random.within(0, 4)).map(|_| random.within(1, 255) as u8).collect();
+    let phones: Vec<u8> = (0..random.within(0, PHONES)).map(|_| random.within(1, 255) as u8).collect();
     let sound = Rule::new([&left, &target, &right, &phones]).expect("the parts are short enough");
     if random.one_in(2) {
         return with_filler(sound, random);
@@ -55,9 +62,11 @@ fn word(letters: &[u8], least: usize, most: usize, random: &mut Random) -> Vec<u
     (0..random.within(least, ceiling)).map(|_| random.pick(letters)).collect()
 }
 
-/// A context that differs from this one in its last letter, if at all; # stays where it may stand.
+/// A context that differs from this one in its last letter, if at all; # stays where it may stand. Only a reference
+/// that is wrong on purpose has a longer one than there is room for.
 fn altered(context: &[u8], letters: &[u8], random: &mut Random) -> Vec<u8> {
     let mut altered = context.to_vec();
+    altered.truncate(CONTEXT);
     if let Some(symbol) = altered.last_mut().filter(|symbol| **symbol != 0) {
         *symbol = random.pick(letters);
     }
@@ -65,10 +74,9 @@ fn altered(context: &[u8], letters: &[u8], random: &mut Random) -> Vec<u8> {
 }
 
 fn with_filler(rule: Rule, random: &mut Random) -> Rule {
-    let mut bytes: [u8; 24] = random.bytes(24).try_into().expect("24 bytes");
-    bytes[..4].copy_from_slice(&rule.0[..4]);
-    let parts = [(4, rule.left()), (10, rule.target()), (14, rule.right()), (20, rule.phones())];
-    for (start, part) in parts {
+    let mut bytes: [u8; RULE] = random.bytes(RULE).try_into().expect("as many bytes as a rule has");
+    bytes[..LENGTHS].copy_from_slice(&rule.0[..LENGTHS]);
+    for (start, part) in STARTS.into_iter().zip([rule.left(), rule.target(), rule.right(), rule.phones()]) {
         bytes[start..][..part.len()].copy_from_slice(part);
     }
     Rule(bytes)
@@ -140,29 +148,48 @@ fn numbers(count: usize, random: &mut Random) -> (Vec<u16>, u16) {
     (numbers, last as u16)
 }
 
-/// 24 bytes for this ruleset, half of them with its classes; often of broken shape, by 3F in one of its symbols too,
-/// or with a class that is undefined; sometimes not 24.
+/// The bytes of a rule for this ruleset, half of them with its classes; often of broken shape, by a part that is too
+/// long or 3F in one of its symbols too, or with a class that is undefined; sometimes too few or too many.
 pub fn any_rule(letters: &[u8], set: &Ruleset, random: &mut Random) -> Vec<u8> {
     let mut rule = rule(letters, &set.rules, random);
     if random.one_in(2) {
         rule = with_classes(rule, &set.classes, random);
     }
     let mut bytes = rule.0.to_vec();
-    match random.below(14) {
-        0 => bytes = random.bytes(24),
-        1 => bytes.truncate(random.below(24)),
-        2 => bytes.push(random.byte()),
-        3 => bytes[random.below(4)] = random.pick(&[0, 1, 4, 5, 6, 7, 255]),
-        4 => bytes[random.within(4, 23)] = random.pick(&[0x00, SPACE, 0x40, 0x5F, 0x60, 0xFF]),
-        5 => bytes[random.pick(&[4, 10, 14])] = SPACE,
+    let [left, target, right, _] = STARTS;
+    match random.below(15) {
+        0 => bytes = random.bytes(RULE),
+        1 => bytes.truncate(random.below(RULE)),
+        2 => {
+            // By four bytes too, as when contexts had up to six symbols.
+            let more = random.pick(&[1, 4]);
+            bytes.extend(random.bytes(more));
+        }
+        3 => bytes[random.below(LENGTHS)] = random.pick(&SOME_LENGTHS),
+        4 => bytes[random.within(LENGTHS, RULE - 1)] = random.pick(&[0x00, SPACE, 0x40, 0x5F, 0x60, 0xFF]),
+        5 => bytes[random.pick(&[left, target, right])] = SPACE,
         // As many classes as contexts have room for: mostly too many literal rules.
         6 => {
-            bytes[..4].copy_from_slice(&[6, 1, 6, 0]);
-            bytes[4..10].fill(random.within(0x40, 0x5F) as u8);
-            bytes[14..20].fill(random.pick(&[0x40, 0x5F]));
+            bytes[..LENGTHS].copy_from_slice(&[CONTEXT as u8, 1, CONTEXT as u8, 0]);
+            bytes[left..][..CONTEXT].fill(random.within(0x40, 0x5F) as u8);
+            bytes[right..][..CONTEXT].fill(random.pick(&[0x40, 0x5F]));
         }
-        7 => bytes[random.pick(&[4, 14])] = random.within(0x40, 0x5F) as u8,
+        7 => bytes[random.pick(&[left, right])] = random.within(0x40, 0x5F) as u8,
+        8 => too_long(&mut bytes, random),
         _ => {}
     }
     bytes
+}
+
+/// In the bytes of a rule a context of one symbol too many, or two: it runs on into the next part, and its length is all
+/// that is wrong with it.
+pub fn too_long(bytes: &mut [u8], random: &mut Random) {
+    let part = random.pick(&[0, 2]);
+    let (held, length) = ((bytes[part] as usize).min(CONTEXT), CONTEXT + random.pick(&[1, 1, 2]));
+    let symbols = &mut bytes[STARTS[part]..][..length];
+    if part == 2 {
+        symbols[..held].iter_mut().filter(|symbol| **symbol == 0).for_each(|boundary| *boundary = 1);
+    }
+    symbols[held..].fill(1);
+    bytes[part] = length as u8;
 }

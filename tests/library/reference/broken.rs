@@ -1,6 +1,6 @@
 //! Ways to make the reference wrong on purpose, to see that the trials notice: the paper's "Ways to be
 //! wrong that pass a short trial", two more, and ways to mistake the exceptions list, names of several words,
-//! contested letters, letter classes and the edit count.
+//! contested letters, letter classes, the edit count and the limit of contexts.
 
 use std::sync::OnceLock;
 
@@ -114,9 +114,25 @@ pub enum Break {
     SpentFirst,
     /// After the highest edit count comes 0.
     ComesRound,
+    /// A left context of one symbol too many may be added.
+    LongLeftAdded,
+    /// A right one.
+    LongRightAdded,
+    /// A left context of one symbol too many may stand in a file.
+    LongLeftRead,
+    /// A right one.
+    LongRightRead,
+    /// A left context of one symbol too many may stand in a ruleset handed in.
+    LongLeftHeld,
+    /// A right one.
+    LongRightHeld,
+    /// In a file, # does not count among the symbols of a context.
+    BoundaryUncounted,
+    /// A context has one symbol less than it may have.
+    ShortContexts,
 }
 
-pub const BREAKS: [(&str, Break); 54] = [
+pub const BREAKS: [(&str, Break); 62] = [
     ("early", Break::Early),
     ("longest", Break::Longest),
     ("inside", Break::Inside),
@@ -171,6 +187,14 @@ pub const BREAKS: [(&str, Break); 54] = [
     ("file-counts", Break::FileCounts),
     ("spent-first", Break::SpentFirst),
     ("comes-round", Break::ComesRound),
+    ("long-left-added", Break::LongLeftAdded),
+    ("long-right-added", Break::LongRightAdded),
+    ("long-left-read", Break::LongLeftRead),
+    ("long-right-read", Break::LongRightRead),
+    ("long-left-held", Break::LongLeftHeld),
+    ("long-right-held", Break::LongRightHeld),
+    ("boundary-uncounted", Break::BoundaryUncounted),
+    ("short-contexts", Break::ShortContexts),
 ];
 
 static CHOSEN: OnceLock<Break> = OnceLock::new();

@@ -1,10 +1,22 @@
 //! The rule file: frames of upper-case hexadecimal, one a line.
 
 use super::broken::{broken, Break};
-use super::classes::{sound_class, Classes};
-use super::rule::Rule;
+use super::classes::{sound_class, Classes, CLASSES, MOST_LETTERS};
+use super::rule::{Rule, MOST, RULE};
 use super::ruleset::{Ruleset, MOST_RULES};
 use super::{refuse, Answer};
+
+/// The longest file: the head, all classes with all the letters that one may have, and rules whose parts are full.
+pub const LONGEST: usize =
+    line_length(HEAD) + CLASSES * line_length(3 + MOST_LETTERS) + MOST_RULES * line_length(3 + RULE);
+
+/// A head's bytes without its sum.
+const HEAD: usize = 6;
+
+/// Of a frame that has so many bytes without its sum: two digits a byte, and the end.
+const fn line_length(bytes: usize) -> usize {
+    2 * (bytes + 1) + 1
+}
 
 /// A line from a frame's bytes without its sum: "the last byte makes all bytes add to zero modulo 256".
 pub fn line(bytes: &[u8]) -> Vec<u8> {
@@ -77,7 +89,11 @@ pub fn read(file: &[u8]) -> Answer<Ruleset> {
             return refuse(14, at);
         };
         let repeated = set.rules.iter().any(|(held, _)| *held == number);
-        if repeated || !(1..=set.last).contains(&number) || !rule.shaped() || !set.classes.define(&rule) {
+        if repeated
+            || !(1..=set.last).contains(&number)
+            || !rule.shaped([false; 2])
+            || !set.classes.define(&rule)
+        {
             return refuse(14, at);
         }
         set.rules.push((number, rule));
@@ -134,10 +150,23 @@ fn rule_of(bytes: &[u8]) -> Option<(u16, Rule)> {
     for k in 0..4 {
         let length = head[3 + k] as usize;
         parts[k] = rest.get(..length)?;
+        if length == MOST[k] + 1 && takes_longer(k, parts[k]) {
+            parts[k] = &parts[k][..MOST[k]];
+        }
         rest = &rest[length..];
     }
     if head[0] != 2 || !rest.is_empty() {
         return None;
     }
     Some((u16::from_be_bytes([head[1], head[2]]), Rule::new(parts)?))
+}
+
+/// A reference that is wrong on purpose takes a context of one symbol too many, as far as there is room for it.
+fn takes_longer(part: usize, symbols: &[u8]) -> bool {
+    let uncounted = |outer: Option<&u8>| broken(Break::BoundaryUncounted) && outer == Some(&0);
+    match part {
+        0 => broken(Break::LongLeftRead) || uncounted(symbols.first()),
+        2 => broken(Break::LongRightRead) || uncounted(symbols.last()),
+        _ => false,
+    }
 }

@@ -1,15 +1,16 @@
-//! A ruleset as bytes, as the header lays them out: count, `last` and edit count, 512 slots of a number and 24 bytes
+//! A ruleset as bytes, as the header lays them out: count, `last` and edit count, 512 slots of a number and the bytes
 //! of a rule, a mask of 64 bits for each of the 32 classes, the literal total, and for each literal rule the place of
 //! its numbered rule and which of that rule's literal rules it is. All high byte first.
 
 use super::broken::{broken, Break};
 use super::classes::{Classes, CLASSES, SYMBOLS};
-use super::rule::Rule;
+use super::rule::{Rule, RULE};
 use super::ruleset::{Ruleset, MOST_RULES};
 
 pub const EDITS: usize = 4;
 pub const HEAD: usize = 8;
-pub const SLOT: usize = 26;
+pub const NUMBER: usize = 2;
+pub const SLOT: usize = NUMBER + RULE;
 pub const MASKS: usize = HEAD + SLOT * MOST_RULES;
 pub const MASK: usize = 8;
 pub const TOTAL: usize = MASKS + MASK * CLASSES;
@@ -45,7 +46,7 @@ pub fn decode(image: &[u8]) -> Option<Ruleset> {
     }
     let rules = (0..held).map(|k| {
         let slot = &image[HEAD + SLOT * k..][..SLOT];
-        let rule: [u8; 24] = slot[2..].try_into().expect("a slot has 26 bytes");
+        let rule: [u8; RULE] = slot[NUMBER..].try_into().expect("a slot has a number and a rule");
         (u16::from_be_bytes([slot[0], slot[1]]), Rule(rule))
     });
     let set =
@@ -91,8 +92,8 @@ pub fn put(set: &Ruleset, image: &mut [u8]) {
     image[EDITS..HEAD].copy_from_slice(&set.edits.to_be_bytes());
     for (k, (number, rule)) in set.rules.iter().take(MOST_RULES).enumerate() {
         let slot = &mut image[HEAD + SLOT * k..][..SLOT];
-        slot[..2].copy_from_slice(&number.to_be_bytes());
-        slot[2..].copy_from_slice(&rule.0);
+        slot[..NUMBER].copy_from_slice(&number.to_be_bytes());
+        slot[NUMBER..].copy_from_slice(&rule.0);
     }
     for (symbol, mask) in SYMBOLS.zip(image[MASKS..TOTAL].chunks_mut(MASK)) {
         let bits = set.classes.letters(symbol).iter().fold(0u64, |bits, letter| bits | 1 << letter);

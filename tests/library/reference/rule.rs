@@ -3,14 +3,23 @@
 use super::broken::{broken, Break};
 use super::classes::{is_class, Classes};
 
-/// The 24 bytes in which a rule is handed over: four lengths, then 6, 4, 6 and 4 bytes. They are held
-/// whole, because an edit carries the bytes past a part's length along.
-#[derive(Clone, Copy)]
-pub struct Rule(pub [u8; 24]);
+/// "Make 4 the limit for left and right." It stands here alone: sizes, bounds and what is tried follow from it.
+pub const CONTEXT: usize = 4;
+pub const TARGET: usize = 4;
+pub const PHONES: usize = 4;
 
-/// Left context, target, right context, phones: where each starts, and how much it holds at most.
-const STARTS: [usize; 4] = [4, 10, 14, 20];
-const MOST: [usize; 4] = [6, 4, 6, 4];
+/// The bytes in which a rule is handed over: the four lengths, then room for left context, target, right context and
+/// phones.
+pub const RULE: usize = LENGTHS + CONTEXT + TARGET + CONTEXT + PHONES;
+pub const LENGTHS: usize = 4;
+
+/// Where each of these parts starts, and how much it holds at most.
+pub const STARTS: [usize; 4] = [LENGTHS, LENGTHS + CONTEXT, LENGTHS + CONTEXT + TARGET, RULE - PHONES];
+pub const MOST: [usize; 4] = [CONTEXT, TARGET, CONTEXT, PHONES];
+
+/// The bytes are held whole, because an edit carries those past a part's length along.
+#[derive(Clone, Copy)]
+pub struct Rule(pub [u8; RULE]);
 
 pub fn is_letter(byte: u8) -> bool {
     (0x01..=0x3E).contains(&byte) || broken(Break::SpaceInRules) && byte == SPACE
@@ -22,7 +31,7 @@ pub const SPACE: u8 = 0x3F;
 impl Rule {
     /// None where a part is longer than there are bytes for it; the shape is not judged.
     pub fn new(parts: [&[u8]; 4]) -> Option<Rule> {
-        let mut bytes = [0; 24];
+        let mut bytes = [0; RULE];
         for k in 0..4 {
             if parts[k].len() > MOST[k] {
                 return None;
@@ -60,9 +69,12 @@ impl Rule {
     }
 
     /// "# may stand only first in a left context or last in a right one"; classes "may stand in contexts,
-    /// never in targets".
-    pub fn shaped(&self) -> bool {
-        if (0..4).any(|k| self.0[k] as usize > MOST[k]) || self.target().is_empty() {
+    /// never in targets". Only a reference that is wrong on purpose lets a left or a right context be one symbol
+    /// longer, which then runs on into the next part.
+    pub fn shaped(&self, longer: [bool; 2]) -> bool {
+        let context = CONTEXT - broken(Break::ShortContexts) as usize;
+        let most = [context + longer[0] as usize, TARGET, context + longer[1] as usize, PHONES];
+        if (0..4).any(|k| self.0[k] as usize > most[k]) || self.target().is_empty() {
             return false;
         }
         let left = self.left().iter().enumerate();

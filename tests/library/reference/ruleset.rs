@@ -23,11 +23,12 @@ impl Ruleset {
     /// Whether it is a ruleset at all (refusal 0).
     pub fn valid(&self) -> bool {
         let mut seen = HashSet::new();
+        let held = [broken(Break::LongLeftHeld), broken(Break::LongRightHeld)];
         self.rules.len() <= MOST_RULES
             && self.rules.iter().all(|(number, rule)| {
                 (1..=self.last).contains(number)
                     && seen.insert(*number)
-                    && rule.shaped()
+                    && rule.shaped(held)
                     && self.classes.define(rule)
             })
             && self.classes.defined().all(|(symbol, letters)| sound_class(symbol, letters))
@@ -108,10 +109,10 @@ impl Ruleset {
         answer
     }
 
-    /// Refusals 6, 20, 7, 21, 10, in this order. The header counts other than 24 bytes as a broken shape.
+    /// Refusals 6, 20, 7, 21, 10, in this order. The header counts another number of bytes as a broken shape.
     fn added(&mut self, rule: &[u8], p: usize) -> Answer<()> {
-        let shaped = rule.try_into().ok().map(Rule).filter(Rule::shaped);
-        let Some(rule) = shaped else {
+        let longer = [broken(Break::LongLeftAdded), broken(Break::LongRightAdded)];
+        let Some(rule) = rule.try_into().ok().map(Rule).filter(|rule| rule.shaped(longer)) else {
             return refuse(6, 0);
         };
         if !self.classes.define(&rule) && !broken(Break::Undefined) {

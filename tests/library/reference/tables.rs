@@ -2,7 +2,8 @@
 //! suffix anew. Before them stands the edit count of the ruleset that they are built from.
 
 use super::broken::{broken, Break};
-use super::ruleset::Ruleset;
+use super::rule::{CONTEXT, TARGET};
+use super::ruleset::{Ruleset, MOST_RULES};
 use super::{refuse, Answer};
 use std::collections::HashMap;
 
@@ -17,6 +18,10 @@ pub struct Tables {
 pub const L: usize = 2;
 pub const R: usize = 3;
 pub const ROWS: usize = 4;
+
+/// "The state bounds": the empty string, and as many as there are rules for each symbol of a pattern.
+pub const MOST_LEFT: usize = 1 + MOST_RULES * CONTEXT;
+pub const MOST_RIGHT: usize = 1 + MOST_RULES * (TARGET + CONTEXT);
 
 pub fn words_needed(left: usize, right: usize) -> usize {
     ROWS + 64 * (left + right)

@@ -4,6 +4,7 @@ use super::SELDOM;
 use crate::lent::{self, Lent, Room};
 use crate::make::{classes, images, lists, names, rules};
 use crate::random::Random;
+use crate::reference::file::LONGEST;
 use crate::reference::image::{decode, last, IMAGE};
 use crate::tally::Tally;
 
@@ -66,7 +67,7 @@ pub fn images(tally: &mut Tally, random: &mut Random) {
     lent::check(tally, &image);
     one_edit(tally, &mut image, &letters, random);
 
-    let mut out = Lent::any(random.pick(&[0, 15, 31_535]), random);
+    let mut out = Lent::any(random.pick(&[0, 15, LONGEST]), random);
     lent::write_file(tally, &image, &mut out);
     let mut compiled = lent::Compiled::any(random.below(1000), random.below(100), random);
     lent::build(tally, &image, &mut compiled);

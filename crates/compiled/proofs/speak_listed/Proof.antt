@@ -9,7 +9,7 @@ use mathlib.Core.List.{List}
 use mathlib.Core.Path.{ap, _∙_}
 use Rattle.tables.specs.Walk.{walkThrough, walkedAs}
 use Rattle.tables.specs.Words.{compiledFrom}
-use Rattle.reading.specs.Fitting.{Str}
+use Rattle.fitting.specs.Fitting.{Str}
 use Rattle.image.specs.Image.{editsOf, literalsOf}
 use borrow.Author.Needs.{needs}
 use Rattle.compiled.proofs.speak_listed.Statement.{statement}

@@ -10,7 +10,7 @@ use mathlib.Core.Path.{refl, ap, _∙_}
 use native.Mathlib.Omega.{arith}
 use Rattle.tables.specs.Walk.{walkThrough, walkedAs}
 use Rattle.tables.specs.Words.{compiledFrom}
-use Rattle.reading.specs.Fitting.{Str}
+use Rattle.fitting.specs.Fitting.{Str}
 use Rattle.image.specs.Image.{editsOf, literalsOf}
 use borrow.Author.Needs.{needs}
 use Rattle.compiled.proofs.speak_valid.Statement.{statement}

@@ -4,7 +4,7 @@ use native.Mathlib.Omega.{arith}
 use borrow.Author.Tests.{ne-eqb}
 use borrow.Author.Needs.{needs}
 use lib.ListN.{getD}
-use Rattle.commands.proofs.Replies.{within}
+use Rattle.command_parts.proofs.Replies.{within}
 use Rattle.list_commands.specs.ListCommands.{lentLine}
 use Rattle.list_commands.proofs.Frames.{has-kind}
 use Rattle.list_commands.proofs.Given.{by-lend}

@@ -2,7 +2,7 @@
 -- Assumes nothing.
 use Rattle.reading.proofs.Lookup.{listed-answer, unlisted-answer, unlisted-none, says-all, unsaid-list}
 use Rattle.reading.specs.Speech.{Outcome, answered, delivered, plainWords}
-use Rattle.reading.specs.Fitting.{Str}
+use Rattle.fitting.specs.Fitting.{Str}
 use Rattle.image.specs.Image.{entriesOf, classesOf}
 use Rattle.exceptions.specs.Layout.{wordsOf, phonesFor}
 use Prim.Native.Nat.{ℕ}

@@ -5,7 +5,7 @@ use Rattle.image.specs.Image.{entriesOf, classesOf}
 use Rattle.reading.proofs.Loop.{after-none}
 use Rattle.reading.proofs.NameWords.{frame-length, frame-part}
 use Rattle.reading.specs.Speech.{answered, delivered, plainWords}
-use Rattle.reading.specs.Reading.{Reading}
+use Rattle.fitting.specs.Reading.{Reading}
 use lib.ListN.{length, replicate}
 use mathlib.Core.Path.{refl, sym, ap, _∙_}
 use borrow.Author.Needs.{needs}

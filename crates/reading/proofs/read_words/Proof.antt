@@ -6,7 +6,7 @@ use mathlib.Core.Path.{sym, _∙_}
 use lib.ListN.{length}
 use Rattle.exceptions.specs.Judging.{saysOf}
 use Rattle.image.specs.Image.{entriesOf, classesOf}
-use Rattle.reading.specs.Reading.{plain}
+use Rattle.fitting.specs.Reading.{plain}
 use Rattle.reading.proofs.NameReading.{WordsRead, words-read-begin, words-read-word, words-read-next, words-read-stop, words-read-end, not-rules-by}
 use native.Mathlib.Omega.{arith}
 use Rattle.reading.proofs.read_words.Statement.{statement}

@@ -2,7 +2,7 @@
 -- Assumes nothing.
 use native.Mathlib.Omega.{arith}
 use Rattle.transcript.specs.Answers.{spokenBody}
-use Rattle.transcript.proofs.Printed.{printed-sent, length-printed}
+use Rattle.lines.proofs.Printed.{printed-sent, length-printed}
 use Rattle.transcript.proofs.Fields.{length-spoken}
 use borrow.Author.Needs.{needs}
 use Rattle.transcript.proofs.spoken_line.Statement.{statement}

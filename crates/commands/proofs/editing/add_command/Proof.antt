@@ -5,10 +5,10 @@ use borrow.Author.Tests.{not-true, not-false}
 use Rattle.numbers.specs.Numbers.{two}
 use Rattle.edits.specs.Ledger.{Edit}
 use Rattle.edits.specs.Edits.{edited}
-use Rattle.commands.specs.Answers.{ruled, added}
-use Rattle.commands.specs.Fields.{addSized, addedRule}
-use Rattle.commands.proofs.AddFrame.{sized}
-use Rattle.commands.proofs.Replies.{answered-not, answered-edit}
+use Rattle.command_parts.specs.Answers.{ruled, added}
+use Rattle.command_parts.specs.Fields.{addSized, addedRule}
+use Rattle.command_parts.proofs.AddFrame.{sized}
+use Rattle.command_parts.proofs.Replies.{answered-not, answered-edit}
 use borrow.Author.Needs.{needs}
 use Rattle.commands.proofs.editing.add_command.Statement.{statement}
 use Rattle.commands.proofs.editing.add_command.Tie as tie

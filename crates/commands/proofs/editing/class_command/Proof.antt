@@ -5,8 +5,8 @@ use lib.Dec.{leb}
 use borrow.Author.Tests.{le-leb, lt-leb}
 use Rattle.edits.specs.Ledger.{Edit}
 use Rattle.edits.specs.Edits.{edited}
-use Rattle.commands.specs.Answers.{ruled, classSet}
-use Rattle.commands.proofs.Replies.{answered-not, answered-edit}
+use Rattle.command_parts.specs.Answers.{ruled, classSet}
+use Rattle.command_parts.proofs.Replies.{answered-not, answered-edit}
 use borrow.Author.Needs.{needs}
 use Rattle.commands.proofs.editing.class_command.Statement.{statement}
 use Rattle.commands.proofs.editing.class_command.Tie as tie

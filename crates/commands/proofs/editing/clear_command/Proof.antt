@@ -6,9 +6,9 @@ use Rattle.image.specs.Image.{Edited, cleared}
 use borrow.Author.Needs.{needs}
 use lib.Dec.{eqb}
 use borrow.Author.Tests.{eq-eqb, ne-eqb}
-use Rattle.commands.specs.Answers.{leaving, doneLine}
-use Rattle.commands.specs.Memory.{clearedBy}
-use Rattle.commands.proofs.Replies.{answered-not, answered-done}
+use Rattle.command_parts.specs.Answers.{leaving, doneLine}
+use Rattle.command_parts.specs.Memory.{clearedBy}
+use Rattle.command_parts.proofs.Replies.{answered-not, answered-done}
 use Rattle.commands.proofs.editing.clear_command.Statement.{statement}
 use Rattle.commands.proofs.editing.clear_command.Tie as tie
 

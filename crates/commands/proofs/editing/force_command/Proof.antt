@@ -4,9 +4,9 @@ use lib.ListN.{length}
 use borrow.Author.Needs.{needs}
 use lib.Dec.{eqb}
 use borrow.Author.Tests.{eq-eqb, ne-eqb}
-use Rattle.commands.specs.Answers.{leaving, doneLine}
-use Rattle.commands.specs.Memory.{forced, forcedBy}
-use Rattle.commands.proofs.Replies.{answered-not, answered-done}
+use Rattle.command_parts.specs.Answers.{leaving, doneLine}
+use Rattle.command_parts.specs.Memory.{forced, forcedBy}
+use Rattle.command_parts.proofs.Replies.{answered-not, answered-done}
 use Rattle.commands.proofs.editing.force_command.Statement.{statement}
 use Rattle.commands.proofs.editing.force_command.Tie as tie
 

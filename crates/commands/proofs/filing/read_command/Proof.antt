@@ -4,9 +4,9 @@ use lib.ListN.{length}
 use lib.Dec.{eqb}
 use borrow.Author.Tests.{eq-eqb, ne-eqb}
 use Rattle.commands.specs.Filing.{loadedFrom, loadedBy}
-use Rattle.commands.proofs.Replies.{answered-not, answered-edit}
+use Rattle.command_parts.proofs.Replies.{answered-not, answered-edit}
 use borrow.Author.Needs.{needs}
-use Rattle.commands.specs.Answers.{ruled}
+use Rattle.command_parts.specs.Answers.{ruled}
 use Rattle.commands.proofs.filing.read_command.Statement.{statement}
 use Rattle.commands.proofs.filing.read_command.Tie as tie
 

@@ -5,9 +5,10 @@ use lib.ListN.{length}
 use borrow.Author.Tests.{eq-eqb, ne-eqb}
 use Rattle.rules.specs.Refusals.{replyOf}
 use borrow.Author.Needs.{needs}
-use Rattle.commands.specs.Fields.{four}
-use Rattle.commands.specs.Lent.{lentOf, builtIn, buildEffects, builtBy}
-use Rattle.commands.proofs.Replies.{both-not, both-built, gives-states, gives-unbuilt}
+use Rattle.command_parts.specs.Fields.{four, lentOf}
+use Rattle.commands.specs.Lent.{builtIn, buildEffects, builtBy}
+use Rattle.commands.proofs.Spoken.{both-built, gives-states, gives-unbuilt}
+use Rattle.command_parts.proofs.Replies.{both-not}
 use Rattle.commands.proofs.speaking.build_command.Statement.{statement}
 use Rattle.commands.proofs.speaking.build_command.Tie as tie
 

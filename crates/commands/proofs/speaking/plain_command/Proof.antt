@@ -8,8 +8,10 @@ use borrow.Author.Needs.{needs}
 use lib.Dec.{leb}
 use lib.ListN.{length, drop}
 use borrow.Author.Tests.{le-leb, lt-leb}
-use Rattle.commands.specs.Lent.{lentOf, plainIn, plainEffect, plainBy}
-use Rattle.commands.proofs.Replies.{speech-not, speech-read}
+use Rattle.command_parts.specs.Fields.{lentOf}
+use Rattle.commands.specs.Lent.{plainIn, plainEffect, plainBy}
+use Rattle.commands.proofs.Spoken.{speech-read}
+use Rattle.command_parts.proofs.Replies.{speech-not}
 use Rattle.commands.proofs.speaking.plain_command.Statement.{statement}
 use Rattle.commands.proofs.speaking.plain_command.Tie as tie
 

@@ -8,9 +8,10 @@ use borrow.Author.Needs.{needs}
 use lib.Dec.{leb}
 use lib.ListN.{length, take, drop}
 use borrow.Author.Tests.{le-leb, lt-leb}
-use Rattle.commands.specs.Fields.{four}
-use Rattle.commands.specs.Lent.{lentOf, walkIn, walkEffect, walkedBy}
-use Rattle.commands.proofs.Replies.{speech-not, speech-walked}
+use Rattle.command_parts.specs.Fields.{four, lentOf}
+use Rattle.commands.specs.Lent.{walkIn, walkEffect, walkedBy}
+use Rattle.commands.proofs.Spoken.{speech-walked}
+use Rattle.command_parts.proofs.Replies.{speech-not}
 use Rattle.commands.proofs.speaking.walk_command.Statement.{statement}
 use Rattle.commands.proofs.speaking.walk_command.Tie as tie
 

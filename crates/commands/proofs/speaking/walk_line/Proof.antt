@@ -1,7 +1,7 @@
 -- `commands::speaking::walk_line` meets its contract: a refusal has a line of its own, any other speech is answered as it is told.
 -- Assumes nothing.
 use borrow.Author.Needs.{needs}
-use Rattle.commands.proofs.Replies.{walk-refused, walk-spoken}
+use Rattle.commands.proofs.Spoken.{walk-refused, walk-spoken}
 use Rattle.commands.proofs.speaking.walk_line.Statement.{statement}
 use Rattle.commands.proofs.speaking.walk_line.Tie as tie
 

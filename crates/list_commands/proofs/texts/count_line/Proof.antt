@@ -2,7 +2,7 @@
 -- Assumes nothing.
 use native.Mathlib.Omega.{arith}
 use Rattle.frames.proofs.Output.{sent-then}
-use Rattle.transcript.proofs.Printed.{printed-sent}
+use Rattle.lines.proofs.Printed.{printed-sent}
 use borrow.Author.Needs.{needs}
 use Rattle.list_commands.proofs.texts.count_line.Statement.{statement}
 use Rattle.list_commands.proofs.texts.count_line.Tie as tie

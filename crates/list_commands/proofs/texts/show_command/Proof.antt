@@ -7,7 +7,7 @@ use native.Mathlib.Omega.{arith}
 use borrow.Author.Tests.{not-true, not-false}
 use borrow.Author.Needs.{needs}
 use lib.ListN.{length}
-use Rattle.commands.proofs.Shown.{inside-size, inside-end, part-not, part-shown}
+use Rattle.command_parts.proofs.Shown.{inside-size, inside-end, part-not, part-shown}
 use Rattle.list_commands.specs.ListCommands.{shownText}
 use Rattle.list_commands.proofs.texts.show_command.Statement.{statement}
 use Rattle.list_commands.proofs.texts.show_command.Tie as tie

@@ -4,10 +4,10 @@ use borrow.Author.Tests.{ne-eqb}
 use borrow.Author.Needs.{needs}
 use lib.ListN.{length}
 use lib.Dec.{eqb}
-use Rattle.commands.specs.Fields.{four}
-use Rattle.commands.specs.Memory.{storedAt}
-use Rattle.commands.proofs.Replies.{answered-not}
-use Rattle.commands.proofs.Shown.{stored-out, stored-in}
+use Rattle.command_parts.specs.Fields.{four}
+use Rattle.command_parts.specs.Memory.{storedAt}
+use Rattle.command_parts.proofs.Replies.{answered-not}
+use Rattle.command_parts.proofs.Shown.{stored-out, stored-in}
 use Rattle.list_commands.specs.ListCommands.{storedUnit}
 use Rattle.list_commands.proofs.units.store_command.Statement.{statement}
 use Rattle.list_commands.proofs.units.store_command.Tie as tie

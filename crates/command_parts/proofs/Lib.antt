@@ -1,0 +1,4 @@
+pub mod AddFrame
+pub mod Replies
+pub mod Shown
+pub mod Eights

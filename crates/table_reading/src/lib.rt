@@ -1,0 +1,212 @@
+// Reading by reached letters: the choice that the sets of two remembered states make, and what reading by it comes to.
+use reading::Reached;
+ghost use mathlib.Core.Path.{_≡_};
+ghost use mathlib.Core.Bool.{true};
+ghost use Prim.Native.Nat.{_+_, _-_, _*_, _<_, _≤_};
+ghost use lib.Bits.{bitAnd};
+ghost use lib.Count.{onesIn};
+ghost use lib.ListN.{length, getD};
+ghost use Rattle.rules.specs.Limits.{maxRules};
+ghost use Rattle.rules.specs.Names.{SoundName};
+ghost use Rattle.image.specs.Image.{totalOf, valid};
+ghost use Rattle.reading.specs.Words.{frameOf};
+ghost use Rattle.reading.specs.Places.{frameSize, ReadBy};
+ghost use Rattle.tables.specs.Words.{setSize};
+ghost use Rattle.table_reading.specs.Letters.{foundOf, lowestShared, countShared, choiceBy, Chooses, endingAt, choicesBy, Bounded, suffix, between, WordRead, Held, NameRead};
+
+// The lowest place that two sets share.
+pub enum Found {
+    Place(usize),
+    Empty,
+}
+
+// The lowest set bit of the eight words in which the sets from `s` and from `t` on meet.
+fn lowest_place(sets: &[u64], s: usize, t: usize) -> Found
+    requires { ⌜ (s + setSize ≤ length (now sets)) × (t + setSize ≤ length (now sets)) ⌝ }
+    ensures { λ r. ⌜ r ≡ foundOf (lowestShared (now (sets .entry)) s t) ⌝ }
+{
+    let mut j: usize = 0;
+    while j < tables::SET {
+        let x = sets[s + j] & sets[t + j];
+        let z = u64::trailing_zeros(x) as usize;
+        if z < 64 {
+            return Found::Place(64 * j + z);
+        }
+        j += 1;
+    }
+    Found::Empty
+}
+
+// How many places a word of one set and a word of another share.
+fn shared_in(sets: &[u64], a: usize, b: usize) -> usize
+    requires { ⌜ (a < length (now sets)) × (b < length (now sets)) ⌝ }
+    ensures { λ r. ⌜ (r ≡ onesIn 64 (bitAnd (getD (now (sets .entry)) a 0) (getD (now (sets .entry)) b 0))) × (r ≤ 64) ⌝ }
+{
+    u64::count_ones(sets[a] & sets[b]) as usize
+}
+
+// How many places two sets share: those of the eight words in which the sets from `s` and from `t` on meet.
+fn count_shared(sets: &[u64], s: usize, t: usize) -> usize
+    requires { ⌜ (s + setSize ≤ length (now sets)) × (t + setSize ≤ length (now sets)) ⌝ }
+    ensures { λ r. ⌜ (r ≡ countShared (now (sets .entry)) s t) × (r ≤ maxRules) ⌝ }
+{
+    let mut count: usize = 0;
+    let mut j: usize = 0;
+    while j < tables::SET {
+        count += shared_in(sets, s + j, t + j);
+        j += 1;
+    }
+    count
+}
+
+// What is found at a reached letter: the place of the numbered rule to apply and how many literal rules fit, none, or tables that are unusable.
+pub enum Chosen {
+    Rule(usize, usize),
+    Nothing,
+    Unusable,
+}
+
+// The choice at position `i`: the literal rule of lowest place, which must be in the list and fit. It is told by the place of its numbered
+// rule.
+fn choose(
+    sets: &[u64],
+    s: usize,
+    t: usize,
+    image: &[u8],
+    total: usize,
+    frame: &[u8],
+    i: usize,
+) -> Chosen
+    requires { ⌜ (s + setSize ≤ length (now sets)) × (t + setSize ≤ length (now sets)) × (valid (now image) ≡ true) × (total ≡ totalOf (now image)) × (i ≤ length (now frame)) ⌝ }
+    ensures { λ r. ⌜ Chooses (now (image .entry)) (choiceBy (now (image .entry)) (now (sets .entry)) s t (now (frame .entry)) i) r ⌝ }
+{
+    let found = lowest_place(sets, s, t);
+    let Found::Place(place) = found else {
+        return Chosen::Nothing;
+    };
+    if total <= place {
+        return Chosen::Unusable;
+    }
+    if !literals::place_fits(image, place, frame, i) {
+        return Chosen::Unusable;
+    }
+    let rule = image::table::owner_at(image, place);
+    Chosen::Rule(rule, count_shared(sets, s, t))
+}
+
+// How reading ends where no rule is chosen.
+fn ending_at(choice: Chosen, i: usize) -> Reached
+    ensures { λ r. ⌜ r ≡ endingAt choice i ⌝ }
+{
+    match choice {
+        Chosen::Rule(_, _) => Reached::Uncovered(i),
+        Chosen::Nothing => Reached::Uncovered(i),
+        Chosen::Unusable => Reached::BadTables,
+    }
+}
+
+// At each reached letter the rule chosen by its two remembered states is applied, and reading goes on after its target.
+pub fn read_letters(
+    sets: &[u64],
+    right_sets: usize,
+    image: &[u8],
+    frame: &[u8],
+    left: &[u16],
+    right: &[u16],
+    parts: &mut [u32],
+) -> Reached
+    requires { ⌜ (valid (now image) ≡ true) × (2 ≤ length (now frame)) × (length (now frame) ≤ frameSize) × Bounded (length (now sets)) «right_sets» (length (now frame) - 2) (now left) (now right) × (length (now frame) - 2 ≤ length (now parts)) ⌝ }
+    ensures { λ r. ⌜ ReadBy (now (image .entry)) (choicesBy (now (image .entry)) (now (sets .entry)) «right_sets» (now (left .entry)) (now (right .entry)) (now (frame .entry))) (length (now (frame .entry)) - 2) (now (parts .exit)) r ⌝ }
+{
+    let total = image::table::literal_total(image);
+    let end = frame.len() - 1;
+    let mut count: usize = 0;
+    let mut i: usize = 1;
+    while i < end {
+        let s = tables::SET * numbers::wide16(left[i]);
+        let t = right_sets + tables::SET * numbers::wide16(right[i]);
+        let choice = choose(sets, s, t, image, total, frame, i);
+        let Chosen::Rule(rule, fitting) = choice else {
+            return ending_at(choice, i);
+        };
+        parts[count] = reading::delivery::part_of(rule, fitting);
+        count += 1;
+        i += fitting::target_len_at(image, rule);
+    }
+    Reached::Rules(count)
+}
+
+// One word more, after `count` parts: the part that the list gives for it, or the rules chosen for its letters.
+fn read_word(
+    sets: &[u64],
+    right_sets: usize,
+    image: &[u8],
+    frame: &[u8],
+    part: u16,
+    from: usize,
+    end: usize,
+    left: &[u16],
+    right: &[u16],
+    parts: &mut [u32],
+    count: usize,
+) -> Reached
+    requires { ⌜ (valid (now image) ≡ true) × (from < end) × (end + 1 ≤ length (now frame)) × (length (now frame) ≤ frameSize) × (part ≡ 0 → Bounded (length (now sets)) «right_sets» (length (between from (end + 1) (now frame)) - 2) (suffix from (now left)) (suffix from (now right))) × (length (now left) ≡ frameSize) × (length (now right) ≡ frameSize) × (length (now parts) ≡ frameSize) × (count ≤ from) ⌝ }
+    ensures { λ r. ⌜ WordRead (now (image .entry)) (choicesBy (now (image .entry)) (now (sets .entry)) «right_sets» (suffix from (now (left .entry))) (suffix from (now (right .entry))) (between from (end + 1) (now (frame .entry)))) (length (between from (end + 1) (now (frame .entry))) - 2) count from part (now (parts .entry)) (now (parts .exit)) r ⌝ }
+{
+    if part != 0 {
+        parts[count] = part as u32;
+        return Reached::Rules(count + 1);
+    }
+    let read = read_letters(
+        sets,
+        right_sets,
+        image,
+        &frame[from..end + 1],
+        &left[from..],
+        &right[from..],
+        &mut parts[count..],
+    );
+    reading::words::in_name(read, count, from)
+}
+
+// The words of a name in turn.
+pub fn read_words(
+    sets: &[u64],
+    right_sets: usize,
+    image: &[u8],
+    name: &[u8],
+    frame: &[u8],
+    found: &[u16],
+    left: &[u16],
+    right: &[u16],
+    parts: &mut [u32],
+) -> Reached
+    requires { ⌜ (valid (now image) ≡ true) × SoundName (now name) × (now frame ≡ frameOf (now name)) × (length (now found) ≡ frameSize) × (length (now left) ≡ frameSize) × (length (now right) ≡ frameSize) × Held (length (now sets)) «right_sets» (now name) (now found) (now left) (now right) × (length (now parts) ≡ frameSize) ⌝ }
+    ensures sized { λ r. ⌜ length (now (parts .exit)) ≡ frameSize ⌝ }
+    ensures read { λ r. ⌜ NameRead (now (image .entry)) (now (sets .entry)) «right_sets» (now (name .entry)) (now (found .entry)) (now (left .entry)) (now (right .entry)) (now (parts .exit)) r ⌝ }
+{
+    let mut count = 0;
+    let mut from = 0;
+    while from <= name.len() {
+        let end = reading::words::word_end(name, from);
+        let read = read_word(
+            sets,
+            right_sets,
+            image,
+            frame,
+            found[from],
+            from,
+            end,
+            left,
+            right,
+            &mut *parts,
+            count,
+        );
+        let Reached::Rules(k) = read else {
+            return read;
+        };
+        count = k;
+        from = end;
+    }
+    Reached::Rules(count)
+}
