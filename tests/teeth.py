@@ -453,13 +453,19 @@ def shown_alone(module):
     return told.getvalue().removeprefix("FAILED ").partition(": got")[0] if failed else None
 
 
+def shows(module, kind, run):
+    rules_hex, lines, expected = run
+    try:
+        return getattr(module, generate.PROGRAMS[kind])(rules_hex, b"".join(lines)) != expected
+    except Exception:       # a fault that stops the copy shows too
+        return True
+
+
 def shown_by(module, kind, cases):
-    """The first run in which the fault shows, or None."""
-    for which, (rules_hex, lines, expected) in cases:
-        try:
-            if getattr(module, generate.PROGRAMS[kind])(rules_hex, b"".join(lines)) != expected:
-                return which
-        except Exception:       # a fault that stops the copy shows too
+    """A run in which the fault shows, or None. It is tried first for the next fault: runs that show one often show another."""
+    for k, (which, run) in enumerate(cases):
+        if shows(module, kind, run):
+            cases.insert(0, cases.pop(k))
             return which
     return None
 

@@ -17,8 +17,8 @@ use Rattle.image.proofs.Literals.{total-is, literals-few}
 use Rattle.literals.specs.Places.{literalEntry}
 use Rattle.fitting.specs.Fitting.{Str}
 use Rattle.tables.proofs.Count.{total, states-total}
-use Rattle.build.specs.Sides.{sideOf, patternIn, sideTable}
-use Rattle.build.proofs.Symbols.{both-long, left-most, target-most, right-most}
+use Rattle.patterns.specs.Sides.{sideOf, patternIn, sideTable}
+use Rattle.patterns.proofs.Symbols.{both-long, left-most, target-most, right-most}
 
 total-snoc : (l : List Str) (p : Str) → total (l ++ (p ∷ [])) ≡ total l + length p
 total-snoc [] p = omega arith

@@ -12,7 +12,7 @@ use Rattle.rules.specs.Memory.{over}
 use Rattle.rules.proofs.Memory.{over-length, over-rest}
 use Rattle.image.specs.Image.{editsOf, literalsOf}
 use Rattle.tables.specs.Words.{wordsHead, rowsOf, setsOf, builtWords, builtSets, wordsFor, setsFor, headWords, rowSize, setSize, rightRows, rightSets}
-use Rattle.build.specs.Sides.{sideTable}
+use Rattle.patterns.specs.Sides.{sideTable}
 use Rattle.build.proofs.Whole.{rows-length, sets-length, words-are, sets-built}
 
 -- the four words before the rows

@@ -1,6 +1,3 @@
-pub mod Symbols
-pub mod Reversing
-pub mod Laying
 pub mod Whole
 pub mod Joining
 pub mod Bounding

@@ -21,7 +21,8 @@ use Rattle.side.specs.Patterns.{patternsOf, Patterns, stateCount}
 use Rattle.side.specs.Filled.{atPlace, holds, sideRows, sideSets}
 use Rattle.side.proofs.Levels.{word-ext}
 use Rattle.side.proofs.Inserting.{count-few}
-use Rattle.build.specs.Sides.{sideOf, sideTable, Laid, Counted}
+use Rattle.patterns.specs.Sides.{sideOf, sideTable, Laid}
+use Rattle.build.specs.Counting.{Counted}
 
 -- ---- one side
 

@@ -4,7 +4,7 @@ use native.Mathlib.Omega.{arith}
 use borrow.Author.Needs.{needs}
 use Prim.Native.Nat.{_*_}
 use Rattle.rules.specs.Limits.{maxRules, maxPattern}
-use Rattle.build.proofs.Laying.{cleared}
+use Rattle.patterns.proofs.Laying.{cleared}
 use Rattle.build.proofs.build_valid.Statement.{statement}
 use Rattle.build.proofs.build_valid.Tie as tie
 

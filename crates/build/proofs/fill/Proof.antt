@@ -7,7 +7,7 @@ use borrow.Author.Needs.{needs}
 use lib.ListN.{length}
 use Rattle.image.proofs.Tests.{valid-long}
 use Rattle.tables.specs.Words.{setSize}
-use Rattle.build.specs.Sides.{sideTable}
+use Rattle.patterns.specs.Sides.{sideTable}
 use Rattle.build.proofs.Joining as J
 use Rattle.build.proofs.fill.Statement.{statement}
 use Rattle.build.proofs.fill.Tie as tie

@@ -13,13 +13,13 @@ use Rattle.build.proofs.Whole.{side-ok, side-count, side-counted, side-
 use Rattle.build.proofs.fill_part.Statement.{statement}
 use Rattle.build.proofs.fill_part.Tie as tie
 
-patterns-requires : tie.Need-patterns-requires
-patterns-requires c κs = (c .before .before .before .before .before .before .before .pre .0, c .before .before .before .before .before .before .before .pre .1, c .before .before .before .before .before .before .before .pre .4)
+lay-side-requires : tie.Need-lay-side-requires
+lay-side-requires c κs = (c .before .before .before .before .before .before .before .pre .0, c .before .before .before .before .before .before .before .pre .1, c .before .before .before .before .before .before .before .pre .4)
 
 fill-side-requires : tie.Need-fill-side-requires
 fill-side-requires c κs =
     let st = c .before .before .before .before .before .before .before .before .before .before .before .before .before .before .before .before in
-    let p = c .before .before .before .before .before .before .before .before .patterns in
+    let p = c .before .before .before .before .before .before .before .before .lay-side in
     let n = side-count _ _ _ _ _ (st .pre .1) (p .ensures) in
     let g : rowSize * stateCount (p .last .1 .1 .1 .0) (p .last .1 .1 .1 .1 .0) (st .args .n) ≤ length (st .args .rows .now) = omega (arith, n, st .pre .2) in
     let h : setSize * stateCount (p .last .1 .1 .1 .0) (p .last .1 .1 .1 .1 .0) (st .args .n) ≤ length (st .args .sets .now) = omega (arith, n, st .pre .3) in
@@ -40,7 +40,7 @@ same-length-4 c = search needs
 returns : tie.Need-returns
 returns c =
     let st = c .before .before .before .before .before .before .before .before .before .before .before .before .before .before .before .before .before .before .before .before .before in
-    let p = c .before .before .before .before .before .before .before .before .before .before .before .before .before .patterns .ensures in
+    let p = c .before .before .before .before .before .before .before .before .before .before .before .before .before .lay-side .ensures in
     let f = c .before .before .before .before .fill-side .ensures in (
       f .0 ∙ ap (λ (x : List ℕ). over x (st .args .rows .now)) (side-rows _ _ _ _ _ (st .pre .1) p),
       (f .1 .0 ∙ ap (λ (x : List ℕ). over x (st .args .sets .now)) (side-sets _ _ _ _ _ (st .pre .1) p), side-counted _ _ _ _ _ (st .pre .1) p _ (f .1 .1)),
@@ -50,7 +50,7 @@ pub fill-part-spec : {M : Type 1} → statement M
 fill-part-spec =
     tie.close
     (tie.spec
-    patterns-requires
+    lay-side-requires
     fill-side-requires
     same-length
     same-length-2

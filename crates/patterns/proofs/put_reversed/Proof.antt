@@ -8,9 +8,9 @@ use borrow.Author.Needs.{needs}
 use lib.ListN.{getD}
 use Rattle.side.specs.Wrote.{Wrote}
 use Rattle.side.proofs.Writing.{begin, next, full}
-use Rattle.build.proofs.Symbols.{getD-reverse}
-use Rattle.build.proofs.put_reversed.Statement.{statement}
-use Rattle.build.proofs.put_reversed.Tie as tie
+use Rattle.patterns.proofs.Symbols.{getD-reverse}
+use Rattle.patterns.proofs.put_reversed.Statement.{statement}
+use Rattle.patterns.proofs.put_reversed.Tie as tie
 
 abbrev Inv-loop : tie.InvT-loop
 Inv-loop pats₀ at s n k₀ pats k = (k ≤ n) × Wrote pats₀ at k (λ j. getD (reverse s) j 0) pats

@@ -19,8 +19,8 @@ use Rattle.literals.specs.Places.{literalEntry}
 use Rattle.fitting.specs.Fitting.{Str}
 use Rattle.side.specs.Patterns.{patternAt, patternsOf}
 use Rattle.side.specs.Wrote.{Wrote}
-use Rattle.build.specs.Sides.{sideOf, patternIn, Scratch, Laid}
-use Rattle.build.proofs.Symbols.{long, small}
+use Rattle.patterns.specs.Sides.{sideOf, patternIn, Scratch, Laid}
+use Rattle.patterns.proofs.Symbols.{long, small}
 
 module _ (d : List ℕ) (right : Bool) (ps₀ ls₀ : List ℕ) where
   -- the first i patterns are laid

@@ -5,10 +5,10 @@ use native.Mathlib.Omega.{arith}
 use borrow.Author.Needs.{needs}
 use Rattle.image.specs.Image.{totalOf}
 use Rattle.image.proofs.Literals.{total-is, literals-few}
-use Rattle.build.proofs.Laying.{Laying, begin, fits, lens-room, next, finished, laid-at}
-use Rattle.build.proofs.Symbols.{long}
-use Rattle.build.proofs.patterns.Statement.{statement}
-use Rattle.build.proofs.patterns.Tie as tie
+use Rattle.patterns.proofs.Laying.{Laying, begin, fits, lens-room, next, finished, laid-at}
+use Rattle.patterns.proofs.Symbols.{long}
+use Rattle.patterns.proofs.lay_side.Statement.{statement}
+use Rattle.patterns.proofs.lay_side.Tie as tie
 
 abbrev Inv-loop : tie.InvT-loop
 Inv-loop image n right pats₀ lens₀ i₀ pats lens i = Laying image right pats₀ lens₀ pats lens i
@@ -66,8 +66,8 @@ returns c =
     let st = c .before .before .before .before .before in
     finished _ _ (st .pre .0) _ _ (st .pre .2) _ _ (laid-at _ (omega (arith, st .pre .1, c .before .loop .inv .reached)) (c .before .loop .inv))
 
-pub patterns-spec : {M : Type 1} → statement M
-patterns-spec =
+pub lay-side-spec : {M : Type 1} → statement M
+lay-side-spec =
     tie.close
     (tie.spec
     Inv-loop

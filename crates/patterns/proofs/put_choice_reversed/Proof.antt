@@ -1,13 +1,13 @@
--- `build::put_choice_reversed` meets its contract: the loop from the run's end on.
+-- `patterns::put_choice_reversed` meets its contract: the loop from the run's end on.
 -- Assumes nothing.
 use Prim.Native.Nat.{_-_}
 use native.Mathlib.Omega.{arith}
 use borrow.Author.Needs.{needs}
 use Rattle.classes.specs.Masks.{classesIn}
 use Rattle.side.proofs.Writing.{full}
-use Rattle.build.proofs.Reversing.{Reversing, begin, symbol-some, next}
-use Rattle.build.proofs.put_choice_reversed.Statement.{statement}
-use Rattle.build.proofs.put_choice_reversed.Tie as tie
+use Rattle.patterns.proofs.Reversing.{Reversing, begin, symbol-some, next}
+use Rattle.patterns.proofs.put_choice_reversed.Statement.{statement}
+use Rattle.patterns.proofs.put_choice_reversed.Tie as tie
 
 abbrev Inv-loop : tie.InvT-loop
 Inv-loop pats₀ at masks run j n q₀ k₀ pats q k = Reversing (classesIn masks) run j pats₀ at pats q k

@@ -1,4 +1,4 @@
--- `build::put_pattern` meets its contract: the literal rule at p is literal rule j of the rule at its owner's place.
+-- `patterns::put_pattern` meets its contract: the literal rule at p is literal rule j of the rule at its owner's place.
 -- Assumes nothing.
 use mathlib.Core.Path.{refl, ap}
 use native.Mathlib.Omega.{arith}
@@ -6,9 +6,9 @@ use lib.ListN.{length}
 use borrow.Author.Needs.{needs}
 use Rattle.image.proofs.Tests.{valid-long}
 use Rattle.literals.proofs.Places as P
-use Rattle.build.proofs.Symbols as S
-use Rattle.build.proofs.put_pattern.Statement.{statement}
-use Rattle.build.proofs.put_pattern.Tie as tie
+use Rattle.patterns.proofs.Symbols as S
+use Rattle.patterns.proofs.put_pattern.Statement.{statement}
+use Rattle.patterns.proofs.put_pattern.Tie as tie
 
 owner-at-requires : tie.Need-owner-at-requires
 owner-at-requires c κs = search needs

@@ -1,12 +1,12 @@
--- `build::put_right` meets its contract: the letters of the right context and then the target, each from its end on.
+-- `patterns::put_right` meets its contract: the letters of the right context and then the target, each from its end on.
 -- Assumes nothing.
 use mathlib.Core.Path.{sym}
 use borrow.Author.Needs.{needs}
 use Rattle.classes.specs.Masks.{classesIn}
 use Rattle.classes.proofs.Ordinal.{choice-long}
-use Rattle.build.proofs.Symbols.{put-both}
-use Rattle.build.proofs.put_right.Statement.{statement}
-use Rattle.build.proofs.put_right.Tie as tie
+use Rattle.patterns.proofs.Symbols.{put-both}
+use Rattle.patterns.proofs.put_right.Statement.{statement}
+use Rattle.patterns.proofs.put_right.Tie as tie
 
 put-choice-reversed-requires : tie.Need-put-choice-reversed-requires
 put-choice-reversed-requires c κs = search needs

@@ -1,10 +1,10 @@
--- `build::put_left` meets its contract: what the right context leaves of j is the left one's.
+-- `patterns::put_left` meets its contract: what the right context leaves of j is the left one's.
 -- Assumes nothing.
 use borrow.Author.Needs.{needs}
 use Rattle.classes.specs.Masks.{classesIn}
-use Rattle.build.proofs.Symbols.{put-choice}
-use Rattle.build.proofs.put_left.Statement.{statement}
-use Rattle.build.proofs.put_left.Tie as tie
+use Rattle.patterns.proofs.Symbols.{put-choice}
+use Rattle.patterns.proofs.put_left.Statement.{statement}
+use Rattle.patterns.proofs.put_left.Tie as tie
 
 rest-of-requires : tie.Need-rest-of-requires
 rest-of-requires c κs = search needs

@@ -9,7 +9,6 @@ use Rattle.rules.specs.Limits.{maxRules, maxPattern}
 use Rattle.rules.specs.Shape.{Entry}
 use Rattle.image.specs.Image.{literalsOf, totalOf}
 use Rattle.fitting.specs.Fitting.{Str}
-use Rattle.tables.specs.States.{rightStates}
 use Rattle.tables.specs.Words.{rowSize}
 use Rattle.tables.specs.Tables.{Table, tableOf, leftPattern, rightPattern}
 use Rattle.side.specs.Patterns.{patternsOf, Patterns}
@@ -43,9 +42,3 @@ pub record Laid (image : List ℕ) (right : Bool) (ps ls : List ℕ) : Type 0 wh
   pub scratch : Scratch ps ls
   pub ok : Patterns ps ls (totalOf image)
   pub are : patternsOf ps ls (totalOf image) ≡ map (sideOf right) (literalsOf image)
-
--- the states of a side are counted
-pub record Counted (image : List ℕ) (right : Bool) (r : ℕ) (ps ls : List ℕ) : Type 0 where
-  pub is : r ≡ sideTable image right .count
-  pub few : r ≤ rightStates
-  pub scratch : Scratch ps ls

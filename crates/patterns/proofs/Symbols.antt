@@ -23,7 +23,7 @@ use Rattle.tables.specs.Words.{rowSize}
 use Rattle.side.specs.Wrote.{Wrote}
 use Rattle.side.proofs.Writing.{both, copied}
 use Rattle.literals.specs.Places.{literalEntry}
-use Rattle.build.specs.Sides.{Put, patternIn}
+use Rattle.patterns.specs.Sides.{Put, patternIn}
 
 -- ---- strings that are reversed
 

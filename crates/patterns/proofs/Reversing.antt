@@ -13,7 +13,7 @@ use Rattle.fitting.specs.Fitting.{Str}
 use Rattle.literals.proofs.Matching.{quotient-begin, quotient-next}
 use Rattle.side.specs.Wrote.{Wrote}
 use Rattle.side.proofs.Writing as W
-use Rattle.build.proofs.Symbols.{getD-reverse}
+use Rattle.patterns.proofs.Symbols.{getD-reverse}
 
 -- n letters are stored from a on, and q is left of j for the symbols before theirs
 pub record Reversing (k : Classes) (s : Str) (j : ℕ) (xs : List ℕ) (a : ℕ) (ys : List ℕ) (q n : ℕ) : Type 0 where

@@ -1,0 +1,3 @@
+pub mod Symbols
+pub mod Reversing
+pub mod Laying
