@@ -3,6 +3,8 @@ mod editing;
 mod filing;
 pub mod speaking;
 
+use command_parts::answers;
+use command_parts::memory;
 use file::layout;
 ghost use mathlib.Core.Path.{_≡_};
 ghost use Prim.Native.Nat.{_≤_};

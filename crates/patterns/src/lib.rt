@@ -1,7 +1,7 @@
 // The patterns of one side of a ruleset's tables, laid for the row filler (document 01, "The tables"): those of the literal rules, the left ones
 // from their end.
 ghost use mathlib.Core.Path.{_≡_};
-ghost use Prim.Native.Nat.{_+_, _≤_, _<_};
+ghost use Prim.Native.Nat.{_+_, _/_, _≤_, _<_};
 ghost use mathlib.Core.Bool.{true};
 ghost use mathlib.Core.List.{_++_, reverse};
 ghost use lib.ListN.{length, getD};
