@@ -61,7 +61,7 @@ fn run<'a>(
 
 fn main() {
     let mut buf = [0u8; loader::MAX_INPUT + 1];
-    let mut out = [0u8; file::layout::LONGEST_FILE];
+    let mut out = [0u8; file_format::LONGEST_FILE];
     let mut image = [0u8; image::SIZE];
     let mut words = [0u16; tables::WORDS];
     let mut sets = [0u64; tables::SETS];

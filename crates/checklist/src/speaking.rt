@@ -2,7 +2,7 @@
 use crate::names;
 use crate::names::Name;
 use crate::ruleset;
-use reading::Speech;
+use speech::Speech;
 ghost use mathlib.Core.Path.{_≡_};
 ghost use mathlib.Core.Bool.{true};
 ghost use Rattle.image.specs.Image.{valid};

@@ -1,4 +1,3 @@
-pub mod AddFrame
 pub mod Replies
 pub mod Shown
 pub mod Eights

@@ -5,16 +5,12 @@ use Prim.Native.Nat.{ℕ, _+_, _*_}
 use mathlib.Core.Path.{_≡_}
 use mathlib.Core.List.{List, [], _∷_, _++_}
 use mathlib.Core.Bool.{Bool, cond}
-use lib.ListN.{length, getD, drop}
-use lib.Dec.{leb, eqb}
-use Rattle.numbers.specs.Numbers.{two, bytes2, bytes4}
+use lib.ListN.{length}
+use Rattle.numbers.specs.Numbers.{bytes2, bytes4}
 use Rattle.rules.specs.Memory.{over}
 use Rattle.rules.specs.Refusals.{Reply, accepted, declined}
 use Rattle.image.specs.Image.{Edited, lastOf}
-use Rattle.edits.specs.Ledger.Edit.{Add, Drop, Move, SetClass}
-use Rattle.edits.specs.Edits.{edited}
 use Rattle.lines.specs.Printed.{refusedBody, printed}
-use Rattle.command_parts.specs.Fields.{addSized, addedRule}
 
 -- 06 alone
 unfoldable pub doneLine : List ℕ
@@ -84,22 +80,6 @@ speechSized b e phones numbers contested = cond b e (leavingSpeech malformedLine
 -- the ruleset after an edit
 abbrev pub ruled : Edited → Effect
 ruled e = leaving (editLine e) (e .image)
-
--- 10, p (2), four lengths (1 each), their bytes: add
-unfoldable pub added : List ℕ → List ℕ → Effect
-added f image = sizedTo (addSized f) (ruled (edited image (Add (addedRule f) (two 1 f)))) image
-
--- 11, number (2): drop
-unfoldable pub dropped : List ℕ → List ℕ → Effect
-dropped f image = sizedTo (eqb (length f) 3) (ruled (edited image (Drop (two 1 f)))) image
-
--- 12, number (2), p (2): move
-unfoldable pub moved : List ℕ → List ℕ → Effect
-moved f image = sizedTo (eqb (length f) 5) (ruled (edited image (Move (two 1 f) (two 3 f)))) image
-
--- 28, symbol (1), letters to the end: set a class
-unfoldable pub classSet : List ℕ → List ℕ → Effect
-classSet f image = sizedTo (leb 2 (length f)) (ruled (edited image (SetClass (getD f 1 0) (drop 2 f)))) image
 
 -- a command was carried out: the memory after it, and the answer at the front of the lent bytes
 pub record Answered (e : Effect) (memory : List ℕ) (len : ℕ) (out out′ : List ℕ) : Type 0 where

@@ -10,7 +10,7 @@ use lib.Dec.{leb, eqb}
 use Rattle.numbers.specs.Numbers.{two}
 use Rattle.rules.specs.declared.Rule.{Rule}
 use Rattle.rule_bytes.specs.RuleBytes.{ruleStruct}
-use Rattle.file.specs.Layout.{frontSize, bodySize, ruleIn}
+use Rattle.file_format.specs.Layout.{frontSize, bodySize, ruleIn}
 
 -- four bytes
 abbrev pub four : ℕ → List ℕ → ℕ

@@ -10,7 +10,7 @@ use Rattle.rules.specs.Limits.{maxRules}
 use Rattle.image.specs.Image.{imageSize, countOf, lastOf, editsOf, withHead, withNumber, cleared}
 use Rattle.frames.specs.Output.{fields}
 use Rattle.lines.specs.Printed.{twos, printed}
-use Rattle.file.specs.Layout.{longestFile}
+use Rattle.file_format.specs.Layout.{longestFile}
 use Rattle.command_parts.specs.Fields.{four, eight}
 use Rattle.command_parts.specs.Answers.{Effect, leaving, sizedTo, doneLine, malformedLine}
 

@@ -1,5 +1,4 @@
 // The fields of a command's bytes.
-use file::layout;
 ghost use mathlib.Core.Path.{_≡_};
 ghost use Prim.Native.Nat.{_+_, _<_, _≤_};
 ghost use lib.ListN.{length};
@@ -34,10 +33,10 @@ pub fn eight_at(f: &[u8], at: usize) -> u64
 pub fn add_sized(f: &[u8]) -> bool
     ensures { λ r. ⌜ r ≡ addSized (now (f .entry)) ⌝ }
 {
-    if f.len() < layout::FRONT {
+    if f.len() < file_format::FRONT {
         return false;
     }
-    f.len() == layout::body_size(f)
+    f.len() == file_format::body_size(f)
 }
 
 // So many as are asked for; more than there are counts as all.

@@ -7,7 +7,8 @@ use native.Mathlib.Omega.{arith}
 use borrow.Author.Tests.{ne-eqb}
 use lib.ListN.{length, getD, List·getD-eq-default}
 use Rattle.rules.specs.Memory.{over}
-use Rattle.command_parts.specs.Answers.{Effect, Effects, SpeechEffect, Answered, BothAnswered, SpeechAnswered, malformedLine, added, dropped, moved, classSet}
+use Rattle.command_parts.specs.Answers.{Effect, Effects, SpeechEffect, Answered, BothAnswered, SpeechAnswered, malformedLine}
+use Rattle.commands.specs.Editing.{added, dropped, moved, classSet}
 use Rattle.command_parts.specs.Memory.{forcedBy, recountedBy, clearedBy, storedWord, storedSet, shownWords, shownSets, shownPhones, shownNumbers, shownContested, shownEdits}
 use Rattle.commands.specs.Lent.{builtBy, walkedBy, plainBy}
 use Rattle.commands.specs.Filing.{loadedBy, writeLine}

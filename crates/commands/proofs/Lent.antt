@@ -11,7 +11,7 @@ use Rattle.rules.specs.Refusals.{Reply, declined, Report}
 use Rattle.image.specs.Image.{Edited, outcome}
 use Rattle.exceptions.specs.Judging.{Listing, listingOf}
 use Rattle.command_parts.specs.Fields.{four, lentOf}
-use Rattle.reading.specs.Speech.{Told, spoken, refused, Said, saying, plainOutcome, plainSaid}
+use Rattle.speech.specs.Speech.{Told, spoken, refused, Said, saying, plainOutcome, plainSaid}
 use Rattle.tables.specs.Words.{building, built}
 use Rattle.tables.specs.Walk.{Walked, walkSaid}
 use Rattle.file.specs.Loading.{filing, filed, loaded}

@@ -1,3 +1,4 @@
+pub mod AddFrame
 pub mod Lent
 pub mod Spoken
 pub mod Writing

@@ -10,9 +10,9 @@ use Rattle.rules.specs.Refusals.{Reply, replyOf, refusalNumber, refusalPlace}
 use Rattle.rules.specs.declared.Refusal.{Refusal}
 use Rattle.rules.specs.declared.Answer.{Answer}
 use Rattle.rules.specs.declared.Answer.the-variants.{Accepted, Refused}
-use Rattle.reading.specs.Speech.{Told, toldOf, Said, saying}
-use Rattle.reading.specs.declared.Speech.{Speech}
-use Rattle.reading.specs.declared.Speech.the-variants as speeches
+use Rattle.speech.specs.Speech.{Told, toldOf, Said, saying}
+use Rattle.speech.specs.declared.Speech.{Speech}
+use Rattle.speech.specs.declared.Speech.the-variants as speeches
 use Rattle.tables.specs.Words.{leftCount, rightCount, Built, building}
 use Rattle.tables.specs.Walk.{Walked}
 use Rattle.lines.specs.Printed.{refusedBody, printed, refusalLine}

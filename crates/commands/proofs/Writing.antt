@@ -13,13 +13,13 @@ use Rattle.rules.specs.Memory.{over}
 use Rattle.rules.specs.Refusals.{refusalNumber, refusalPlace, Report, wrote, refused, reportOf}
 use Rattle.rules.specs.declared.Refusal.{Refusal}
 use Rattle.image.specs.Image.{valid}
-use Rattle.file.specs.File.{encode}
+use Rattle.file_format.specs.File.{encode}
 use Rattle.file.specs.Loading.{Filed, filing, filed, rulesetIn}
 use Rattle.rules.specs.declared.Written.{Written}
 use Rattle.rules.specs.declared.Written.the-variants.{Bytes, Refused}
 use Rattle.lines.specs.Printed.{refusedBody, refusalLine}
 use Rattle.lines.proofs.Printed.{length-printed}
-use Rattle.file.specs.Layout.{longestFile}
+use Rattle.file_format.specs.Layout.{longestFile}
 use Rattle.command_parts.specs.Fields.{four, lentOf, back}
 use Rattle.command_parts.specs.Answers.{malformedLine}
 use Rattle.commands.specs.Filing.{filedBack, filedIn, reportLine, fileLine, writeLine}

@@ -9,10 +9,10 @@ use Rattle.rules.specs.Refusals.{declined}
 use Rattle.image.specs.Image.{Edited, outcome}
 use Rattle.file.specs.Loading.{loaded, Filed, filing, filed, rulesetIn}
 use Rattle.rules.specs.Refusals.{Report, wrote, refused}
-use Rattle.file.specs.File.{encode}
+use Rattle.file_format.specs.File.{encode}
 use Rattle.loader.specs.Prepared.{maxInput}
 use Rattle.lines.specs.Printed.{refusedBody, printed}
-use Rattle.file.specs.Layout.{longestFile}
+use Rattle.file_format.specs.Layout.{longestFile}
 use Rattle.command_parts.specs.Fields.{four, lentOf, back}
 use Rattle.command_parts.specs.Answers.{Effect, ruled, sizedTo, malformedLine}
 

@@ -6,7 +6,7 @@ use lib.Dec.{leb, eqb}
 use lib.ListN.{length, take, drop}
 use Rattle.numbers.specs.Numbers.{two}
 use Rattle.exceptions.specs.Judging.{listingOf}
-use Rattle.reading.specs.Speech.{Told, spoken, refused, Said, saying, plainSaid}
+use Rattle.speech.specs.Speech.{Told, spoken, refused, Said, saying, plainSaid}
 use Rattle.tables.specs.Words.{leftCount, rightCount, Built, building, built}
 use Rattle.tables.specs.Walk.{Walked, walkSaid}
 use Rattle.rules.specs.Refusals.{Reply, accepted, declined}

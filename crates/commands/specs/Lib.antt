@@ -1,3 +1,4 @@
+pub mod Editing
 pub mod Lent
 pub mod Filing
 pub mod Monitor

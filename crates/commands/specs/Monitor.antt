@@ -9,7 +9,8 @@ use lib.ListN.{length, getD, take}
 use Rattle.rules.specs.Memory.{over}
 use Rattle.frames.specs.Lines.{Parsed}
 use Rattle.frames.specs.Lines.Parsed.{Bad, Good}
-use Rattle.command_parts.specs.Answers.{Effect, Effects, SpeechEffect, malformedLine, added, dropped, moved, classSet}
+use Rattle.command_parts.specs.Answers.{Effect, Effects, SpeechEffect, malformedLine}
+use Rattle.commands.specs.Editing.{added, dropped, moved, classSet}
 use Rattle.command_parts.specs.Memory.{forcedBy, recountedBy, clearedBy, storedWord, storedSet, shownWords, shownSets, shownPhones, shownNumbers, shownContested, shownEdits}
 use Rattle.commands.specs.Lent.{builtBy, walkedBy, plainBy}
 use Rattle.commands.specs.Filing.{loadedBy, writeLine}

@@ -1,7 +1,6 @@
 // The commands that change the ruleset.
 use command_parts::answers;
 use command_parts::fields;
-use file::layout;
 use rules::Answer;
 ghost use mathlib.Core.Path.{_≡_};
 ghost use Prim.Native.Nat.{_≤_};
@@ -11,7 +10,8 @@ ghost use Rattle.rules.specs.Refusals.{replyOf};
 ghost use Rattle.image.specs.Image.{imageSize, outcome};
 ghost use Rattle.edits.specs.Ledger.{Edit};
 ghost use Rattle.edits.specs.Edits.{edited};
-ghost use Rattle.command_parts.specs.Answers.{Answered, added, dropped, moved, classSet};
+ghost use Rattle.command_parts.specs.Answers.{Answered};
+ghost use Rattle.commands.specs.Editing.{added, dropped, moved, classSet};
 ghost use Rattle.command_parts.specs.Fields.{AddSized, addedRule};
 ghost use Rattle.command_parts.specs.Memory.{renumbered, forced, forcedBy, recounted, recountedBy, clearedBy};
 
@@ -20,7 +20,7 @@ pub fn add(f: &[u8], image: &mut [u8]) -> Answer
     requires { ⌜ AddSized (now f) ⌝ }
     ensures { λ r. ⌜ outcome (replyOf r) (now (image .exit)) ≡ edited (now (image .entry)) (Edit.Add (addedRule (now (f .entry))) (two 1 (now (f .entry)))) ⌝ }
 {
-    let rule = layout::rule_in(f);
+    let rule = file_format::rule_in(f);
     edits::add_rule(image, rule, fields::two_at(f, 1))
 }
 

@@ -13,7 +13,7 @@ ghost use Rattle.rules.specs.Refusals.{replyOf};
 ghost use Rattle.image.specs.Image.{imageSize, outcome};
 ghost use Rattle.file.specs.Loading.{filing};
 ghost use Rattle.rules.specs.Refusals.{reportOf};
-ghost use Rattle.file.specs.Layout.{longestFile};
+ghost use Rattle.file_format.specs.Layout.{longestFile};
 ghost use Rattle.command_parts.specs.Answers.{Answered};
 ghost use Rattle.commands.specs.Filing.{loadedFrom, loadedBy, filedIn, writeLine};
 

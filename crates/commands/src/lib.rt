@@ -5,7 +5,6 @@ pub mod speaking;
 
 use command_parts::answers;
 use command_parts::memory;
-use file::layout;
 ghost use mathlib.Core.Path.{_≡_};
 ghost use Prim.Native.Nat.{_≤_};
 ghost use lib.ListN.{length, take};
@@ -16,7 +15,7 @@ ghost use Rattle.commands.specs.Monitor.{commandIn, readsFile, holding, 
 
 // The bytes of the longest rule file: a head line, 32 lines of classes with 32 letters, and 512 rule lines with each field full. No answer has
 // more.
-pub const LONGEST_FILE: usize = layout::LONGEST_FILE;
+pub const LONGEST_FILE: usize = file_format::LONGEST_FILE;
 
 // The bytes of a line without their checksum, at the front of `frame`: how many there are, 0 for a line that is unsound or whose bytes have no
 // room. 2,048 bytes have room for each line of at most 4,096 digits.

@@ -1,8 +1,8 @@
 // The commands that build tables and speak names, over the first so many of what the monitor holds.
 use command_parts::answers;
 use command_parts::fields;
-use reading::Speech;
 use rules::Answer;
+use speech::Speech;
 use walk::WalkAnswer;
 ghost use mathlib.Core.Path.{_≡_};
 ghost use Prim.Native.Nat.{_≤_};
@@ -10,7 +10,7 @@ ghost use lib.ListN.{length, take, drop};
 ghost use Rattle.numbers.specs.Numbers.{two};
 ghost use Rattle.rules.specs.Memory.{over};
 ghost use Rattle.rules.specs.Refusals.{replyOf};
-ghost use Rattle.reading.specs.Speech.{toldOf, saying};
+ghost use Rattle.speech.specs.Speech.{toldOf, saying};
 ghost use Rattle.tables.specs.Words.{building};
 ghost use Rattle.walk.specs.Walked.{walkedOf};
 ghost use Rattle.transcript.specs.Names.{ToldWithin};

@@ -14,14 +14,14 @@ use Rattle.rules.specs.declared.Refusal.the-variants.{NotRuleset, BadList}
 use Rattle.exceptions.specs.Judging.{isList, Listing, listingOf}
 use Rattle.image.specs.Image.{valid, editsOf, literalsOf}
 use Rattle.fitting.specs.Fitting.{Str}
-use Rattle.reading.specs.Speech.{Outcome, atOnce, saidFrom, listedOr, Following, judgedCall, toldOf, Said as Told, saying}
-use Rattle.reading.specs.Places.{SaysListed}
-use Rattle.reading.specs.declared.Speech.{Speech}
-use Rattle.reading.specs.declared.delivery.Listed.{Listed}
-use Rattle.reading.specs.declared.delivery.Listed.the-variants.{Said}
-use Rattle.reading.specs.declared.Speech.the-variants.{Refused as NotSpoken}
-use Rattle.reading.proofs.Call.{found-refused, found-sound, listing-none, call-invalid, call-none, call-refused, call-sound}
-use Rattle.reading.proofs.Lookup.{listed-answer, listed-steps}
+use Rattle.speech.specs.Speech.{Outcome, atOnce, saidFrom, listedOr, Following, judgedCall, toldOf, Said as Told, saying}
+use Rattle.speech.specs.Places.{SaysListed}
+use Rattle.speech.specs.declared.Speech.{Speech}
+use Rattle.speech.specs.declared.Listed.{Listed}
+use Rattle.speech.specs.declared.Listed.the-variants.{Said}
+use Rattle.speech.specs.declared.Speech.the-variants.{Refused as NotSpoken}
+use Rattle.speech.proofs.Call.{found-refused, found-sound, listing-none, call-invalid, call-none, call-refused, call-sound}
+use Rattle.speech.proofs.Lookup.{listed-answer, listed-steps}
 use Rattle.tables.specs.Words.{Compiled}
 use Rattle.tables.specs.Walk.{walkThrough, Walked, walkedAs, walkFor}
 use Rattle.walk.specs.Walked.{walkedOf}

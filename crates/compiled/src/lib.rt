@@ -1,9 +1,9 @@
 // A compiled ruleset: the lent tables with their state counts as read from the words. It is what each name is sent through
 // (document 01, "The walk").
 use reading::delivery;
-use reading::delivery::Listed;
 use rules::Answer;
 use rules::Refusal;
+use speech::Listed;
 use walk::WalkAnswer;
 ghost use mathlib.Core.Path.{_≡_};
 ghost use mathlib.Core.Bool.{true};
@@ -12,8 +12,8 @@ ghost use Rattle.rules.specs.Names.{SoundName};
 ghost use Rattle.exceptions.specs.Layout.{wordsOf, phonesFor};
 ghost use Rattle.exceptions.specs.Judging.{isList, listingOf, noList, saysOf};
 ghost use Rattle.image.specs.Image.{valid, editsOf, literalsOf};
-ghost use Rattle.reading.specs.Places.{Unsaid};
-ghost use Rattle.reading.specs.Speech.{listedOr};
+ghost use Rattle.speech.specs.Places.{Unsaid};
+ghost use Rattle.speech.specs.Speech.{listedOr};
 ghost use Rattle.tables.specs.Words.{compiledFrom};
 ghost use Rattle.tables.specs.Walk.{walkThrough, walkedAs, walkSaid};
 ghost use Rattle.walk.specs.Walked.{walkedOf, compiledWith};

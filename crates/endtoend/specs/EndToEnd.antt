@@ -18,8 +18,8 @@ use Rattle.image.specs.Image.{imageSize}
 use Rattle.edits.specs.Ledger.{Edit, afterAll, counted}
 use Rattle.history.specs.Replay.{taken, Replay, FromEmpty, Replayed}
 use Rattle.fitting.specs.Fitting.{Str}
-use Rattle.reading.specs.Words.{Word, wordsIn, unlisted, stepsFor}
-use Rattle.reading.specs.Speech.{Told, spoken, refused, saidOf, Unlisted, ListedAs, Said, plainSaid}
+use Rattle.speech.specs.Words.{Word, wordsIn, unlisted, stepsFor}
+use Rattle.speech.specs.Speech.{Told, spoken, refused, saidOf, Unlisted, ListedAs, Said, plainSaid}
 use Rattle.tables.specs.Words.{editsIn, wordsFor, setsFor, Built, built}
 use Rattle.tables.specs.Walk.{Walked, walkSaid}
 

@@ -9,8 +9,8 @@ use Rattle.image.specs.Image.{ledgerOf}
 use Rattle.edits.specs.Ledger.{Edit, counted}
 use Rattle.edits.specs.Edits.{imageAll}
 use Rattle.fitting.specs.Fitting.{Str}
-use Rattle.reading.specs.Words.{wordsIn, unlisted}
-use Rattle.reading.specs.Speech.{atOnce, saidOf, Unlisted}
+use Rattle.speech.specs.Words.{wordsIn, unlisted}
+use Rattle.speech.specs.Speech.{atOnce, saidOf, Unlisted}
 use Rattle.tables.specs.Words.{built}
 use Rattle.tables.specs.Walk.{walkedAs, walkSaid}
 

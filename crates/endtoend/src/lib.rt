@@ -1,11 +1,11 @@
 // Demand 3 of document 01 as the contract of a function that calls the real ones: a list of edits from the empty ruleset, the tables built
 // after it, and a name read plainly and walked through those tables, with a lent exceptions list.
-use reading::Speech;
 use rules::Answer;
+use speech::Speech;
 use walk::WalkAnswer;
 ghost use Rattle.rules.specs.Refusals.{replyOf};
 ghost use Rattle.history.specs.Replay.{replaying};
-ghost use Rattle.reading.specs.Speech.{toldOf, saying};
+ghost use Rattle.speech.specs.Speech.{toldOf, saying};
 ghost use Rattle.tables.specs.Words.{building};
 ghost use Rattle.walk.specs.Walked.{walkedOf};
 ghost use Rattle.endtoend.specs.EndToEnd.{EndToEnd, lent, given};

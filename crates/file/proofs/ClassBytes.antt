@@ -13,7 +13,7 @@ use Rattle.rules.specs.Limits.{firstClass, classCount}
 use Rattle.classes.specs.Classes.{Classes, isClass}
 use Rattle.classes.specs.Masks.{maskSize, maskOf, masksFrom, masksOf, withMask}
 use Rattle.classes.specs.Setting.{withClass}
-use Rattle.file.proofs.ClassFrames.{class-range}
+use Rattle.file_format.proofs.ClassFrames.{class-range}
 
 module _ (k : Classes) (c : ℕ) (l : List ℕ) where
   -- the classes after it

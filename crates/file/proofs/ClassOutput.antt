@@ -17,9 +17,9 @@ use Rattle.frames.specs.Lines.{lineOf, framed, sumByte}
 use Rattle.frames.specs.Output.{Output, Sent, sent}
 use Rattle.frames.proofs.Lines.{length-line}
 use Rattle.frames.proofs.Output.{sent-then, sent-as, sent-next, sent-length, over-more}
-use Rattle.file.specs.Layout.{headLineSize}
-use Rattle.file.specs.File.{classBody, classLine, classLinesFrom, classLines}
-use Rattle.file.proofs.ClassFrames.{line-some}
+use Rattle.file_format.specs.Layout.{headLineSize}
+use Rattle.file_format.specs.File.{classBody, classLine, classLinesFrom, classLines}
+use Rattle.file_format.proofs.ClassFrames.{line-some}
 
 -- ---- the letters of a mask
 

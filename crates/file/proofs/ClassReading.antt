@@ -22,14 +22,14 @@ use Rattle.frames.specs.Lines.Parsed.{Bad, Good}
 use Rattle.frames.proofs.Lines.{sound-was, length-line}
 use Rattle.file.specs.declared.defining.ClassLine.{ClassLine}
 use Rattle.file.specs.declared.defining.ClassesEnd.{ClassesEnd}
-use Rattle.file.specs.Layout.{frameType, classType, classSymbol, lettersOf}
-use Rattle.file.specs.File.{classLines, classFrame, classFits, readRules, Defined, definedBy, readClasses, readDefined, afterClasses}
-use Rattle.file.specs.File.Read.{Broken}
+use Rattle.file_format.specs.Layout.{frameType, classType, classSymbol, lettersOf}
+use Rattle.file_format.specs.File.{classLines, classFrame, classFits, readRules, Defined, definedBy, readClasses, readDefined, afterClasses}
+use Rattle.file_format.specs.File.Read.{Broken}
 use Rattle.file.specs.Loading.{classMask, classAt, classesEnd}
-use Rattle.file.proofs.Bodies.{clash, both}
-use Rattle.file.proofs.ClassFrames.{class-range, lettered, classed}
-use Rattle.file.proofs.ClassLines.{Other, other-bad, other-type, class-other, class-broken, class-on}
-use Rattle.file.proofs.ClassesRead.{Lined, classes-were}
+use Rattle.file_format.proofs.Bodies.{clash, both}
+use Rattle.file_format.proofs.ClassFrames.{class-range, lettered, classed}
+use Rattle.file_format.proofs.ClassLines.{Other, other-bad, other-type, class-other, class-broken, class-on}
+use Rattle.file_format.proofs.ClassesRead.{Lined, classes-were}
 use Rattle.file.proofs.ClassBytes.{masks-with}
 use Rattle.file.proofs.ClassTests.{defining}
 

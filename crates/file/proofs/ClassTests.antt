@@ -20,11 +20,11 @@ use Rattle.frames.specs.Lines.Parsed.{Bad, Good}
 use Rattle.frames.proofs.Lines.{sound-was}
 use Rattle.frames.proofs.Report.{Found, found, not-found, frame-held, decoded-sound}
 use Rattle.file.specs.declared.defining.ClassLine.{ClassLine}
-use Rattle.file.specs.Layout.{frameType, classType, classSymbol, letterCount, classFrontSize, lettersOf, longestClassFrame}
-use Rattle.file.specs.File.{classFrame, classFits}
+use Rattle.file_format.specs.Layout.{frameType, classType, classSymbol, letterCount, classFrontSize, lettersOf, longestClassFrame}
+use Rattle.file_format.specs.File.{classFrame, classFits}
 use Rattle.file.specs.Loading.{noClassLine, classMask, classAt}
-use Rattle.file.proofs.Bodies.{both}
-use Rattle.file.proofs.ClassFrames.{class-range, range-class, lettered, classed}
+use Rattle.file_format.proofs.Bodies.{both}
+use Rattle.file_format.proofs.ClassFrames.{class-range, range-class, lettered, classed}
 
 -- ---- the class of a frame, test by test
 

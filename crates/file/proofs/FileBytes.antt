@@ -21,10 +21,10 @@ use Rattle.image.proofs.Lent.{classes-lent}
 use Rattle.image.proofs.Entries.{entries-length}
 use Rattle.image.proofs.Tests.{valid-sound, sound-classes}
 use Rattle.frames.proofs.Output.{over-more}
-use Rattle.file.specs.Layout.{lineSize, headLineSize, longestFrame, longestClassFrame}
-use Rattle.file.specs.File.{headLine, classLines, ruleLine, ruleLines, encode}
+use Rattle.file_format.specs.Layout.{lineSize, headLineSize, longestFrame, longestClassFrame}
+use Rattle.file_format.specs.File.{headLine, classLines, ruleLine, ruleLines, encode}
 use Rattle.file.specs.Loading.{rulesetIn, filing, filed}
-use Rattle.file.proofs.Lengths.{classes-longest}
+use Rattle.file_format.proofs.Lengths.{classes-longest}
 use Rattle.rules.specs.Refusals.{wrote, refused}
 
 -- ---- the lines of the first rules of a list

@@ -16,11 +16,11 @@ use Rattle.frames.specs.Lines.Parsed.{Bad, Good}
 use Rattle.frames.proofs.Report.{Found, found, not-found, frame-held}
 use Rattle.file.specs.declared.heading.Head.{Head}
 use Rattle.file.specs.declared.heading.HeadLine.{HeadLine}
-use Rattle.file.specs.Layout.{headCount, headLast, headFrameSize}
-use Rattle.file.specs.File.{isHead, readDefined, afterClasses, readFile}
+use Rattle.file_format.specs.Layout.{headCount, headLast, headFrameSize}
+use Rattle.file_format.specs.File.{isHead, readDefined, afterClasses, readFile}
 use Rattle.file.specs.Loading.{verdict, noHead, headIn, headAt}
-use Rattle.file.proofs.Bodies.{clash}
-use Rattle.file.proofs.Accepts.{read-head, head-limit}
+use Rattle.file_format.proofs.Bodies.{clash}
+use Rattle.file_format.proofs.Accepts.{read-head, head-limit}
 use Rattle.file.proofs.Parts.{head-length}
 
 pub no-decline : {A : Type 0} (n p : ℕ) → declined n p ≡ accepted → A

@@ -25,13 +25,13 @@ use Rattle.classes.specs.Expansion.{literalCount, literalTotal}
 use Rattle.classes.proofs.Counts.{count-pos}
 use Rattle.image.specs.State.{entry, member}
 use Rattle.image.proofs.Entries.{shaped}
-use Rattle.file.specs.Layout.{entryIn, numberedOf}
-use Rattle.file.specs.File.{Read, isRule, ruleFits, ended, readRules}
-use Rattle.file.specs.File.Read.{Accepted, Malformed, Broken}
+use Rattle.file_format.specs.Layout.{entryIn, numberedOf}
+use Rattle.file_format.specs.File.{Read, isRule, ruleFits, ended, readRules}
+use Rattle.file_format.specs.File.Read.{Accepted, Malformed, Broken}
 use Rattle.file.specs.Loading.{verdict, ruledIn, ruleAt, totalWith}
-use Rattle.file.proofs.Bodies.{clash, both, in-range}
-use Rattle.file.proofs.Numbers.{member-append, total-more}
-use Rattle.file.proofs.Accepts.{rulesetFrom, read-malformed, read-broken, read-on}
+use Rattle.file_format.proofs.Bodies.{clash, both, in-range}
+use Rattle.file_format.proofs.Numbers.{member-append, total-more}
+use Rattle.file_format.proofs.Accepts.{rulesetFrom, read-malformed, read-broken, read-on}
 use Rattle.file.proofs.Parts.{view-struct, shape-struct}
 use Rattle.file.proofs.NextLine.{unsound, line-found, line-ruled, line-onward, line-within}
 

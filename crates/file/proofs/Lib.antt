@@ -1,10 +1,3 @@
-pub mod Bodies
-pub mod Numbers
-pub mod ClassFrames
-pub mod ClassLines
-pub mod ClassesRead
-pub mod Accepts
-pub mod Lengths
 pub mod Parts
 pub mod FirstLine
 pub mod NextLine
@@ -19,6 +12,4 @@ pub mod FileStored
 pub mod RuleBytes
 pub mod ClassOutput
 pub mod FileBytes
-pub mod Example
 pub mod Round
-pub mod Longest

@@ -15,7 +15,7 @@ use Rattle.frames.specs.Lines.Parsed.{Bad, Good}
 use Rattle.frames.proofs.Report.{Found, found, not-found, frame-held}
 use Rattle.file.specs.declared.parsing.Ruled.{Ruled}
 use Rattle.file.specs.declared.parsing.RuleLine.{RuleLine}
-use Rattle.file.specs.Layout.{longestFrame, entryIn, numberedOf}
+use Rattle.file_format.specs.Layout.{longestFrame, entryIn, numberedOf}
 use Rattle.file.specs.Loading.{noneRuled, ruledIn, ruleAt}
 use Rattle.file.proofs.Parts.{ruled-long}
 

@@ -25,10 +25,10 @@ use Rattle.image.specs.Image.{imageSize, lastOf, masksIn, classesOf, whole, val
 use Rattle.image.proofs.Stored.{valid-fine}
 use Rattle.image.proofs.Whole.{whole-ledger, whole-valid}
 use Rattle.frames.proofs.Lines.{Bytes}
-use Rattle.file.specs.File.{wellFormed, encode, Read, readFile}
-use Rattle.file.specs.File.Read.{Accepted, Malformed, Broken}
+use Rattle.file_format.specs.File.{wellFormed, encode, Read, readFile}
+use Rattle.file_format.specs.File.Read.{Accepted, Malformed, Broken}
 use Rattle.file.specs.Loading.{ledgerFor, verdict, loaded, rulesetIn, filing, filed}
-use Rattle.file.proofs.Accepts.{accepts, accepted as accepted-was}
+use Rattle.file_format.proofs.Accepts.{accepts, accepted as accepted-was}
 use Rattle.file.proofs.FirstLine.{no-decline}
 use Rattle.file.proofs.Storing.{formed-ruleset, formed-fine}
 

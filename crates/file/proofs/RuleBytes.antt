@@ -12,10 +12,10 @@ use Rattle.image.specs.Image.{valid, countOf, entryAt, numberedAt}
 use Rattle.image.proofs.Entries.{entry-shaped, number-is-at}
 use Rattle.frames.specs.Lines.{framed, sumByte}
 use Rattle.frames.proofs.Lines.{length-line}
-use Rattle.file.specs.Layout.{lineSize, frontSize, longestFrame}
-use Rattle.file.specs.File.{ruleBody, ruleLine}
+use Rattle.file_format.specs.Layout.{lineSize, frontSize, longestFrame}
+use Rattle.file_format.specs.File.{ruleBody, ruleLine}
 use Rattle.file.specs.Loading.{fieldBytes, bodyBytes}
-use Rattle.file.proofs.Lengths.{length-rule}
+use Rattle.file_format.proofs.Lengths.{length-rule}
 
 -- four fields sent one after the other
 pub fields-are : (l t r p : List ℕ) → ((l ++ t) ++ r) ++ p ≡ fieldBytes l t r p

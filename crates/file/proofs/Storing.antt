@@ -24,12 +24,12 @@ use Rattle.frames.specs.Lines.{lineOf, Parsed, soundLine, decoded}
 use Rattle.frames.specs.Lines.Parsed.{Bad, Good}
 use Rattle.frames.proofs.Lines.{sound-was, length-line}
 use Rattle.frames.proofs.Report.{decoded-sound}
-use Rattle.file.specs.Layout.{lineSize, entryIn, numberedOf}
-use Rattle.file.specs.File.{wellFormed, Read, isRule, ruleFits, ended, readRules, readFile}
-use Rattle.file.specs.File.Read.{Accepted, Malformed, Broken}
+use Rattle.file_format.specs.Layout.{lineSize, entryIn, numberedOf}
+use Rattle.file_format.specs.File.{wellFormed, Read, isRule, ruleFits, ended, readRules, readFile}
+use Rattle.file_format.specs.File.Read.{Accepted, Malformed, Broken}
 use Rattle.file.specs.Loading.{ledgerFor, verdict, described, RulesFrom, ruleFrame, withRules}
-use Rattle.file.proofs.Bodies.{both, in-range}
-use Rattle.file.proofs.Accepts.{rulesetFrom, formed-is, read-malformed, read-broken, read-on}
+use Rattle.file_format.proofs.Bodies.{both, in-range}
+use Rattle.file_format.proofs.Accepts.{rulesetFrom, formed-is, read-malformed, read-broken, read-on}
 use Rattle.file.proofs.Parts.{view-struct}
 use Rattle.file.proofs.FirstLine.{no-decline}
 use Rattle.file.proofs.Slots.{rules-next, rules-length}

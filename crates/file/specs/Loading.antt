@@ -25,9 +25,9 @@ use Rattle.file.specs.declared.defining.ClassLine.{ClassLine}
 use Rattle.file.specs.declared.defining.ClassesEnd.{ClassesEnd}
 use Rattle.file.specs.declared.parsing.Ruled.{Ruled}
 use Rattle.file.specs.declared.parsing.RuleLine.{RuleLine}
-use Rattle.file.specs.Layout.{frameType, headCount, headLast, classType, classSymbol, lettersOf, ruleType, entryIn, numberedOf}
-use Rattle.file.specs.File.{encode, Read, isHead, classFits, Defined, isRule, readRules, readFile}
-use Rattle.file.specs.File.Read.{Accepted, Malformed, Broken}
+use Rattle.file_format.specs.Layout.{frameType, headCount, headLast, classType, classSymbol, lettersOf, ruleType, entryIn, numberedOf}
+use Rattle.file_format.specs.File.{encode, Read, isHead, classFits, Defined, isRule, readRules, readFile}
+use Rattle.file_format.specs.File.Read.{Accepted, Malformed, Broken}
 
 -- ---- reading
 

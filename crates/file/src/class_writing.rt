@@ -1,5 +1,4 @@
 // The classes of a ruleset written line after line, and the bytes that their lines need.
-use crate::layout;
 use frames::writer;
 use frames::writer::Writer;
 ghost use mathlib.Core.Path.{_≡_};
@@ -8,13 +7,13 @@ ghost use lib.ListN.{length};
 ghost use Rattle.rules.specs.Memory.{overAt};
 ghost use Rattle.classes.specs.Masks.{masksSize, lettersIn, classesIn};
 ghost use Rattle.frames.specs.Output.{output, Sent, digitPairs};
-ghost use Rattle.file.specs.Layout.{headLineSize};
-ghost use Rattle.file.specs.File.{classBody, classLine, classLines};
+ghost use Rattle.file_format.specs.Layout.{headLineSize};
+ghost use Rattle.file_format.specs.File.{classBody, classLine, classLines};
 
 // The bytes of the lines of a head, and of a class without its letters: two digits for each byte of the frame, and 0A.
-const HEAD_LINE: usize = 2 * layout::HEAD + 1;
+const HEAD_LINE: usize = 2 * file_format::HEAD + 1;
 
-const CLASS_FRONT_LINE: usize = 2 * (layout::LETTERS + 1) + 1;
+const CLASS_FRONT_LINE: usize = 2 * (file_format::LETTERS + 1) + 1;
 
 // The letters of a mask, ascending.
 fn put_letters(out: &mut [u8], w: Writer, pairs: &[u8], mask: u64) -> Writer
@@ -37,7 +36,7 @@ fn put_class(out: &mut [u8], w: Writer, pairs: &[u8], symbol: u8, mask: u64) -> 
     ensures next { λ r. ⌜ r .at ≡ w .at + 2 * length (classBody symbol (lettersIn mask)) ⌝ }
     ensures sent { λ r. ⌜ Sent (classBody symbol (lettersIn mask)) (output w (now (out .entry))) (output r (now (out .exit))) ⌝ }
 {
-    let a = writer::put_from(&mut *out, w, pairs, layout::CLASS_TYPE);
+    let a = writer::put_from(&mut *out, w, pairs, file_format::CLASS_TYPE);
     let b = writer::put_from(&mut *out, a, pairs, symbol);
     let n = classes::masks::size_in(mask);
     let c = writer::put_from(&mut *out, b, pairs, numbers::low(n));

@@ -1,5 +1,4 @@
 // The lines of a rule file after the head that define its classes.
-use crate::layout;
 ghost use mathlib.Core.Path.{_≡_};
 ghost use Prim.Native.Nat.{_≤_};
 ghost use lib.Dec.{leb};
@@ -7,7 +6,7 @@ ghost use lib.ListN.{length, drop, replicate};
 ghost use Rattle.rules.specs.Limits.{firstClass};
 ghost use Rattle.classes.specs.Masks.{masksSize, masksOf};
 ghost use Rattle.frames.specs.Lines.{soundLine};
-ghost use Rattle.file.specs.File.{classFits, readDefined};
+ghost use Rattle.file_format.specs.File.{classFits, readDefined};
 ghost use Rattle.file.specs.Loading.{noClassLine, classMask, classAt, classesEnd};
 
 // A line where a class may stand: whether it is of a class's type, and its class. A mask of 0 says that it defines none.
@@ -40,21 +39,21 @@ fn class_in(f: &[u8], low: u8) -> u64
     requires { ⌜ firstClass ≤ low ⌝ }
     ensures { λ r. ⌜ (r ≡ classMask low (now (f .entry))) × (classFits low (now (f .entry)) ≡ leb 1 r) ⌝ }
 {
-    if f.len() <= layout::LETTERS {
+    if f.len() <= file_format::LETTERS {
         return 0;
     }
-    let symbol = f[layout::SYMBOL];
+    let symbol = f[file_format::SYMBOL];
     if symbol < low {
         return 0;
     }
     if rules::MAX_SYMBOL < symbol {
         return 0;
     }
-    let end = layout::LETTERS + numbers::wide(f[layout::LETTER_COUNT]);
+    let end = file_format::LETTERS + numbers::wide(f[file_format::LETTER_COUNT]);
     if f.len() != end + 1 {
         return 0;
     }
-    classes::masks::class_mask(&f[layout::LETTERS..end])
+    classes::masks::class_mask(&f[file_format::LETTERS..end])
 }
 
 // The line that starts at a place.
@@ -62,20 +61,20 @@ fn read_class(file: &[u8], at: usize, low: u8) -> ClassLine
     requires { ⌜ firstClass ≤ low ⌝ }
     ensures { λ r. ⌜ r ≡ classAt low (length (now (file .entry))) (soundLine (drop at (now (file .entry)))) ⌝ }
 {
-    let mut frame = [0u8; layout::LONGEST_CLASS];
+    let mut frame = [0u8; file_format::LONGEST_CLASS];
     let line = frames::read_line(file, at, &mut frame);
     if !line.sound {
         return no_class();
     }
-    if frame[layout::TYPE] != layout::CLASS_TYPE {
+    if frame[file_format::TYPE] != file_format::CLASS_TYPE {
         return no_class();
     }
     let n = line.len;
-    if layout::LONGEST_CLASS < n {
+    if file_format::LONGEST_CLASS < n {
         return ClassLine {
             defines: true,
             next: line.next,
-            symbol: frame[layout::SYMBOL],
+            symbol: frame[file_format::SYMBOL],
             mask: 0,
         };
     }
@@ -83,7 +82,7 @@ fn read_class(file: &[u8], at: usize, low: u8) -> ClassLine
     ClassLine {
         defines: true,
         next: line.next,
-        symbol: frame[layout::SYMBOL],
+        symbol: frame[file_format::SYMBOL],
         mask,
     }
 }

@@ -1,5 +1,4 @@
 // The first line of a rule file: its head.
-use crate::layout;
 ghost use mathlib.Core.Path.{_≡_};
 ghost use lib.ListN.{length};
 ghost use Rattle.frames.specs.Lines.{soundLine};
@@ -33,23 +32,23 @@ fn no_head() -> Head
 fn head_in(f: &[u8]) -> Head
     ensures { λ r. ⌜ r ≡ headIn (now (f .entry)) ⌝ }
 {
-    if f.len() != layout::HEAD {
+    if f.len() != file_format::HEAD {
         return no_head();
     }
-    if f[layout::TYPE] != layout::HEAD_TYPE {
+    if f[file_format::TYPE] != file_format::HEAD_TYPE {
         return no_head();
     }
-    if f[layout::EDITION] != layout::FIRST_EDITION {
+    if f[file_format::EDITION] != file_format::FIRST_EDITION {
         return no_head();
     }
-    let count = numbers::wide16(numbers::two_at(f, layout::COUNT));
+    let count = numbers::wide16(numbers::two_at(f, file_format::COUNT));
     if rules::MAX_RULES < count {
         return no_head();
     }
     Head {
         ok: true,
         count,
-        last: numbers::two_at(f, layout::LAST),
+        last: numbers::two_at(f, file_format::LAST),
     }
 }
 
@@ -57,7 +56,7 @@ fn head_in(f: &[u8]) -> Head
 pub fn read_head(file: &[u8]) -> HeadLine
     ensures { λ r. ⌜ r ≡ headAt (length (now (file .entry))) (soundLine (now (file .entry))) ⌝ }
 {
-    let mut frame = [0u8; layout::HEAD];
+    let mut frame = [0u8; file_format::HEAD];
     let line = frames::read_line(file, 0, &mut frame);
     if !line.sound {
         let head = no_head();
@@ -68,7 +67,7 @@ pub fn read_head(file: &[u8]) -> HeadLine
         };
     }
     let n = line.len;
-    if layout::HEAD < n {
+    if file_format::HEAD < n {
         let head = no_head();
         return HeadLine {
             sound: true,

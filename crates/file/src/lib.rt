@@ -3,7 +3,6 @@
 mod class_writing;
 mod defining;
 mod heading;
-pub mod layout;
 mod loading;
 mod parsing;
 mod writing;

@@ -1,7 +1,6 @@
 // A rule file judged whole, then stored in lent memory.
 use crate::defining;
 use crate::heading;
-use crate::layout;
 use crate::parsing;
 use rules::Answer;
 use rules::Refusal;
@@ -17,8 +16,8 @@ ghost use Rattle.classes.specs.Masks.{masksSize, classesIn};
 ghost use Rattle.numbers.specs.Bits.{held};
 ghost use Rattle.image.specs.Image.{imageSize, withRule, whole};
 ghost use Rattle.frames.specs.Lines.{decoded};
-ghost use Rattle.file.specs.Layout.{lineSize, entryIn, numberedOf};
-ghost use Rattle.file.specs.File.{readRules, readFile};
+ghost use Rattle.file_format.specs.Layout.{lineSize, entryIn, numberedOf};
+ghost use Rattle.file_format.specs.File.{readRules, readFile};
 ghost use Rattle.file.specs.Loading.{ledgerFor, verdict, described, RulesFrom, ruleFrame, withRules};
 
 // Whether a set of numbers, a bit for each, holds n; then it does.
@@ -103,7 +102,7 @@ fn store_rule(file: &[u8], at: usize, place: usize, image: &mut [u8]) -> usize
     ensures slot { λ _. ⌜ now (image .exit) ≡ withRule place (numberedOf (entryIn (decoded (drop at (now (file .entry)))))) (now (image .entry)) ⌝ }
 {
     let n = parsing::frame_size(file, at);
-    let mut frame = [0u8; layout::LONGEST];
+    let mut frame = [0u8; file_format::LONGEST];
     frames::decode(file, at, n, &mut frame);
     let entry = parsing::entry_in(&frame[..n]);
     image::put_rule(&mut *image, place, entry);

@@ -1,5 +1,4 @@
 // The lines of a rule file after its classes: a rule in each.
-use crate::layout;
 use rules::Numbered;
 use rules::Rule;
 ghost use mathlib.Core.Path.{_≡_};
@@ -10,8 +9,8 @@ ghost use Rattle.rules.specs.Limits.{maxRules};
 ghost use Rattle.rules.specs.Shape.{view, shape};
 ghost use Rattle.classes.specs.Masks.{masksSize, classesIn};
 ghost use Rattle.frames.specs.Lines.{soundLine, decoded};
-ghost use Rattle.file.specs.Layout.{longestFrame, entryIn, numberedOf};
-ghost use Rattle.file.specs.File.{isRule};
+ghost use Rattle.file_format.specs.Layout.{longestFrame, entryIn, numberedOf};
+ghost use Rattle.file_format.specs.File.{isRule};
 ghost use Rattle.file.specs.Loading.{noneRuled, ruleFrame, ruledIn, ruleAt, totalWith};
 
 // A rule that was read from a frame.
@@ -31,13 +30,13 @@ pub struct RuleLine {
 fn is_rule(f: &[u8]) -> bool
     ensures { λ r. ⌜ r ≡ isRule (now (f .entry)) ⌝ }
 {
-    if f.len() <= layout::FRONT {
+    if f.len() <= file_format::FRONT {
         return false;
     }
-    if f[layout::TYPE] != layout::RULE_TYPE {
+    if f[file_format::TYPE] != file_format::RULE_TYPE {
         return false;
     }
-    f.len() - 1 == layout::body_size(f)
+    f.len() - 1 == file_format::body_size(f)
 }
 
 // The rule of such a frame, with its number.
@@ -45,8 +44,8 @@ pub fn entry_in(f: &[u8]) -> Numbered
     requires { ⌜ isRule (now f) ≡ true ⌝ }
     ensures { λ r. ⌜ r ≡ numberedOf (entryIn (now (f .entry))) ⌝ }
 {
-    let number = numbers::two_at(f, layout::NUMBER);
-    let rule = layout::rule_in(f);
+    let number = numbers::two_at(f, file_format::NUMBER);
+    let rule = file_format::rule_in(f);
     Numbered { number, rule }
 }
 
@@ -55,11 +54,11 @@ pub fn frame_size(file: &[u8], at: usize) -> usize
     requires { ⌜ ruleFrame (decoded (drop at (now file))) ≡ true ⌝ }
     ensures { λ r. ⌜ (r ≡ length (decoded (drop at (now (file .entry))))) × (r ≤ longestFrame) ⌝ }
 {
-    let l = numbers::wide(frames::byte_at(file, at, layout::LEFT_LEN));
-    let t = numbers::wide(frames::byte_at(file, at, layout::TARGET_LEN));
-    let r = numbers::wide(frames::byte_at(file, at, layout::RIGHT_LEN));
-    let p = numbers::wide(frames::byte_at(file, at, layout::PHONES_LEN));
-    layout::FRONT + (l + (t + (r + p))) + 1
+    let l = numbers::wide(frames::byte_at(file, at, file_format::LEFT_LEN));
+    let t = numbers::wide(frames::byte_at(file, at, file_format::TARGET_LEN));
+    let r = numbers::wide(frames::byte_at(file, at, file_format::RIGHT_LEN));
+    let p = numbers::wide(frames::byte_at(file, at, file_format::PHONES_LEN));
+    file_format::FRONT + (l + (t + (r + p))) + 1
 }
 
 fn no_rule() -> Ruled
@@ -94,7 +93,7 @@ fn ruled_in(f: &[u8], last: u16) -> Ruled
 pub fn read_rule(file: &[u8], at: usize, last: u16) -> RuleLine
     ensures { λ r. ⌜ r ≡ ruleAt last (length (now (file .entry))) (soundLine (drop at (now (file .entry)))) ⌝ }
 {
-    let mut frame = [0u8; layout::LONGEST];
+    let mut frame = [0u8; file_format::LONGEST];
     let line = frames::read_line(file, at, &mut frame);
     if !line.sound {
         let ruled = no_rule();
@@ -105,7 +104,7 @@ pub fn read_rule(file: &[u8], at: usize, last: u16) -> RuleLine
         };
     }
     let n = line.len;
-    if layout::LONGEST < n {
+    if file_format::LONGEST < n {
         let ruled = no_rule();
         return RuleLine {
             sound: true,

@@ -1,6 +1,5 @@
 // A ruleset written line after line, and the bytes that its file needs.
 use crate::class_writing;
-use crate::layout;
 use frames::writer;
 use frames::writer::Writer;
 ghost use mathlib.Core.Path.{_≡_};
@@ -12,14 +11,14 @@ ghost use Rattle.rules.specs.Limits.{maxRules};
 ghost use Rattle.rules.specs.Memory.{over, overAt};
 ghost use Rattle.image.specs.Image.{valid, countOf, entryAt, entriesOf};
 ghost use Rattle.frames.specs.Output.{output, Sent, digitPairs};
-ghost use Rattle.file.specs.Layout.{longestFrame, lineSize, headLineSize};
-ghost use Rattle.file.specs.File.{headLine, ruleLine, ruleLines, encode};
+ghost use Rattle.file_format.specs.Layout.{longestFrame, lineSize, headLineSize};
+ghost use Rattle.file_format.specs.File.{headLine, ruleLine, ruleLines, encode};
 ghost use Rattle.file.specs.Loading.{rulesetIn, numberBytes, lengthBytes, fieldBytes, bodyBytes};
 
 // The bytes of the line of a frame of n bytes: two digits each, and 0A. Those of a head's, and of a rule's without its fields.
-const HEAD_LINE: usize = 2 * layout::HEAD + 1;
+const HEAD_LINE: usize = 2 * file_format::HEAD + 1;
 
-const FRONT_LINE: usize = 2 * (layout::FRONT + 1) + 1;
+const FRONT_LINE: usize = 2 * (file_format::FRONT + 1) + 1;
 
 // A field's length.
 fn put_length(out: &mut [u8], w: Writer, pairs: &[u8], field: &[u8]) -> Writer
@@ -76,7 +75,7 @@ fn put_number(out: &mut [u8], w: Writer, pairs: &[u8], number: u16) -> Writer
     ensures next { λ r. ⌜ r .at ≡ w .at + 6 ⌝ }
     ensures sent { λ r. ⌜ Sent (numberBytes number) (output w (now (out .entry))) (output r (now (out .exit))) ⌝ }
 {
-    let a = writer::put_from(&mut *out, w, pairs, layout::RULE_TYPE);
+    let a = writer::put_from(&mut *out, w, pairs, file_format::RULE_TYPE);
     let b = writer::put_from(&mut *out, a, pairs, (number / 256) as u8);
     writer::put_from(out, b, pairs, (number % 256) as u8)
 }
@@ -123,8 +122,8 @@ fn write_head(out: &mut [u8], count: usize, last: u16)
     ensures { λ _. ⌜ now (out .exit) ≡ over (headLine count last) (now (out .entry)) ⌝ }
 {
     let start = writer::begin(0);
-    let kind = writer::put(&mut *out, start, layout::HEAD_TYPE);
-    let edition = writer::put(&mut *out, kind, layout::FIRST_EDITION);
+    let kind = writer::put(&mut *out, start, file_format::HEAD_TYPE);
+    let edition = writer::put(&mut *out, kind, file_format::FIRST_EDITION);
     let counted = writer::put_two(&mut *out, edition, count);
     let body = writer::put_two(&mut *out, counted, numbers::wide16(last));
     writer::end(out, body);

@@ -15,7 +15,7 @@ use Rattle.rules.proofs.Cases.{byBool}
 use Rattle.image.specs.Image.{valid, editsOf, literalsOf}
 use Rattle.exceptions.specs.Judging.{isList, Listing, listingOf}
 use Rattle.fitting.specs.Fitting.{Str}
-use Rattle.reading.specs.Speech.{Outcome, speaks, declines, judgedCall, phonesOf, numbersOf, Said, toldOf, saying, delivered, refused}
+use Rattle.speech.specs.Speech.{Outcome, speaks, declines, judgedCall, phonesOf, numbersOf, Said, toldOf, saying, delivered, refused}
 use Rattle.tables.specs.Words.{compiledFrom}
 use Rattle.tables.specs.Walk.{Walked, walkThrough, walkFor, walkSaid}
 use Rattle.walk.specs.Walked.{walkedOf}

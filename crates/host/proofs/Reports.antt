@@ -13,7 +13,7 @@ use Rattle.rule_bytes.specs.RuleBytes.{ruleOf, ruleSize, blankRule}
 use Rattle.image.specs.Image.{imageSize, valid, ledgerOf, Edited, outcome}
 use Rattle.edits.specs.Ledger.{Edit, judged}
 use Rattle.edits.specs.Edits.{edited, outcomeBy}
-use Rattle.reading.specs.Speech.{Told, Said, saying}
+use Rattle.speech.specs.Speech.{Told, Said, saying}
 use Rattle.tables.specs.Words.{Built, building}
 use Rattle.file.specs.Loading.{Filed, filing}
 use Rattle.host.specs.Files.{writtenCode, bytesOrPlace}

@@ -9,7 +9,7 @@ use Rattle.rules.specs.Refusals.{Reply, accepted, declined, replyCode}
 use Rattle.rules.specs.declared.Rule.{Rule}
 use Rattle.rule_bytes.specs.RuleBytes.{ruleSize, ruleOf, blankRule}
 use Rattle.image.specs.Image.{imageSize, valid, countOf, lastOf, editsOf}
-use Rattle.reading.specs.Speech.{Told, spoken, refused}
+use Rattle.speech.specs.Speech.{Told, spoken, refused}
 
 -- ---- the ruleset
 

@@ -1,8 +1,8 @@
 // What an answer is as numbers: a code, and a place or a count.
-use reading::Speech;
 use rules::Written;
+use speech::Speech;
 ghost use mathlib.Core.Path.{_≡_};
-ghost use Rattle.reading.specs.Speech.{toldOf};
+ghost use Rattle.speech.specs.Speech.{toldOf};
 ghost use Rattle.host.specs.Codes.{spokenCode, phonesOrPlace, phonesGiven, numbersGiven, contestedGiven};
 ghost use Rattle.rules.specs.Refusals.{reportOf};
 ghost use Rattle.host.specs.Files.{writtenCode, bytesOrPlace};

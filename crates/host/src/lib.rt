@@ -11,7 +11,7 @@ ghost use Rattle.image.specs.Image.{cleared};
 ghost use Rattle.edits.specs.Ledger.{Edit};
 ghost use Rattle.edits.specs.Edits.{edited};
 ghost use Rattle.exceptions.specs.Judging.{listingOf};
-ghost use Rattle.reading.specs.Speech.{plainSaid};
+ghost use Rattle.speech.specs.Speech.{plainSaid};
 ghost use Rattle.tables.specs.Words.{built};
 ghost use Rattle.tables.specs.Walk.{walkSaid};
 ghost use Rattle.host.specs.Codes.{checked, countIn, lastIn, editsIn, spokenCode, phonesOrPlace, numbersGiven, contestedGiven, ruleGiven};

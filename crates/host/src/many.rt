@@ -9,7 +9,7 @@ ghost use lib.ListN.{length, getD, take, drop};
 ghost use Rattle.rules.specs.Memory.{over};
 ghost use Rattle.image.specs.Image.{valid};
 ghost use Rattle.exceptions.specs.Judging.{isList, listingOf};
-ghost use Rattle.reading.specs.Speech.{toldOf};
+ghost use Rattle.speech.specs.Speech.{toldOf};
 ghost use Rattle.tables.specs.Walk.{walkSaid};
 ghost use Rattle.host.specs.Codes.{spokenCode, phonesOrPlace, numbersGiven, contestedGiven};
 ghost use Rattle.host.specs.Many.{replySize, spokenAll, hasNext, Next};

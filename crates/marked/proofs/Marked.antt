@@ -4,7 +4,7 @@ use mathlib.Core.Path.{_≡_, refl}
 use mathlib.Core.List.{map}
 use Rattle.rules.specs.Names.{judgedName}
 use Rattle.fitting.specs.Reading.{plain}
-use Rattle.reading.specs.Words.{wordsIn}
+use Rattle.speech.specs.Words.{wordsIn}
 use Rattle.numbers.specs.Bits.{bit}
 use Rattle.tables.specs.Words.{pack, builtWords, builtSets}
 use Rattle.tables.specs.Walk.{lowest, howMany, places, walk, usable, judgedTables, stepsIn, walkWord, walkThrough}

@@ -10,7 +10,7 @@ use Rattle.classes.specs.Classes.{noClasses}
 use Rattle.classes.specs.Expansion.{expand}
 use Rattle.exceptions.specs.Judging.{noList}
 use Rattle.fitting.specs.Fitting.{Str}
-use Rattle.reading.specs.Speech.{Outcome, speaks, declines, stepsOf, answered, judgedFor, phonesOf, numbersOf, contestedOf, plainWords}
+use Rattle.speech.specs.Speech.{Outcome, speaks, declines, stepsOf, answered, judgedFor, phonesOf, numbersOf, contestedOf, plainWords}
 use Rattle.tables.specs.States.{states}
 use Rattle.tables.specs.Tables.{rightPattern}
 use Rattle.tables.specs.Words.{setSize, rightSets, Compiled, compiledFrom, rightOf, builtWords, builtSets}

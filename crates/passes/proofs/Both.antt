@@ -7,7 +7,7 @@ use mathlib.Core.List.{List}
 use lib.Dec.{ltb}
 use lib.ListN.{take}
 use Rattle.fitting.specs.Fitting.{frame}
-use Rattle.reading.specs.Places.{frameSize}
+use Rattle.speech.specs.Places.{frameSize}
 use Rattle.tables.specs.Words.{rightRows}
 use Rattle.tables.specs.Walk.{step, pass, allBelow, usable}
 use Rattle.tables.proofs.Truth.{clash}

@@ -13,8 +13,8 @@ use Rattle.rules.proofs.Cases.{and-l}
 use Rattle.rules.specs.Names.{SoundName}
 use Rattle.exceptions.specs.Judging.{saysOf}
 use Rattle.fitting.specs.Fitting.{Str, frame}
-use Rattle.reading.specs.Words.{Word, word, wordsIn, unless, unlisted, frameOf, wordAt, endAt, Starts, WordOf, wordsFrom}
-use Rattle.reading.specs.Places.{frameSize, FoundFor}
+use Rattle.speech.specs.Words.{Word, word, wordsIn, unless, unlisted, frameOf, wordAt, endAt, Starts, WordOf, wordsFrom}
+use Rattle.speech.specs.Places.{frameSize, FoundFor}
 use Rattle.fitting.proofs.Strings.{frame-long}
 use Rattle.reading.proofs.NameWords.{words-begin, words-step, words-past, end-most, starts-first, starts-next, no-start, word-long, frame-length, frame-symbols}
 use Rattle.reading.proofs.WordReading.{part-long}

@@ -8,8 +8,8 @@ use lib.Dec.{ltb}
 use lib.ListN.{length, getD, take, drop}
 use Rattle.exceptions.specs.Judging.{saysOf}
 use Rattle.fitting.specs.Fitting.{Str, frame}
-use Rattle.reading.specs.Words.{wordsIn, unlisted, wordAt, Starts}
-use Rattle.reading.specs.Places.{frameSize, FoundFor}
+use Rattle.speech.specs.Words.{wordsIn, unlisted, wordAt, Starts}
+use Rattle.speech.specs.Places.{frameSize, FoundFor}
 use Rattle.tables.specs.Tables.{Table}
 use Rattle.tables.specs.Words.{headWords, rowSize, rightRows, neededWords, tableAt}
 use Rattle.tables.specs.Walk.{Step as State, from, pass, allBelow, leftAt, rightAt, walkUsable, walkSteps, allWords, sumWords}

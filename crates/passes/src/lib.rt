@@ -3,8 +3,8 @@ ghost use mathlib.Core.Path.{_≡_};
 ghost use mathlib.Core.Bool.{true, false};
 ghost use Prim.Native.Nat.{_+_, _-_, _*_, _<_, _≤_};
 ghost use lib.ListN.{length};
-ghost use Rattle.reading.specs.Words.{frameOf, wordAt, WordOf};
-ghost use Rattle.reading.specs.Places.{Unsaid, frameSize};
+ghost use Rattle.speech.specs.Words.{frameOf, wordAt, WordOf};
+ghost use Rattle.speech.specs.Places.{Unsaid, frameSize};
 ghost use Rattle.tables.specs.Words.{rowSize, neededWords};
 ghost use Rattle.passes.specs.Passes.{Stepped, Symbols, rowsAt, leftOn, rightOn, Passed, Both, Rows, memory, Sized, WordPassed, AllPassed};
 

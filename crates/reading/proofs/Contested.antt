@@ -14,7 +14,7 @@ use Rattle.classes.specs.Classes.{Classes}
 use Rattle.image.specs.State.{noEntry}
 use Rattle.fitting.specs.Fitting.{Str, frame, FitsAt}
 use Rattle.fitting.specs.Reading.{Application, Piece, applied, past}
-use Rattle.reading.specs.Speech.{contestedIn, contestedOf}
+use Rattle.speech.specs.Speech.{contestedIn, contestedOf}
 use Rattle.reading.specs.Meaning.{Fitting, none, one, other, Contested, Arrives, begins, goes, Contests, nowhere, there, elsewhere, piecesOf}
 
 module _ (k : Classes) (w : Str) (i : ℕ) where

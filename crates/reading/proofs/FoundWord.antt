@@ -14,8 +14,8 @@ use Rattle.exceptions.specs.declared.Ending.{Ending}
 use Rattle.exceptions.specs.declared.Ending.the-variants.{State, Absent}
 use Rattle.exceptions.proofs.Decided.{list-facts}
 use Rattle.fitting.specs.Fitting.{Str}
-use Rattle.reading.specs.Words.{wordAt, endAt}
-use Rattle.reading.specs.Places.{Unsaid, FoundFor}
+use Rattle.speech.specs.Words.{wordAt, endAt}
+use Rattle.speech.specs.Places.{Unsaid, FoundFor}
 use Rattle.reading.proofs.NameWords.{word-cut, word-whole, word-sound}
 
 pub state-most : (list : List ℕ) (q : ℕ) → StateOf list q → q ≤ maxStates

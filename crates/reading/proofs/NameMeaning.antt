@@ -11,7 +11,7 @@ use Rattle.rules.specs.Shape.{Entry}
 use Rattle.classes.specs.Classes.{Classes}
 use Rattle.fitting.specs.Fitting.{Str}
 use Rattle.fitting.specs.Reading.{Piece, listed, Reading, finished, uncovered, plain}
-use Rattle.reading.specs.Words.{Word, inName, phonesOr, readWord, followed, readWords}
+use Rattle.speech.specs.Words.{Word, inName, phonesOr, readWord, followed, readWords}
 use Rattle.reading.specs.Meaning.{Uncovered, piecesOf, SaidWord, fromList, byRules, SaidWords, none, next, UncoveredIn, here, later}
 use Rattle.fitting.proofs.Search.{Targets}
 use Rattle.reading.proofs.WordReading.{listed-word}

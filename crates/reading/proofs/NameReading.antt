@@ -10,10 +10,10 @@ use lib.ListN.{length, take}
 use Rattle.rules.specs.Names.{SoundName}
 use Rattle.fitting.specs.Fitting.{Str, frame}
 use Rattle.fitting.specs.Reading.{Piece, Reading, finished, uncovered, badTables, after}
-use Rattle.reading.specs.Words.{Word, word, wordsIn, readWord, followed, readWords, wordAt, endAt, Starts, WordOf, wordsFrom}
-use Rattle.reading.specs.Places.{EndsBy, partsAt, frameSize, partsReading, PartsSoFar, ReadOn}
-use Rattle.reading.specs.declared.Reached.{Reached}
-use Rattle.reading.specs.declared.Reached.the-variants.{Rules, Uncovered, BadTables}
+use Rattle.speech.specs.Words.{Word, word, wordsIn, readWord, followed, readWords, wordAt, endAt, Starts, WordOf, wordsFrom}
+use Rattle.speech.specs.Places.{EndsBy, partsAt, frameSize, partsReading, PartsSoFar, ReadOn}
+use Rattle.speech.specs.declared.Reached.{Reached}
+use Rattle.speech.specs.declared.Reached.the-variants.{Rules, Uncovered, BadTables}
 use Rattle.reading.proofs.Reached.{the-type}
 use Rattle.reading.proofs.Loop.{after-none}
 use Rattle.reading.proofs.Plain.{not-rules}

@@ -17,7 +17,7 @@ use Rattle.rules.specs.Memory.{over}
 use Rattle.rules.proofs.Cases.{byBool, and-l, and-r, and-i}
 use Rattle.rules.proofs.Memory.{over-snoc, snoc-by}
 use Rattle.fitting.specs.Fitting.{Str, frame}
-use Rattle.reading.specs.Words.{Word, word, split, onFirst, placed, wordsIn, stepsFor, boundaryOr, frameOf, firstWord, wordAt, endAt, Starts, wordsFrom, WordOf}
+use Rattle.speech.specs.Words.{Word, word, split, onFirst, placed, wordsIn, stepsFor, boundaryOr, frameOf, firstWord, wordAt, endAt, Starts, wordsFrom, WordOf}
 
 -- ---- the first word of a string, and the others
 

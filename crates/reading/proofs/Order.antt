@@ -22,8 +22,8 @@ use Rattle.classes.specs.Classes.{Classes}
 use Rattle.image.specs.Image.{valid, entriesOf, classesOf}
 use Rattle.fitting.specs.Fitting.{Str, frame, fitsBy}
 use Rattle.fitting.specs.Reading.{Application, Choice, chosen, nothing, unusable, Piece, applied, Reading, finished, uncovered, badTables, cons, past, onward, readFrom, passing, firstRule, firstFit, plain}
-use Rattle.reading.specs.Words.{Word, wordsIn, inName, phonesOr, readWord, followed, readWords}
-use Rattle.reading.specs.Speech.{Outcome, speaks, answered, judgedBy, saidFrom, Following, judgedFor, phonesOf, numbersOf, contestedIn, contestedOf, spoken, refused, delivered, plainWords, plainSaid}
+use Rattle.speech.specs.Words.{Word, wordsIn, inName, phonesOr, readWord, followed, readWords}
+use Rattle.speech.specs.Speech.{Outcome, speaks, answered, judgedBy, saidFrom, Following, judgedFor, phonesOf, numbersOf, contestedIn, contestedOf, spoken, refused, delivered, plainWords, plainSaid}
 use Rattle.reading.specs.Meaning.{Reordered, same, swapped, under, twice}
 use Rattle.fitting.proofs.Search.{first-tells}
 use Rattle.reading.proofs.Contested.{contested-append}

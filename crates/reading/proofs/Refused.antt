@@ -16,10 +16,10 @@ use Rattle.classes.specs.Classes.{Classes}
 use Rattle.image.specs.Image.{valid, entriesOf, classesOf}
 use Rattle.fitting.specs.Fitting.{Str}
 use Rattle.fitting.specs.Reading.{Piece, listed, Reading}
-use Rattle.reading.specs.Words.{wordsIn}
-use Rattle.reading.specs.Speech.{Outcome, speaks, declines, atOnce, stepsOf, answered, Following, saidOf, Unlisted, phonesOf, numbersOf, spoken, refused, saying, delivered, plainWords, plainOutcome, plainSaid}
+use Rattle.speech.specs.Words.{wordsIn}
+use Rattle.speech.specs.Speech.{Outcome, speaks, declines, atOnce, stepsOf, answered, Following, saidOf, Unlisted, phonesOf, numbersOf, spoken, refused, saying, delivered, plainWords, plainOutcome, plainSaid}
 use Rattle.reading.specs.Meaning.{UncoveredIn}
-use Rattle.reading.proofs.Call.{call-unlisted, CallCase, refuses, lists, follows, call-case}
+use Rattle.speech.proofs.Call.{call-unlisted, CallCase, refuses, lists, follows, call-case}
 use Rattle.fitting.proofs.Search.{Targets, valid-targets}
 use Rattle.reading.proofs.NameMeaning.{WordsEnding, finish, stop, words-end, uncovered-stops}
 

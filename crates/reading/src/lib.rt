@@ -1,11 +1,12 @@
 // The plain reading of a name, word by word: at each reached letter the first rule in order that fits (document 01, "Letters, rules, fitting").
-pub mod delivery;
 pub mod words;
 
-use delivery::Listed;
 use fitting::Fit;
 use rules::Answer;
 use rules::Refusal;
+use speech::Listed;
+use speech::Reached;
+use speech::Speech;
 ghost use mathlib.Core.Path.{_≡_};
 ghost use mathlib.Core.Bool.{true};
 ghost use mathlib.Core.List.{[]};
@@ -16,33 +17,15 @@ ghost use Rattle.exceptions.specs.Layout.{wordsOf, phonesFor};
 ghost use Rattle.exceptions.specs.Judging.{isList, listingOf, noList, saysOf};
 ghost use Rattle.image.specs.Image.{entriesOf, classesOf, valid};
 ghost use Rattle.fitting.specs.Reading.{firstFit, plain};
-ghost use Rattle.reading.specs.Words.{word, readWord, frameOf, wordAt, WordOf};
-ghost use Rattle.reading.specs.Speech.{toldOf, saying, answered, listedOr, delivered, plainWords, plainSaid};
-ghost use Rattle.reading.specs.Places.{ReadBy, Unsaid, frameSize, partsAt, PartsSoFar, ReadOn};
+ghost use Rattle.speech.specs.Words.{word, readWord, frameOf, wordAt, WordOf};
+ghost use Rattle.speech.specs.Speech.{toldOf, saying, answered, listedOr, delivered, plainWords, plainSaid};
+ghost use Rattle.speech.specs.Places.{ReadBy, Unsaid, frameSize, partsAt, PartsSoFar, ReadOn};
 
 // Symbols of the longest frame: a boundary before the name and one after it.
 pub const MAX_FRAME: usize = rules::MAX_NAME + 2;
 
 // Lent as a list where there is none: too few words for any.
 pub const NO_LIST: [u32; 1] = [0];
-
-// The answer of a call that speaks a name: how many phones and rule numbers it gave, and at how many reached letters more than one rule fits; or
-// why it declined.
-pub enum Speech {
-    Spoken {
-        phones: usize,
-        numbers: usize,
-        contested: usize,
-    },
-    Refused(Refusal),
-}
-
-// How reading ended: how many rules were applied, the letter that none covers, or tables that are unusable.
-pub enum Reached {
-    Rules(usize),
-    Uncovered(usize),
-    BadTables,
-}
 
 // The parts of the rules applied to a framed word, in order, from its first letter on.
 fn read_letters(image: &[u8], frame: &[u8], parts: &mut [u32]) -> Reached
@@ -58,7 +41,7 @@ fn read_letters(image: &[u8], frame: &[u8], parts: &mut [u32]) -> Reached
         let Fit::Rule(place, fitting) = fit else {
             return Reached::Uncovered(i);
         };
-        parts[k] = delivery::part_of(place, fitting);
+        parts[k] = speech::part_of(place, fitting);
         k += 1;
         i += fitting::target_len_at(image, place);
     }
@@ -123,7 +106,7 @@ fn read_sound(
     let end = name.len() + 2;
     let mut parts = [0u32; MAX_FRAME];
     let reached = read_words(image, list, name, &frame[..end], &mut parts);
-    delivery::answer(image, list, reached, &parts, phones, numbers)
+    speech::answer(image, list, reached, &parts, phones, numbers)
 }
 
 // The plain reading of a name, for a caller that knows the image to be a ruleset and has no list.
@@ -149,7 +132,7 @@ fn read_listed(
     requires { ⌜ (valid (now image) ≡ true) × ((isList (now list) ≡ true) × SoundName (now name)) ⌝ }
     ensures { λ r. ⌜ saying (toldOf r) (now (phones .exit)) (now (numbers .exit)) ≡ delivered (listedOr (phonesFor (wordsOf (now (list .entry)))) (now (name .entry)) (answered (plainWords (classesOf (now (image .entry))) (entriesOf (now (image .entry))) (now (name .entry)) (phonesFor (wordsOf (now (list .entry))))) 0)) (now (phones .entry)) (now (numbers .entry)) ⌝ }
 {
-    let found = delivery::say_listed(list, name, &mut *phones);
+    let found = speech::say_listed(list, name, &mut *phones);
     match found {
         Listed::Said(speech) => speech,
         Listed::Unlisted => read_sound(image, list, name, phones, numbers),

@@ -1,12 +1,12 @@
 // The words of a name (document 02, request 3): where each ends, all of them in one frame, and what the exceptions list says of each.
-use super::Reached;
 use exceptions::Ending;
+use speech::Reached;
 ghost use mathlib.Core.Path.{_≡_};
 ghost use Prim.Native.Nat.{_+_, _≤_};
 ghost use lib.ListN.{length};
 ghost use Rattle.rules.specs.Memory.{over};
-ghost use Rattle.reading.specs.Words.{boundaryOr, frameOf, wordAt, endAt};
-ghost use Rattle.reading.specs.Places.{Unsaid, FoundFor, EndsBy, endedIn};
+ghost use Rattle.speech.specs.Words.{boundaryOr, frameOf, wordAt, endAt};
+ghost use Rattle.speech.specs.Places.{Unsaid, FoundFor, EndsBy, endedIn};
 
 // # in place of a separator.
 fn boundary_or(c: u8) -> u8

@@ -20,8 +20,8 @@ use Rattle.literals.specs.Places.{literalEntry}
 use Rattle.literals.proofs.Places.{literal-applied}
 use Rattle.fitting.specs.Fitting.{Str, fits}
 use Rattle.fitting.specs.Reading.{Application, apply, Choice, chosen, nothing, unusable, past}
-use Rattle.reading.specs.Places.{partOf, applyAt, ReadBy}
-use Rattle.reading.specs.declared.Reached.the-variants.{Rules}
+use Rattle.speech.specs.Places.{partOf, applyAt, ReadBy}
+use Rattle.speech.specs.declared.Reached.the-variants.{Rules}
 use Rattle.fitting.proofs.Search.{Targets}
 use Rattle.reading.proofs.Expansion.{literals-targets}
 use Rattle.reading.proofs.Loop.{Going, going-begin}

@@ -15,10 +15,10 @@ use Rattle.exceptions.specs.Judging.{saysOf}
 use Rattle.image.specs.Image.{valid}
 use Rattle.fitting.specs.Fitting.{Str, frame}
 use Rattle.fitting.specs.Reading.{Choice, Reading, readFrom}
-use Rattle.reading.specs.Words.{word, readWord, frameOf, wordAt, endAt, Starts, WordOf}
-use Rattle.reading.specs.Places.{EndsBy, Placed, ReadBy, partsAt, frameSize, ReadOn, endedIn}
-use Rattle.reading.specs.declared.Reached.{Reached}
-use Rattle.reading.specs.declared.Reached.the-variants.{Rules, Uncovered, BadTables}
+use Rattle.speech.specs.Words.{word, readWord, frameOf, wordAt, endAt, Starts, WordOf}
+use Rattle.speech.specs.Places.{EndsBy, Placed, ReadBy, partsAt, frameSize, ReadOn, endedIn}
+use Rattle.speech.specs.declared.Reached.{Reached}
+use Rattle.speech.specs.declared.Reached.the-variants.{Rules, Uncovered, BadTables}
 use Rattle.reading.proofs.NameWords.{end-most, starts-first, starts-next, word-long}
 use Rattle.reading.proofs.NameReading.{WordsRead, words-read-begin, words-read-next, words-read-stop, words-read-end}
 use Rattle.reading.proofs.WordReading.{part-frame, part-long, listed-part, read-part}

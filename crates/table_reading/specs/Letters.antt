@@ -10,10 +10,10 @@ use Rattle.image.specs.Image.{countOf, entryAt, literalsOf}
 use Rattle.exceptions.specs.Judging.{saysOf}
 use Rattle.fitting.specs.Fitting.{Str, frame, fits}
 use Rattle.fitting.specs.Reading.{apply, Choice, chosen, nothing, unusable, Reading, readFrom}
-use Rattle.reading.specs.Words.{wordsIn, readWords, wordAt, Starts}
-use Rattle.reading.specs.Places.{frameSize, FoundFor, endedIn, ReadBy, ReadOn}
-use Rattle.reading.specs.declared.Reached.{Reached}
-use Rattle.reading.specs.declared.Reached.the-variants.{Rules, Uncovered, BadTables}
+use Rattle.speech.specs.Words.{wordsIn, readWords, wordAt, Starts}
+use Rattle.speech.specs.Places.{frameSize, FoundFor, endedIn, ReadBy, ReadOn}
+use Rattle.speech.specs.declared.Reached.{Reached}
+use Rattle.speech.specs.declared.Reached.the-variants.{Rules, Uncovered, BadTables}
 use Rattle.tables.specs.Words.{setSize}
 use Rattle.tables.specs.Walk.{lookup}
 use Rattle.tables.specs.SetWords.{lowestFrom, onesFrom, meetWord}

@@ -1,5 +1,5 @@
 // Reading by reached letters: the choice that the sets of two remembered states make, and what reading by it comes to.
-use reading::Reached;
+use speech::Reached;
 ghost use mathlib.Core.Path.{_≡_};
 ghost use mathlib.Core.Bool.{true};
 ghost use Prim.Native.Nat.{_+_, _-_, _*_, _<_, _≤_};
@@ -9,8 +9,8 @@ ghost use lib.ListN.{length, getD};
 ghost use Rattle.rules.specs.Limits.{maxRules};
 ghost use Rattle.rules.specs.Names.{SoundName};
 ghost use Rattle.image.specs.Image.{totalOf, valid};
-ghost use Rattle.reading.specs.Words.{frameOf};
-ghost use Rattle.reading.specs.Places.{frameSize, ReadBy};
+ghost use Rattle.speech.specs.Words.{frameOf};
+ghost use Rattle.speech.specs.Places.{frameSize, ReadBy};
 ghost use Rattle.tables.specs.Words.{setSize};
 ghost use Rattle.table_reading.specs.Letters.{foundOf, lowestShared, countShared, choiceBy, Chooses, endingAt, choicesBy, Bounded, suffix, between, WordRead, Held, NameRead};
 
@@ -129,7 +129,7 @@ pub fn read_letters(
         let Chosen::Rule(rule, fitting) = choice else {
             return ending_at(choice, i);
         };
-        parts[count] = reading::delivery::part_of(rule, fitting);
+        parts[count] = speech::part_of(rule, fitting);
         count += 1;
         i += fitting::target_len_at(image, rule);
     }

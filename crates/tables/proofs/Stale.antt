@@ -11,9 +11,9 @@ use Rattle.rules.specs.Shape.{Entry}
 use Rattle.exceptions.specs.Judging.{Listing}
 use Rattle.image.specs.Image.{valid, editsOf, literalsOf}
 use Rattle.fitting.specs.Fitting.{Str}
-use Rattle.reading.specs.Words.{Word, wordsIn, unlisted}
-use Rattle.reading.specs.Speech.{Outcome, atOnce, saidOf, Unlisted}
-use Rattle.reading.proofs.Call.{call-unlisted}
+use Rattle.speech.specs.Words.{Word, wordsIn, unlisted}
+use Rattle.speech.specs.Speech.{Outcome, atOnce, saidOf, Unlisted}
+use Rattle.speech.proofs.Call.{call-unlisted}
 use Rattle.tables.specs.Words.{editsIn, Compiled, compiledFrom, built}
 use Rattle.tables.specs.Walk.{lengthsFit, judgedTables, judgedPasses, walkThrough, walkedAs, walkFor}
 use Rattle.tables.proofs.Theorem.{accepted-build}

@@ -10,7 +10,7 @@ use lib.ListN.{length, take, drop, length-drop}
 use Rattle.rules.proofs.Cases.{byBool}
 use Rattle.exceptions.specs.Judging.{noList}
 use Rattle.frames.specs.Lines.{pastLine, lineAfter, soundLine}
-use Rattle.reading.specs.Speech.{Told, spoken, refused}
+use Rattle.speech.specs.Speech.{Told, spoken, refused}
 use Rattle.tables.specs.Walk.{walkSaid}
 use Rattle.lines.specs.Printed.{refusedBody, printed}
 use Rattle.transcript.specs.Answers.{longestLine, spokenBody, toldBody}

@@ -17,11 +17,11 @@ use Rattle.rules.specs.declared.Refusal.{Refusal}
 use Rattle.exceptions.specs.Judging.{Listing, noList}
 use Rattle.image.specs.Image.{valid, editsOf, literalsOf}
 use Rattle.frames.specs.Lines.{soundLine}
-use Rattle.reading.specs.Speech.{Outcome, speaks, declines, atOnce, judgedCall, Told, toldOf, saying, phonesOf, numbersOf, delivered}
-use Rattle.reading.specs.declared.Speech.{Speech}
-use Rattle.reading.specs.declared.Speech.the-variants.{Spoken, Refused}
-use Rattle.reading.proofs.Call.{call-refused}
-use Rattle.reading.proofs.Counted.{contested-most}
+use Rattle.speech.specs.Speech.{Outcome, speaks, declines, atOnce, judgedCall, Told, toldOf, saying, phonesOf, numbersOf, delivered}
+use Rattle.speech.specs.declared.Speech.{Speech}
+use Rattle.speech.specs.declared.Speech.the-variants.{Spoken, Refused}
+use Rattle.speech.proofs.Call.{call-refused}
+use Rattle.speech.proofs.Counted.{contested-most}
 use Rattle.tables.specs.Words.{compiledFrom}
 use Rattle.tables.specs.Walk.{Walked, walkedAs, walkThrough, walkFor, walkSaid}
 use Rattle.lines.specs.Printed.{refusedBody, printed, refusalLine}

@@ -6,7 +6,7 @@ use mathlib.Core.List.{List, [], _∷_, _++_}
 use lib.ListN.{length, take}
 use Rattle.numbers.specs.Numbers.{bytes2}
 use Rattle.lines.specs.Printed.{twos, refusedBody, printed}
-use Rattle.reading.specs.Speech.{Told, spoken, refused}
+use Rattle.speech.specs.Speech.{Told, spoken, refused}
 use Rattle.tables.specs.Walk.{Walked}
 
 abbrev pub spokenFront : ℕ → ℕ → List ℕ

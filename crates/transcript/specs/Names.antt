@@ -8,7 +8,7 @@ use lib.ListN.{length, getD, take, drop, replicate}
 use Rattle.exceptions.specs.Judging.{noList}
 use Rattle.frames.specs.Lines.{Parsed, soundLine}
 use Rattle.frames.specs.Lines.Parsed.{Bad, Good}
-use Rattle.reading.specs.Speech.{Told, spoken, refused}
+use Rattle.speech.specs.Speech.{Told, spoken, refused}
 use Rattle.tables.specs.Walk.{walkSaid}
 use Rattle.lines.specs.Printed.{refusedBody, printed}
 use Rattle.transcript.specs.Answers.{walkedLine}

@@ -1,9 +1,9 @@
 // What `say` answers: a name's line in and its answer's line out (document 01, "The six rules").
 use frames::writer;
 use frames::writer::Writer;
-use reading::Speech;
 use rules::Answer;
 use rules::Refusal;
+use speech::Speech;
 use walk::WalkAnswer;
 ghost use mathlib.Core.Path.{_≡_};
 ghost use mathlib.Core.Bool.{true};
@@ -12,7 +12,7 @@ ghost use lib.ListN.{length, drop};
 ghost use Rattle.rules.specs.Memory.{over};
 ghost use Rattle.frames.specs.Lines.{soundLine, lineAfter};
 ghost use Rattle.frames.specs.Output.{output, Sent};
-ghost use Rattle.reading.specs.Speech.{toldOf};
+ghost use Rattle.speech.specs.Speech.{toldOf};
 ghost use Rattle.image.specs.Image.{valid};
 ghost use Rattle.lines.specs.Printed.{twos, printed, refusalLine};
 ghost use Rattle.transcript.specs.Answers.{longestLine, spokenFront, spokenBody, toldBody};

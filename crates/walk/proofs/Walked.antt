@@ -17,11 +17,11 @@ use Rattle.rules.specs.Refusals.{Reply, accepted, declined}
 use Rattle.image.specs.Image.{editsOf, literalsOf}
 use Rattle.fitting.specs.Fitting.{Str, frame, fits}
 use Rattle.fitting.specs.Reading.{Choice, chosen, nothing, unusable, applied, Reading, cons, past, onward, readFrom}
-use Rattle.reading.specs.Words.{Word, wordsIn, readWords, unlisted, wordAt}
-use Rattle.reading.specs.Speech.{Outcome, atOnce, stepsOf, answered, judgedBy, Said, delivered, saying, toldOf}
-use Rattle.reading.specs.Places.{frameSize, partsReading, Parted}
-use Rattle.reading.specs.declared.Reached.{Reached}
-use Rattle.reading.specs.declared.Reached.the-variants.{Rules, Uncovered, BadTables}
+use Rattle.speech.specs.Words.{Word, wordsIn, readWords, unlisted, wordAt}
+use Rattle.speech.specs.Speech.{Outcome, atOnce, stepsOf, answered, judgedBy, Said, delivered, saying, toldOf}
+use Rattle.speech.specs.Places.{frameSize, partsReading, Parted}
+use Rattle.speech.specs.declared.Reached.{Reached}
+use Rattle.speech.specs.declared.Reached.the-variants.{Rules, Uncovered, BadTables}
 use Rattle.reading.proofs.Loop.{after-none}
 use Rattle.tables.specs.Tables.{Table}
 use Rattle.tables.specs.Words.{headWords, editsIn, setSize, rightRows, rightSets, neededWords, neededSets, tableAt, Compiled, leftOf, rightOf}

@@ -6,9 +6,9 @@ use mathlib.Core.Bool.{Bool, true, false}
 use mathlib.Core.List.{List}
 use lib.ListN.{length}
 use Rattle.rules.specs.Refusals.{Reply, accepted, declined}
-use Rattle.reading.specs.Speech.{toldOf, saying}
-use Rattle.reading.specs.declared.Reached.{Reached}
-use Rattle.reading.specs.declared.Reached.the-variants.{Rules, Uncovered, BadTables}
+use Rattle.speech.specs.Speech.{toldOf, saying}
+use Rattle.speech.specs.declared.Reached.{Reached}
+use Rattle.speech.specs.declared.Reached.the-variants.{Rules, Uncovered, BadTables}
 use Rattle.tables.specs.Words.{neededWords, neededSets, Compiled}
 use Rattle.tables.specs.Walk.{judgedTables, Walked}
 use Rattle.walk.specs.declared.WalkAnswer.{WalkAnswer}

@@ -1,9 +1,9 @@
 // The walk of a name through lent tables (document 01, "The walk", and refusal 16; document 02, refusal 22): the covered part that the compiled ruleset is taken
 // apart for.
 
-use reading::Reached;
-use reading::Speech;
 use rules::Refusal;
+use speech::Reached;
+use speech::Speech;
 ghost use mathlib.Core.Path.{_≡_};
 ghost use mathlib.Core.Bool.{true, cond, not, _&&_};
 ghost use Prim.Native.Nat.{_<_, _≤_};
@@ -11,8 +11,8 @@ ghost use lib.Dec.{eqb};
 ghost use lib.ListN.{length};
 ghost use Rattle.exceptions.specs.Judging.{saysOf};
 ghost use Rattle.image.specs.Image.{valid, editsOf, literalsOf};
-ghost use Rattle.reading.specs.Words.{frameOf};
-ghost use Rattle.reading.specs.Places.{Unsaid};
+ghost use Rattle.speech.specs.Words.{frameOf};
+ghost use Rattle.speech.specs.Places.{Unsaid};
 ghost use Rattle.tables.specs.Words.{headWords, editsIn, rightSets};
 ghost use Rattle.tables.specs.Walk.{lengthsFit, walkThrough, walkedAs};
 ghost use Rattle.walk.specs.Walked.{walkedOf, compiledWith, stepsWith, FitsAs};
@@ -106,7 +106,7 @@ fn walk_frame<'a>(
         &mut parts,
     );
     let steps = steps_with(reached, passes.steps);
-    let speech = reading::delivery::answer(image, list, reached, &parts, phones, numbers);
+    let speech = speech::answer(image, list, reached, &parts, phones, numbers);
     // Made anew from its numbers: copied whole, with its unused bytes, it took 5 ns more a name.
     match speech {
         Speech::Spoken {

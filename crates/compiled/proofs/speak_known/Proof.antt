@@ -1,6 +1,6 @@
 -- `compiled::speak_known` meets its contract: the name's judgement, then its walk.
 -- Assumes nothing.
-use Rattle.reading.proofs.Call.{found-sound, listing-some}
+use Rattle.speech.proofs.Call.{found-sound, listing-some}
 use Rattle.compiled.proofs.Speaking.{walked-refused, walked-sound}
 use borrow.Author.Needs.{needs}
 use Rattle.compiled.proofs.speak_known.Statement.{statement}

@@ -1,8 +1,8 @@
 -- `compiled::speak_listed` meets its contract: what the list says, or else the walk of its words.
 -- Assumes nothing.
 use Rattle.compiled.proofs.Speaking.{walked-listed}
-use Rattle.reading.proofs.Lookup.{unlisted-answer, unlisted-none, says-all, unsaid-list}
-use Rattle.reading.specs.Speech.{Outcome}
+use Rattle.speech.proofs.Lookup.{unlisted-answer, unlisted-none, says-all, unsaid-list}
+use Rattle.speech.specs.Speech.{Outcome}
 use Rattle.exceptions.specs.Layout.{wordsOf, phonesFor}
 use Prim.Native.Nat.{ℕ}
 use mathlib.Core.List.{List}

@@ -1,8 +1,8 @@
 -- `compiled::speak_valid` meets its contract: the name's judgement, then its walk with too few words for a list.
 -- Assumes nothing.
 use Rattle.compiled.proofs.Speaking.{walked-refused, walked-sound}
-use Rattle.reading.proofs.Lookup.{says-nothing, unsaid-none}
-use Rattle.reading.proofs.Call.{found-sound}
+use Rattle.speech.proofs.Lookup.{says-nothing, unsaid-none}
+use Rattle.speech.proofs.Call.{found-sound}
 use Rattle.exceptions.proofs.Sizes.{size-is}
 use Rattle.exceptions.specs.Judging.{noList}
 use mathlib.Core.List.{_∷_, []}

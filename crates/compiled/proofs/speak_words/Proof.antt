@@ -40,7 +40,7 @@ use denote.Exit.{yes}
 use denote.Triple.Clauses.{Lasts, ensured, lasts}
 use Rattle.exceptions.specs.Judging.{saysOf}
 use Rattle.image.specs.Image.{valid, editsOf, literalsOf}
-use Rattle.reading.specs.Places.{Unsaid}
+use Rattle.speech.specs.Places.{Unsaid}
 use Rattle.tables.specs.Words.{compiledFrom}
 use Rattle.tables.specs.Walk.{walkThrough, walkedAs}
 use Rattle.walk.specs.Walked.{walkedOf}

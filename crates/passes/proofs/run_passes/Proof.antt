@@ -9,7 +9,7 @@ use lib.ListN.{length}
 use Rattle.passes.specs.Passes.{rowsAt, leftOn, rightOn, Passed}
 use Rattle.passes.proofs.Both.{both-bad, both-good}
 use Rattle.tables.specs.Words.{headWords, rightRows}
-use Rattle.reading.specs.Places.{frameSize}
+use Rattle.speech.specs.Places.{frameSize}
 use Rattle.passes.proofs.run_passes.Statement.{statement}
 use Rattle.passes.proofs.run_passes.Tie as tie
 

@@ -4,7 +4,7 @@ use lib.ListN.{length}
 use borrow.Rule.Slice.PartMut.{mid-len}
 use borrow.Author.Tests.{not-true, not-false}
 use Rattle.rules.proofs.Memory.{put-tail}
-use Rattle.reading.specs.Words.{wordAt}
+use Rattle.speech.specs.Words.{wordAt}
 use Rattle.reading.proofs.WordReading.{part-frame, part-long, part-inside, part-bound}
 use Rattle.passes.proofs.WordsPassed.{word-listed, word-unfit, word-passes, part-symbols}
 use native.Mathlib.Omega.{arith}

@@ -1,6 +1,6 @@
 -- `reading::read_known` meets its contract: the name's judgement, then its reading.
 -- Assumes nothing.
-use Rattle.reading.proofs.Call.{found-sound, listing-some}
+use Rattle.speech.proofs.Call.{found-sound, listing-some}
 use Rattle.reading.proofs.Plain.{said-refused, said-sound}
 use borrow.Author.Needs.{needs}
 use Rattle.reading.proofs.read_known.Statement.{statement}

@@ -1,7 +1,7 @@
 -- `reading::read_listed` meets its contract: what the list says, or else the reading of its words.
 -- Assumes nothing.
-use Rattle.reading.proofs.Lookup.{listed-answer, unlisted-answer, unlisted-none, says-all, unsaid-list}
-use Rattle.reading.specs.Speech.{Outcome, answered, delivered, plainWords}
+use Rattle.speech.proofs.Lookup.{listed-answer, unlisted-answer, unlisted-none, says-all, unsaid-list}
+use Rattle.speech.specs.Speech.{Outcome, answered, delivered, plainWords}
 use Rattle.fitting.specs.Fitting.{Str}
 use Rattle.image.specs.Image.{entriesOf, classesOf}
 use Rattle.exceptions.specs.Layout.{wordsOf, phonesFor}

@@ -4,7 +4,7 @@ use Rattle.exceptions.specs.Judging.{saysOf}
 use Rattle.image.specs.Image.{entriesOf, classesOf}
 use Rattle.reading.proofs.Loop.{after-none}
 use Rattle.reading.proofs.NameWords.{frame-length, frame-part}
-use Rattle.reading.specs.Speech.{answered, delivered, plainWords}
+use Rattle.speech.specs.Speech.{answered, delivered, plainWords}
 use Rattle.fitting.specs.Reading.{Reading}
 use lib.ListN.{length, replicate}
 use mathlib.Core.Path.{refl, sym, ap, _∙_}

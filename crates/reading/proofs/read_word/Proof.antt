@@ -7,7 +7,7 @@ use Rattle.rules.proofs.Memory.{put-tail}
 use Rattle.reading.proofs.Plain.{plain-word}
 use Rattle.image.specs.Image.{entriesOf, classesOf}
 use Rattle.fitting.specs.Reading.{plain}
-use Rattle.reading.specs.Words.{wordAt}
+use Rattle.speech.specs.Words.{wordAt}
 use Rattle.reading.proofs.WordReading.{part-frame, part-long, part-inside, part-bound, room, listed-part, read-part, ends-most}
 use native.Mathlib.Omega.{arith}
 use borrow.Author.Needs.{needs}

@@ -11,8 +11,8 @@ use Rattle.image.proofs.Tests.{valid-long, valid-count}
 use Rattle.table_reading.specs.Letters.{choiceOf, choiceBy, choicesBy}
 use Rattle.table_reading.specs.declared.Chosen.{Chosen}
 use Rattle.table_reading.specs.declared.Chosen.the-variants.{Rule}
-use Rattle.reading.specs.Places.{ReadBy}
-use Rattle.reading.specs.declared.Reached.{Reached}
+use Rattle.speech.specs.Places.{ReadBy}
+use Rattle.speech.specs.declared.Reached.{Reached}
 use Rattle.tables.specs.Words.{setSize}
 use Rattle.table_reading.proofs.Chosen.{the-type}
 use Rattle.table_reading.proofs.Choosing.{Gone, begin, next, declines, done}

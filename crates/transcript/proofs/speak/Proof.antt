@@ -3,7 +3,7 @@
 use Rattle.rules.specs.Memory.{over}
 use Rattle.transcript.proofs.Spoken.{nameLine-is, told-within}
 use Rattle.transcript.specs.Names.{lentPhones, lentNumbers}
-use Rattle.reading.specs.Speech.{toldOf}
+use Rattle.speech.specs.Speech.{toldOf}
 use lib.ListN.{length}
 use Prim.Native.Nat.{ℕ}
 use mathlib.Core.List.{List}

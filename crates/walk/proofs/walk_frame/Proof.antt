@@ -4,8 +4,8 @@ use mathlib.Core.Path.{refl, sym, ap, _∙_}
 use Rattle.walk.specs.declared.WalkAnswer.{WalkAnswer}
 use Rattle.walk.specs.Walked.{walkedOf}
 use Rattle.tables.specs.Walk.{walkedAs}
-use Rattle.reading.specs.declared.Speech.{Speech}
-use Rattle.reading.specs.Speech.{Outcome}
+use Rattle.speech.specs.declared.Speech.{Speech}
+use Rattle.speech.specs.Speech.{Outcome}
 use borrow.Author.Tests.{not-true, not-false}
 use Rattle.walk.proofs.Walked.{through-stale, through-unusable, through-read, parts-read, states-held, walked-answer}
 use borrow.Author.Needs.{needs}

@@ -4,7 +4,7 @@ use mathlib.Core.Path.{ap}
 use lib.Dec.{eqb}
 use borrow.Author.Tests.{lt-leb, le-leb}
 use lib.ListN.{length}
-use Rattle.file.specs.Layout.{frontSize}
+use Rattle.file_format.specs.Layout.{frontSize}
 use borrow.Author.Needs.{needs}
 use Rattle.command_parts.proofs.fields.add_sized.Statement.{statement}
 use Rattle.command_parts.proofs.fields.add_sized.Tie as tie

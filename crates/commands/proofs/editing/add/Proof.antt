@@ -1,6 +1,6 @@
 -- `commands::editing::add` meets its contract: the edit is handed the rule and the place that the fields say.
 -- Assumes nothing.
-use Rattle.command_parts.proofs.AddFrame.{add-is}
+use Rattle.commands.proofs.AddFrame.{add-is}
 use borrow.Author.Needs.{needs}
 use Rattle.commands.proofs.editing.add.Statement.{statement}
 use Rattle.commands.proofs.editing.add.Tie as tie

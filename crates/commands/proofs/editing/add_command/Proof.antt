@@ -5,9 +5,10 @@ use borrow.Author.Tests.{not-true, not-false}
 use Rattle.numbers.specs.Numbers.{two}
 use Rattle.edits.specs.Ledger.{Edit}
 use Rattle.edits.specs.Edits.{edited}
-use Rattle.command_parts.specs.Answers.{ruled, added}
+use Rattle.command_parts.specs.Answers.{ruled}
+use Rattle.commands.specs.Editing.{added}
 use Rattle.command_parts.specs.Fields.{addSized, addedRule}
-use Rattle.command_parts.proofs.AddFrame.{sized}
+use Rattle.commands.proofs.AddFrame.{sized}
 use Rattle.command_parts.proofs.Replies.{answered-not, answered-edit}
 use borrow.Author.Needs.{needs}
 use Rattle.commands.proofs.editing.add_command.Statement.{statement}

@@ -5,7 +5,8 @@ use lib.Dec.{leb}
 use borrow.Author.Tests.{le-leb, lt-leb}
 use Rattle.edits.specs.Ledger.{Edit}
 use Rattle.edits.specs.Edits.{edited}
-use Rattle.command_parts.specs.Answers.{ruled, classSet}
+use Rattle.command_parts.specs.Answers.{ruled}
+use Rattle.commands.specs.Editing.{classSet}
 use Rattle.command_parts.proofs.Replies.{answered-not, answered-edit}
 use borrow.Author.Needs.{needs}
 use Rattle.commands.proofs.editing.class_command.Statement.{statement}

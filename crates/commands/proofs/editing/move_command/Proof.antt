@@ -6,7 +6,8 @@ use borrow.Author.Tests.{eq-eqb, ne-eqb}
 use Rattle.numbers.specs.Numbers.{two}
 use Rattle.edits.specs.Ledger.{Edit}
 use Rattle.edits.specs.Edits.{edited}
-use Rattle.command_parts.specs.Answers.{ruled, moved}
+use Rattle.command_parts.specs.Answers.{ruled}
+use Rattle.commands.specs.Editing.{moved}
 use Rattle.command_parts.proofs.Replies.{answered-not, answered-edit}
 use borrow.Author.Needs.{needs}
 use Rattle.commands.proofs.editing.move_command.Statement.{statement}

@@ -2,7 +2,7 @@
 -- Assumes nothing.
 use Rattle.rules.proofs.Memory.{tail-is}
 use Rattle.commands.proofs.Lent.{plain-told}
-use Rattle.reading.specs.Speech.{toldOf}
+use Rattle.speech.specs.Speech.{toldOf}
 use borrow.Author.Needs.{needs}
 use Rattle.commands.proofs.speaking.plain_lent.Statement.{statement}
 use Rattle.commands.proofs.speaking.plain_lent.Tie as tie

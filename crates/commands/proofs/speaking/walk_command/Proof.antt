@@ -2,7 +2,7 @@
 -- Assumes nothing.
 use Rattle.numbers.specs.Numbers.{two}
 use Rattle.commands.proofs.Lent.{more-room, same-room}
-use Rattle.reading.specs.Speech.{toldOf}
+use Rattle.speech.specs.Speech.{toldOf}
 use native.Mathlib.Omega.{arith}
 use borrow.Author.Needs.{needs}
 use lib.Dec.{leb}

@@ -2,7 +2,7 @@
 -- Assumes nothing.
 use Rattle.rules.proofs.Memory.{tail-is}
 use Rattle.commands.proofs.Lent.{walk-by, walk-told}
-use Rattle.reading.specs.Speech.{toldOf}
+use Rattle.speech.specs.Speech.{toldOf}
 use mathlib.Core.Path.{sym}
 use lib.Seq.{length-take-le}
 use borrow.Author.Needs.{needs}

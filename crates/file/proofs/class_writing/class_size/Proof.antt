@@ -5,7 +5,7 @@ use native.Mathlib.Omega.{arith}
 use Rattle.classes.specs.Masks.{lettersIn}
 use Rattle.classes.proofs.Letters.{letters-some}
 use Rattle.file.proofs.ClassOutput.{no-line}
-use Rattle.file.proofs.Lengths.{length-class}
+use Rattle.file_format.proofs.Lengths.{length-class}
 use borrow.Author.Needs.{needs}
 use Rattle.file.proofs.class_writing.class_size.Statement.{statement}
 use Rattle.file.proofs.class_writing.class_size.Tie as tie

@@ -5,7 +5,7 @@ use native.Mathlib.Omega.{arith}
 use borrow.Author.Tests.{not-true, not-false}
 use lib.ListN.{length, replicate}
 use lib.Seq.{length-take-le}
-use Rattle.file.specs.Layout.{longestClassFrame}
+use Rattle.file_format.specs.Layout.{longestClassFrame}
 use Rattle.file.proofs.ClassTests.{line-bad, line-other, line-long, line-read}
 use borrow.Author.Needs.{needs}
 use Rattle.file.proofs.defining.read_class.Statement.{statement}

@@ -6,7 +6,7 @@ use borrow.Author.Tests.{not-true, not-false}
 use borrow.Author.Needs.{needs}
 use lib.ListN.{length, replicate}
 use lib.Seq.{length-take-le}
-use Rattle.file.specs.Layout.{headFrameSize}
+use Rattle.file_format.specs.Layout.{headFrameSize}
 use Rattle.file.proofs.FirstLine.{head-bad, head-long, head-read}
 use Rattle.file.proofs.heading.read_head.Statement.{statement}
 use Rattle.file.proofs.heading.read_head.Tie as tie

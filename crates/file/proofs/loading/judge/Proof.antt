@@ -7,7 +7,7 @@ use borrow.Author.Tests.{not-true, not-false}
 use lib.ListN.{length, drop}
 use Rattle.classes.specs.Classes.{Classes}
 use Rattle.classes.proofs.Bytes.{length-masks}
-use Rattle.file.specs.File.{readDefined, readRules}
+use Rattle.file_format.specs.File.{readDefined, readRules}
 use Rattle.file.specs.Loading.{verdict}
 use Rattle.file.proofs.FirstLine.{head-malformed, head-broken, head-within, head-on}
 use Rattle.file.proofs.ClassReading.{after-broken, after-within, after-rules, after-held}

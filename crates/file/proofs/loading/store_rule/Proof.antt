@@ -10,8 +10,8 @@ use Rattle.rules.proofs.Cases.{and-l}
 use Rattle.image.specs.Image.{withRule}
 use Rattle.frames.specs.Lines.{decoded}
 use Rattle.frames.proofs.Decoding.{decoded-room}
-use Rattle.file.specs.Layout.{longestFrame}
-use Rattle.file.specs.File.{isRule}
+use Rattle.file_format.specs.Layout.{longestFrame}
+use Rattle.file_format.specs.File.{isRule}
 use Rattle.file.proofs.Parts.{frame-fits}
 use Rattle.file.proofs.NextLine.{frame-whole, frame-entry}
 use Rattle.file.proofs.loading.store_rule.Statement.{statement}

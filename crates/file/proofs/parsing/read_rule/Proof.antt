@@ -5,7 +5,7 @@ use native.Mathlib.Omega.{arith}
 use borrow.Author.Tests.{not-true, not-false}
 use lib.ListN.{length, replicate}
 use lib.Seq.{length-take-le}
-use Rattle.file.specs.Layout.{longestFrame}
+use Rattle.file_format.specs.Layout.{longestFrame}
 use Rattle.file.proofs.NextLine.{rule-bad, rule-long, rule-read}
 use borrow.Author.Needs.{needs}
 use Rattle.file.proofs.parsing.read_rule.Statement.{statement}

@@ -6,8 +6,8 @@ use lib.ListN.{length}
 use Rattle.image.specs.Image.{classesOf}
 use Rattle.image.proofs.Lent.{masks-size}
 use Rattle.image.proofs.Tests.{valid-long, valid-count}
-use Rattle.file.specs.Layout.{headLineSize}
-use Rattle.file.specs.File.{classLines}
+use Rattle.file_format.specs.Layout.{headLineSize}
+use Rattle.file_format.specs.File.{classLines}
 use Rattle.file.proofs.FileBytes.{Sized, sized-start, sized-next, sized-end, classes-few}
 use borrow.Author.Needs.{needs}
 use Rattle.file.proofs.writing.file_size.Statement.{statement}

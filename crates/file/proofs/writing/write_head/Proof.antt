@@ -6,8 +6,8 @@ use mathlib.Core.List.{_∷_, _++_}
 use native.Mathlib.Omega.{arith}
 use Rattle.numbers.specs.Numbers.{bytes2}
 use Rattle.frames.proofs.Output.{sent-then, sent-as, line-sent}
-use Rattle.file.specs.Layout.{headType, edition}
-use Rattle.file.specs.File.{headBody}
+use Rattle.file_format.specs.Layout.{headType, edition}
+use Rattle.file_format.specs.File.{headBody}
 use borrow.Author.Needs.{needs}
 use Rattle.file.proofs.writing.write_head.Statement.{statement}
 use Rattle.file.proofs.writing.write_head.Tie as tie

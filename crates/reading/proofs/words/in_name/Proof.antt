@@ -3,7 +3,7 @@
 use mathlib.Core.Path.{sym, ap, subst}
 use native.Mathlib.Omega.{arith}
 use borrow.Author.Needs.{needs}
-use Rattle.reading.specs.Places.{EndsBy, endedIn}
+use Rattle.speech.specs.Places.{EndsBy, endedIn}
 use Rattle.reading.proofs.words.in_name.Statement.{statement}
 use Rattle.reading.proofs.words.in_name.Tie as tie
 

@@ -7,7 +7,7 @@ use native.Mathlib.Omega.{arith}
 use borrow.Author.Needs.{needs}
 use lib.ListN.{length, take, set, length-set}
 use Rattle.rules.specs.Memory.{over}
-use Rattle.reading.specs.Words.{boundaryOr}
+use Rattle.speech.specs.Words.{boundaryOr}
 use Rattle.reading.proofs.NameWords.{lay-begin, lay-on, lay-end}
 use Rattle.reading.proofs.words.lay_frame.Statement.{statement}
 use Rattle.reading.proofs.words.lay_frame.Tie as tie

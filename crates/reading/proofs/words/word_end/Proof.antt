@@ -5,7 +5,7 @@ use mathlib.Core.Path.{_≡_, refl, sym, _∙_}
 use native.Mathlib.Omega.{arith}
 use borrow.Author.Needs.{needs}
 use lib.ListN.{length}
-use Rattle.reading.specs.Words.{endAt}
+use Rattle.speech.specs.Words.{endAt}
 use Rattle.reading.proofs.NameWords.{end-on, end-here, end-last}
 use Rattle.reading.proofs.words.word_end.Statement.{statement}
 use Rattle.reading.proofs.words.word_end.Tie as tie

@@ -1,0 +1,10 @@
+pub mod Fields
+pub mod Bodies
+pub mod Numbers
+pub mod ClassFrames
+pub mod ClassLines
+pub mod ClassesRead
+pub mod Accepts
+pub mod Lengths
+pub mod Example
+pub mod Longest
