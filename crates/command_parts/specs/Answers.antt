@@ -1,7 +1,7 @@
 -- The lines that a command answers, and the edits that commands stand for. A frame of another length than its fields answers 05 with 13, place 0,
 -- and changes nothing.
 -- Assumes nothing.
-use Prim.Native.Nat.{ℕ, _+_, _*_}
+use Prim.Native.Nat.{ℕ}
 use mathlib.Core.Path.{_≡_}
 use mathlib.Core.List.{List, [], _∷_, _++_}
 use mathlib.Core.Bool.{Bool, cond}

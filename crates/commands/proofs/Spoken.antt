@@ -1,10 +1,9 @@
 -- What tables and names are answered with.
 -- Assumes nothing.
 use Prim.Native.Nat.{ℕ}
-use mathlib.Core.Path.{_≡_, refl, sym, ap, _∙_, subst}
+use mathlib.Core.Path.{_≡_, refl, sym, _∙_, subst}
 use mathlib.Core.List.{List}
 use mathlib.Core.Bool.{Bool, true}
-use lib.ListN.{length}
 use Rattle.rules.specs.Memory.{over}
 use Rattle.rules.specs.Refusals.{Reply, replyOf, refusalNumber, refusalPlace}
 use Rattle.rules.specs.declared.Refusal.{Refusal}

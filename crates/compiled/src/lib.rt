@@ -1,6 +1,5 @@
 // A compiled ruleset: the lent tables with their state counts as read from the words. It is what each name is sent through
 // (document 01, "The walk").
-use reading::delivery;
 use rules::Answer;
 use rules::Refusal;
 use speech::Listed;
@@ -134,7 +133,7 @@ fn speak_listed<'a>(
     requires { ⌜ (valid (now image) ≡ true) × ((isList (now list) ≡ true) × SoundName (now name)) ⌝ }
     ensures { λ r. ⌜ walkedOf r (now (phones .exit)) (now (numbers .exit)) ≡ walkedAs (listedOr (phonesFor (wordsOf (now (list .entry)))) (now (name .entry)) (walkThrough (compiledFrom (now (words .entry)) (now (sets .entry))) (editsOf (now (image .entry))) (literalsOf (now (image .entry))) (now (name .entry)) (phonesFor (wordsOf (now (list .entry)))))) (now (phones .entry)) (now (numbers .entry)) ⌝ }
 {
-    let found = delivery::say_listed(list, name, &mut *phones);
+    let found = speech::say_listed(list, name, &mut *phones);
     match found {
         Listed::Said(speech) => WalkAnswer { steps: 0, speech },
         Listed::Unlisted => speak_words(words, sets, image, list, name, phones, numbers),

@@ -7,16 +7,16 @@ use mathlib.Core.Bool.{true, false}
 use native.Mathlib.Omega.{arith}
 use native.Mathlib.Numerals.{add-one}
 use borrow.Author.Tests.{le-leb, lt-leb}
-use lib.ListN.{length, take, drop, length-append, length-drop, take-append-drop}
-use lib.Seq.{take-suc, take-all, length-take-le}
+use lib.ListN.{length, take, drop, length-append, take-append-drop}
+use lib.Seq.{take-suc, take-all}
 use Rattle.rules.specs.Limits.{classCount}
 use Rattle.rules.specs.Memory.{over, overAt}
 use Rattle.rules.proofs.Memory.{over-at, over-length, over-at-length}
 use Rattle.rules.specs.Shape.{Entry}
 use Rattle.classes.specs.Classes.{Classes}
-use Rattle.classes.specs.Masks.{masksSize, classesIn}
+use Rattle.classes.specs.Masks.{classesIn}
 use Rattle.image.specs.State.{noEntry}
-use Rattle.image.specs.Image.{imageSize, classStart, masksIn, classesOf, entriesOf, entryAt, valid, countOf, lastOf}
+use Rattle.image.specs.Image.{masksIn, classesOf, entriesOf, entryAt, valid, countOf, lastOf}
 use Rattle.image.proofs.Lent.{classes-lent}
 use Rattle.image.proofs.Entries.{entries-length}
 use Rattle.image.proofs.Tests.{valid-sound, sound-classes}

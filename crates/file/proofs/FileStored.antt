@@ -1,6 +1,6 @@
 -- A file that was judged, stored whole: head, rules, classes and the table of all; and the answers of a reading.
 -- Assumes nothing.
-use Prim.Native.Nat.{ℕ, _-_, _≤_, _<_}
+use Prim.Native.Nat.{ℕ, _≤_, _<_}
 use mathlib.Core.Path.{_≡_, refl, sym, ap, ap₂, _∙_}
 use mathlib.Core.List.{List, [], map}
 use mathlib.Core.Bool.{true}

@@ -6,12 +6,10 @@ use mathlib.Core.List.{List, [], _∷_}
 use mathlib.Core.Bool.{Bool, true, false, _&&_, and-false}
 use native.Mathlib.Omega.{arith}
 use borrow.Author.Tests.{leb-true, leb-false, eqb-true, eqb-false, le-leb, lt-leb, eq-eqb, ne-eqb}
-use lib.ListN.{length, take, drop, length-drop}
-use lib.Seq.{length-take-le, drop-drop}
+use lib.ListN.{length, drop, length-drop}
 use lib.Dec.{leb, eqb}
 use Rattle.rules.specs.Limits.{maxRules, maxContext, maxTarget, maxPhones, maxLetter, maxPhone}
 use Rattle.rules.specs.Shape.{first, Production, view, shape, leftShape, rightShape, lengthShape, targetShape, phoneShape}
-use Rattle.rules.specs.declared.Rule.{Rule}
 use Rattle.rules.specs.declared.Numbered.{Numbered}
 use Rattle.rules.proofs.Cases.{byBool}
 use Rattle.rules.proofs.Laws.{length-first}

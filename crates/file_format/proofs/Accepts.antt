@@ -2,7 +2,7 @@
 --     accepts        the file of a well-formed ruleset is read as that ruleset
 --     accepted       a file that is read as a ruleset is that ruleset's file, and the ruleset is well-formed
 -- Assumes nothing.
-use Prim.Native.Nat.{ℕ, zero, suc, _+_, _-_, _≤_}
+use Prim.Native.Nat.{ℕ, zero, suc, _-_, _≤_}
 use mathlib.Core.Path.{_≡_, refl, sym, ap, ap₂, _∙_}
 use mathlib.Core.List.{List, [], _∷_, _++_, append-assoc, append-nil}
 use mathlib.Core.Bool.{true, false}

@@ -1,7 +1,6 @@
 -- The rule file of document 01, with the letter classes of document 02's request 5: its writing, and its reading with the refusals 13 and 14.
 -- Assumes nothing.
 use Prim.Native.Nat.{ℕ, zero, suc, _+_, _-_, _/_, _%_}
-use mathlib.Core.Path.{_≡_}
 use mathlib.Core.List.{List, [], _∷_, _++_}
 use mathlib.Core.Bool.{Bool, true, false, cond, not, _&&_}
 use lib.ListN.{length}

@@ -5,7 +5,7 @@
 -- Assumes nothing.
 use Prim.Native.Nat.{ℕ, _+_, _*_}
 use mathlib.Core.List.{List}
-use lib.ListN.{length, getD, take, drop}
+use lib.ListN.{getD, take, drop}
 use Rattle.numbers.specs.Numbers.{two}
 use Rattle.rules.specs.Limits.{maxRules, fieldsSize, classCount, maxClass}
 use Rattle.rules.specs.Shape.{Production, Entry}

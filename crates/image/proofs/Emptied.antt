@@ -1,17 +1,16 @@
 -- Memory with a head of zeros, no class and no literal rule holds the empty ruleset.
 -- Assumes nothing.
-use Prim.Native.Nat.{ℕ, _+_, _-_, _≤_}
-use mathlib.Core.Path.{_≡_, refl, sym, ap, ap₂, _∙_}
-use mathlib.Core.List.{List, [], _∷_, _++_, append-assoc, map}
+use Prim.Native.Nat.{ℕ, _-_, _≤_}
+use mathlib.Core.Path.{_≡_, refl, sym, ap, _∙_}
+use mathlib.Core.List.{List, [], _∷_, map}
 use native.Mathlib.Omega.{arith}
-use lib.ListN.{length, take, drop, replicate, length-append, length-drop}
-use lib.Seq.{length-take-le}
-use Rattle.rules.specs.Memory.{over, overAt}
+use lib.ListN.{length, replicate, length-drop}
+use Rattle.rules.specs.Memory.{overAt}
 use Rattle.rules.specs.Shape.{Entry, entryOf}
-use Rattle.rules.proofs.Memory.{over-both, over-at-length}
+use Rattle.rules.proofs.Memory.{over-both}
 use Rattle.classes.specs.Classes.{noClasses}
 use Rattle.classes.specs.Masks.{masksSize, masksOf}
-use Rattle.classes.proofs.Bytes.{masks-none, length-masks}
+use Rattle.classes.proofs.Bytes.{masks-none}
 use Rattle.image.specs.State.{start}
 use Rattle.image.specs.Image.{headSize, imageSize, classStart, totalStart, tableStart, countOf, rulesIn, entriesOf, classesOf, tableBytes, withHead, withClasses, settled, whole}
 use Rattle.image.proofs.Front.{two-same}

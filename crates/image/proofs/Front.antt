@@ -1,19 +1,17 @@
 -- What an image holds depends on its front alone: the rules on the bytes before the classes, the state on those before the table.
 -- Assumes nothing.
-use Prim.Native.Nat.{ℕ, zero, suc, _+_, _-_, _*_, _≤_, _<_}
-use mathlib.Core.Path.{_≡_, refl, sym, ap, ap₂, _∙_}
-use mathlib.Core.List.{List, [], _∷_}
+use Prim.Native.Nat.{ℕ, zero, suc, _+_, _*_, _≤_, _<_}
+use mathlib.Core.Path.{_≡_, refl, ap, ap₂, _∙_}
+use mathlib.Core.List.{List}
 use native.Mathlib.Omega.{arith}
-use lib.ListN.{length, getD, take, drop}
+use lib.ListN.{take, drop}
 use Rattle.numbers.specs.Numbers.{two, four}
 use Rattle.rules.specs.Limits.{maxRules}
-use Rattle.rules.specs.declared.Numbered.{Numbered}
 use Rattle.rule_bytes.specs.RuleBytes.{ruleSize}
 use Rattle.rule_bytes.proofs.Parts.{front-same, part-same, byte-same}
 use Rattle.rule_bytes.proofs.Fields.{rule-same}
 use Rattle.classes.specs.Masks.{masksSize, classesIn}
-use Rattle.image.specs.State.{Ledger}
-use Rattle.image.specs.Image.{headSize, numberSize, slotSize, classStart, totalStart, slotOf, listed, rulesIn, countOf, lastOf, editsOf, masksIn, classesOf, ledgerOf}
+use Rattle.image.specs.Image.{headSize, numberSize, slotSize, classStart, totalStart, slotOf, listed, rulesIn, countOf, lastOf, editsOf, classesOf, ledgerOf}
 
 -- lists with the same first N elements have the same numbers within them
 module _ (N : ℕ) (z d : List ℕ) (e : take N z ≡ take N d) where

@@ -1,20 +1,19 @@
 -- The table laid in an image, rule by rule: what stands before it stays, and afterwards it is that of the image's rules and classes.
 -- Assumes nothing.
-use Prim.Native.Nat.{ℕ, zero, suc, _+_, _-_, _*_, _/_, _%_, _≤_, _<_}
-use mathlib.Core.Path.{_≡_, refl, sym, ap, ap₂, _∙_, subst}
+use Prim.Native.Nat.{ℕ, zero, suc, _+_, _*_, _/_, _%_, _≤_, _<_}
+use mathlib.Core.Path.{_≡_, refl, sym, ap, ap₂, _∙_}
 use mathlib.Core.List.{List, [], _∷_, _++_, append-assoc, append-nil}
 use mathlib.Core.Bool.{true}
 use native.Mathlib.Omega.{arith}
 use native.Mathlib.Numerals.{add-one}
 use borrow.Author.Tests.{leb-true, le-leb}
-use lib.Dec.{leb}
 use lib.ListN.{length, getD, take, drop, set, length-append, take-append-drop}
 use lib.Seq.{take-take, take-suc, take-all, drop-cons, drop-drop, drop-at, take-append-le, length-take-le}
 use Rattle.rules.specs.Limits.{maxRules}
 use Rattle.rules.specs.Memory.{over, overAt}
 use Rattle.rules.specs.Shape.{Entry}
 use Rattle.rules.proofs.Cases.{and-r}
-use Rattle.rules.proofs.Memory.{over-length, over-snoc, over-part, over-at, over-front, front-all}
+use Rattle.rules.proofs.Memory.{over-length, over-snoc, over-at, over-front, front-all}
 use Rattle.classes.specs.Classes.{Classes}
 use Rattle.classes.specs.Counting.{capped}
 use Rattle.classes.specs.Expansion.{literalCount, literalTotal}
@@ -22,7 +21,7 @@ use Rattle.classes.specs.Ordinal.{Origin, origin, originRun, origins}
 use Rattle.classes.proofs.Counts.{total-append}
 use Rattle.classes.proofs.Ordinal.{length-run, length-origins, origins-append}
 use Rattle.image.specs.State.{Ledger, rulesOf, noEntry, entries, allDefined, expandable}
-use Rattle.image.specs.Image.{imageSize, classStart, originSize, totalStart, tableStart, originBytes, tableBytes, countOf, lastOf, ledgerOf, entriesOf, entryAt, classesOf, Slots, sound, settled}
+use Rattle.image.specs.Image.{imageSize, classStart, originSize, totalStart, tableStart, originBytes, countOf, ledgerOf, entriesOf, entryAt, classesOf, Slots, sound, settled}
 use Rattle.image.proofs.Entries.{entries-length}
 use Rattle.rule_bytes.proofs.Parts.{front-same}
 use Rattle.image.proofs.Front.{count-same, last-same, ledger-same}

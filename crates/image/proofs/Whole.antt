@@ -4,17 +4,16 @@
 --     class-ledger, class-valid          a class set that no rule uses
 --     whole-ledger, whole-valid          a whole state
 -- Assumes nothing.
-use Prim.Native.Nat.{ℕ, suc, _+_, _-_, _*_, _/_, _%_, _≤_, _<_}
-use mathlib.Core.Path.{_≡_, refl, sym, ap, ap₂, _∙_, subst}
+use Prim.Native.Nat.{ℕ, _+_, _-_, _*_, _/_, _%_, _≤_}
+use mathlib.Core.Path.{_≡_, refl, sym, ap, ap₂, _∙_}
 use mathlib.Core.List.{List, [], _∷_, _++_, append-nil}
-use mathlib.Core.Bool.{Bool, true, false, _&&_}
+use mathlib.Core.Bool.{true, false, _&&_}
 use native.Mathlib.Omega.{arith}
-use borrow.Author.Tests.{le-leb, eq-eqb, leb-true}
+use borrow.Author.Tests.{eq-eqb}
 use lib.Dec.{leb, eqb}
-use lib.ListN.{length, getD, take, drop, length-drop}
-use lib.Seq.{drop-at, drop-drop, take-at, take-all, length-take-le, getD-drop}
+use lib.ListN.{length, getD, take, drop}
+use lib.Seq.{drop-at, drop-drop, take-at, length-take-le, getD-drop}
 use Rattle.image.proofs.Lent.{part-long}
-use Rattle.numbers.specs.Numbers.{two}
 use Rattle.rules.specs.Limits.{maxRules}
 use Rattle.rules.specs.Memory.{over, overAt}
 use Rattle.rules.specs.Shape.{Entry}
@@ -30,13 +29,11 @@ use Rattle.classes.proofs.Bytes.{with-mask, with-mask-long, length-masks, masks
 use Rattle.classes.proofs.Ordinal.{length-origins}
 use Rattle.classes.proofs.Setting.{total-kept, origins-kept}
 use Rattle.image.specs.State.{Ledger, relist, rulesOf, rulesetOf, entries, distinct, isRuleset}
-use Rattle.image.specs.Image.{headSize, imageSize, classStart, originSize, totalStart, tableStart, originsAt, originBytes, tableBytes, totalOf, countOf, lastOf, editsOf, masksIn, ledgerOf, entriesOf, classesOf, originsOf, laid, withClasses, withClassAt, Slots, sound, tabled, valid, settled, whole}
+use Rattle.image.specs.Image.{headSize, imageSize, classStart, originSize, totalStart, tableStart, originsAt, originBytes, tableBytes, totalOf, countOf, lastOf, editsOf, masksIn, ledgerOf, entriesOf, classesOf, originsOf, laid, withClasses, withClassAt, sound, tabled, valid, settled, whole}
 use Rattle.image.proofs.Scan.{length-listed}
-use Rattle.rule_bytes.proofs.Parts.{front-same, part-same}
 use Rattle.image.proofs.Front.{rules-same, last-same, edits-same}
 use Rattle.image.proofs.Settling.{at-front, bytes-long, same-ledger, same-classes, same-entries, few-literals}
-use Rattle.image.proofs.Stored.{Each, Fine, fine-held, sound-by, laid-long, laid-state, sound-fine}
-use Rattle.image.proofs.Origins.{tabled-total}
+use Rattle.image.proofs.Stored.{Fine, fine-held, sound-by, laid-long, laid-state, sound-fine}
 use Rattle.image.proofs.Tests.{valid-tests, valid-sound, valid-tabled, sound-long, sound-count, sound-slots}
 
 -- ---- what lies from a place on

@@ -1,10 +1,10 @@
 -- Bytes of memory set one by one: zeros from the classes on.
 -- Assumes nothing.
 use Prim.Native.Nat.{ℕ, zero, suc, _+_, _-_, _≤_, _<_}
-use mathlib.Core.Path.{_≡_, refl, sym, ap, ap₂, _∙_}
+use mathlib.Core.Path.{_≡_, refl, sym, ap, _∙_}
 use mathlib.Core.List.{List, [], _∷_, _++_, append-assoc, append-nil}
 use native.Mathlib.Omega.{arith}
-use lib.ListN.{length, take, drop, set, replicate, length-append}
+use lib.ListN.{length, take, set, replicate, length-append}
 use lib.Seq.{length-take-le}
 use Rattle.rules.specs.Memory.{over, overAt}
 use Rattle.rules.proofs.Memory.{over-length, over-snoc, over-front, front-all}

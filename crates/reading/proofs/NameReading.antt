@@ -8,15 +8,14 @@ use mathlib.Core.Logic.{_⊎_, ⊎-elim}
 use denote.Enum.Declared.{tagOf}
 use lib.ListN.{length, take}
 use Rattle.rules.specs.Names.{SoundName}
-use Rattle.fitting.specs.Fitting.{Str, frame}
+use Rattle.fitting.specs.Fitting.{Str}
 use Rattle.fitting.specs.Reading.{Piece, Reading, finished, uncovered, badTables, after}
 use Rattle.speech.specs.Words.{Word, word, wordsIn, readWord, followed, readWords, wordAt, endAt, Starts, WordOf, wordsFrom}
 use Rattle.speech.specs.Places.{EndsBy, partsAt, frameSize, partsReading, PartsSoFar, ReadOn}
 use Rattle.speech.specs.declared.Reached.{Reached}
 use Rattle.speech.specs.declared.Reached.the-variants.{Rules, Uncovered, BadTables}
-use Rattle.reading.proofs.Reached.{the-type}
+use Rattle.speech.proofs.Reached.{the-type}
 use Rattle.reading.proofs.Loop.{after-none}
-use Rattle.reading.proofs.Plain.{not-rules}
 use Rattle.reading.proofs.NameWords.{words-begin, words-step, words-past, end-most, starts-first, starts-next}
 
 -- ---- readings one after another

@@ -20,7 +20,7 @@ use Rattle.image.specs.Image.{countOf, valid}
 use Rattle.image.proofs.Tests.{valid-count}
 use Rattle.fitting.specs.Fitting.{Str, frame}
 use Rattle.fitting.specs.Reading.{Piece, listed, Reading, finished, after}
-use Rattle.speech.specs.Words.{Word, word, inName, phonesOr, readWord, frameOf, wordAt, WordOf}
+use Rattle.speech.specs.Words.{word, inName, phonesOr, readWord, frameOf, wordAt, WordOf}
 use Rattle.speech.specs.Places.{placeIn, piecesAt, pieceAt, Within, readingOf, EndsBy, Placed, partAt, partsAt, PartIn, PartsIn, frameSize, FoundFor, PartsSoFar, ReadOn, endedIn}
 use Rattle.speech.specs.declared.Reached.{Reached}
 use Rattle.speech.specs.declared.Reached.the-variants.{Rules, Uncovered, BadTables}

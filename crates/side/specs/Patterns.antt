@@ -1,6 +1,6 @@
 -- The patterns of one side, as they lie in two lists: pattern i has ls[i] symbols of ps, from maxPattern i on.
 -- Assumes nothing.
-use Prim.Native.Nat.{ℕ, zero, suc, _+_, _*_, _≤_, _<_}
+use Prim.Native.Nat.{ℕ, zero, suc, _*_, _≤_, _<_}
 use mathlib.Core.List.{List, [], _∷_, _++_}
 use lib.ListN.{length, getD, take, drop}
 use Rattle.rules.specs.Limits.{maxRules, maxPattern}

@@ -3,7 +3,7 @@ use image::HEAD;
 use image::SLOT;
 use rules::Numbered;
 ghost use mathlib.Core.Path.{_≡_};
-ghost use Prim.Native.Nat.{ℕ, _+_, _-_, _*_, _<_, _≤_};
+ghost use Prim.Native.Nat.{_+_, _-_, _*_, _<_, _≤_};
 ghost use lib.ListN.{length, drop};
 ghost use lib.Seq.{paste};
 ghost use Rattle.rules.specs.Limits.{maxRules, maxEdits};

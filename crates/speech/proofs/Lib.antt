@@ -1,5 +1,5 @@
 pub mod Call
 pub mod Counted
 pub mod Written
-pub mod Listed
+pub mod ListedNames
 pub mod Lookup

@@ -26,7 +26,7 @@ use Rattle.speech.specs.declared.Speech.the-variants.{Spoken, Refused}
 use Rattle.speech.specs.declared.Listed.{Listed}
 use Rattle.speech.specs.declared.Listed.the-variants.{Said, Unlisted}
 use Rattle.speech.proofs.Call.{from-listed}
-use Rattle.speech.proofs.Listed.{listed-delivered}
+use Rattle.speech.proofs.ListedNames.{listed-delivered}
 
 -- the answer where there is room, and where there is none
 listed-by : (p : Str) (phones numbers : List ℕ) (b : Bool) → leb (length p) (length phones) ≡ b

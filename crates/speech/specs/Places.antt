@@ -11,9 +11,9 @@ use Rattle.rules.specs.Limits.{maxRules, maxName}
 use Rattle.exceptions.specs.Layout.{wordsOf, phonesEnding}
 use Rattle.exceptions.specs.Judging.{saysOf, KnownList, StateOf}
 use Rattle.rules.specs.Names.{SoundName}
-use Rattle.image.specs.Image.{countOf, entriesOf, entryAt, classesOf}
+use Rattle.image.specs.Image.{countOf, entryAt}
 use Rattle.fitting.specs.Fitting.{Str}
-use Rattle.fitting.specs.Reading.{Application, apply, Choice, Piece, applied, listed, Reading, finished, uncovered, badTables, after, firstFit, readFrom}
+use Rattle.fitting.specs.Reading.{Application, apply, Choice, Piece, applied, listed, Reading, finished, uncovered, badTables, after, readFrom}
 use Rattle.speech.specs.Speech.{speaks, toldOf, saying, phonesIn, phonesOf, numbersIn, numbersOf, contestedIn, contestedOf, delivered}
 use Rattle.speech.specs.declared.Listed.{Listed}
 use Rattle.speech.specs.declared.Listed.the-variants.{Said, Unlisted}

@@ -14,7 +14,7 @@ ghost use Rattle.frames.specs.Lines.{soundLine, lineAfter};
 ghost use Rattle.frames.specs.Output.{output, Sent};
 ghost use Rattle.speech.specs.Speech.{toldOf};
 ghost use Rattle.image.specs.Image.{valid};
-ghost use Rattle.lines.specs.Printed.{twos, printed, refusalLine};
+ghost use Rattle.lines.specs.Printed.{printed};
 ghost use Rattle.transcript.specs.Answers.{longestLine, spokenFront, spokenBody, toldBody};
 ghost use Rattle.transcript.specs.Names.{asked, nameLine, nameAnswer, cut, nameIn, ToldWithin};
 

@@ -13,7 +13,7 @@ use borrow.Author.Tests.{ltb-false, ltb-true, leb-true, le-leb, lt-ltb}
 use Rattle.rules.proofs.Cases.{byBool, and-l, and-r}
 use Rattle.rules.specs.Names.{SoundName}
 use Rattle.exceptions.specs.Judging.{saysOf}
-use Rattle.rules.specs.Refusals.{Reply, accepted, declined}
+use Rattle.rules.specs.Refusals.{Reply, accepted}
 use Rattle.image.specs.Image.{editsOf, literalsOf}
 use Rattle.fitting.specs.Fitting.{Str, frame, fits}
 use Rattle.fitting.specs.Reading.{Choice, chosen, nothing, unusable, applied, Reading, cons, past, onward, readFrom}
@@ -28,7 +28,7 @@ use Rattle.tables.specs.Words.{headWords, editsIn, setSize, rightRows, rightSet
 use Rattle.tables.specs.Walk.{Step as State, step, pass, from, allBelow, lookup, lowest, howMany, places, leftAt, rightAt, walkUsable, walkChoice, walkSteps, walk, lengthsFit, judgedTables, allWords, sumWords, usable, stepsIn, walkWord, allUsable, stepsOver, judgedPasses, walkThrough, walkedAs}
 use Rattle.tables.proofs.SetWords.{choice-tables, shared-tables}
 use Rattle.tables.proofs.Theorem.{delivered-steps}
-use Rattle.passes.specs.Passes.{rowsAt, Passed, leftRowsOf, rightRowsOf, Memory, passable, stepsOn, AllPassed}
+use Rattle.passes.specs.Passes.{rowsAt, leftRowsOf, rightRowsOf, Memory, passable, stepsOn, AllPassed}
 use Rattle.table_reading.specs.Letters.{lowestShared, countShared, choiceBy, choicesBy, Held, Tells, NameRead}
 use Rattle.walk.specs.Walked.{walkedOf, compiledWith, stepsWith, Fit, verdict, FitsAs}
 use Rattle.passes.specs.declared.Pass.{Pass}

@@ -1,6 +1,5 @@
 -- `table_reading::ending_at` meets its contract.
 -- Assumes nothing.
-use Prim.Native.Nat.{ℕ}
 use mathlib.Core.Path.{sym, ap}
 use Rattle.table_reading.specs.Letters.{endingAt}
 use Rattle.table_reading.specs.declared.Chosen.{Chosen}

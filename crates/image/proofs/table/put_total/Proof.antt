@@ -1,7 +1,6 @@
 -- `image::table::put_total` meets its contract.
 -- Assumes nothing.
-use mathlib.Core.Path.{_≡_}
-use lib.ListN.{length, length-set}
+use lib.ListN.{length-set}
 use Rattle.image.specs.Image.{totalStart}
 use Rattle.rules.proofs.Memory.{over-two}
 use native.Mathlib.Omega.{arith}
