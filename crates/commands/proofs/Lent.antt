@@ -15,9 +15,9 @@ use Rattle.speech.specs.Speech.{Told, spoken, refused, Said, saying, plainOutco
 use Rattle.tables.specs.Words.{building, built}
 use Rattle.tables.specs.Walk.{Walked, walkSaid}
 use Rattle.file.specs.Loading.{filing, filed, loaded}
-use Rattle.loader.specs.Prepared.{maxInput}
-use Rattle.transcript.specs.Names.{ToldWithin}
-use Rattle.transcript.proofs.Spoken.{delivered-within, walk-within}
+use Rattle.file_format.specs.Layout.{maxInput}
+use Rattle.answer_lines.specs.Answers.{ToldWithin}
+use Rattle.answer_lines.proofs.Told.{delivered-within, walk-within}
 use Rattle.commands.specs.Lent.{builtBack, builtIn, saidBack, plainIn, walkedBack, walkIn}
 use Rattle.commands.specs.Filing.{loadedFrom, filedBack, filedIn}
 

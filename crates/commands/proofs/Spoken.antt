@@ -15,7 +15,7 @@ use Rattle.speech.specs.declared.Speech.the-variants as speeches
 use Rattle.tables.specs.Words.{leftCount, rightCount, Built, building}
 use Rattle.tables.specs.Walk.{Walked}
 use Rattle.lines.specs.Printed.{refusedBody, printed, refusalLine}
-use Rattle.transcript.specs.Answers.{toldBody}
+use Rattle.answer_lines.specs.Answers.{toldBody}
 use Rattle.lines.proofs.Printed.{length-printed}
 use Rattle.command_parts.specs.Answers.{statesLine, walkRefusal, bothSized, speechSized, BothAnswered, SpeechAnswered}
 use Rattle.commands.specs.Lent.{buildLine, buildEffects, contestedAfter, plainLine, plainEffect, walkLine, walkEffect}

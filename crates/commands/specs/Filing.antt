@@ -10,7 +10,7 @@ use Rattle.image.specs.Image.{Edited, outcome}
 use Rattle.file.specs.Loading.{loaded, Filed, filing, filed, rulesetIn}
 use Rattle.rules.specs.Refusals.{Report, wrote, refused}
 use Rattle.file_format.specs.File.{encode}
-use Rattle.loader.specs.Prepared.{maxInput}
+use Rattle.file_format.specs.Layout.{maxInput}
 use Rattle.lines.specs.Printed.{refusedBody, printed}
 use Rattle.file_format.specs.Layout.{longestFile}
 use Rattle.command_parts.specs.Fields.{four, lentOf, back}

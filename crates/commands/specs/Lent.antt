@@ -11,7 +11,7 @@ use Rattle.tables.specs.Words.{leftCount, rightCount, Built, building, built}
 use Rattle.tables.specs.Walk.{Walked, walkSaid}
 use Rattle.rules.specs.Refusals.{Reply, accepted, declined}
 use Rattle.lines.specs.Printed.{refusedBody, printed}
-use Rattle.transcript.specs.Answers.{spokenBody, toldBody}
+use Rattle.answer_lines.specs.Answers.{spokenBody, toldBody}
 use Rattle.command_parts.specs.Fields.{four, lentOf, back}
 use Rattle.command_parts.specs.Answers.{Effects, leavingBoth, bothSized, SpeechEffect, leavingSpeech, speechSized, statesLine, walkRefusal}
 

@@ -21,8 +21,8 @@ ghost use Rattle.commands.specs.Filing.{loadedFrom, loadedBy, filedIn, w
 pub fn load(file: &[u8], image: &mut [u8]) -> Answer
     ensures { λ r. ⌜ outcome (replyOf r) (now (image .exit)) ≡ loadedFrom (now (file .entry)) (now (image .entry)) ⌝ }
 {
-    if loader::MAX_INPUT < file.len() {
-        return Answer::Refused(Refusal::BadLine(loader::MAX_INPUT));
+    if file_format::MAX_INPUT < file.len() {
+        return Answer::Refused(Refusal::BadLine(file_format::MAX_INPUT));
     }
     file::read_file(file, image)
 }

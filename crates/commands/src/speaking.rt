@@ -13,8 +13,7 @@ ghost use Rattle.rules.specs.Refusals.{replyOf};
 ghost use Rattle.speech.specs.Speech.{toldOf, saying};
 ghost use Rattle.tables.specs.Words.{building};
 ghost use Rattle.walk.specs.Walked.{walkedOf};
-ghost use Rattle.transcript.specs.Names.{ToldWithin};
-ghost use Rattle.transcript.specs.Answers.{longestLine};
+ghost use Rattle.answer_lines.specs.Answers.{longestLine, ToldWithin};
 ghost use Rattle.command_parts.specs.Answers.{BothAnswered, SpeechAnswered};
 ghost use Rattle.command_parts.specs.Fields.{four, lentOf};
 ghost use Rattle.commands.specs.Lent.{builtIn, plainIn, walkIn, builtBy, contestedAfter, plainLine, plainBy, walkLine, walkedBy};
@@ -174,7 +173,7 @@ fn plain_line(speech: Speech, phones: &[u8], numbers: &[u16], out: &mut [u8]) ->
     ensures bytes { λ _. ⌜ now (out .exit) ≡ over (plainLine (toldOf speech) (now (phones .entry)) (now (numbers .entry))) (now (out .entry)) ⌝ }
 {
     let answer = WalkAnswer { steps: 0, speech };
-    transcript::answer_line(answer, phones, numbers, out)
+    answer_lines::answer_line(answer, phones, numbers, out)
 }
 
 // 17: plain reading.
@@ -208,7 +207,7 @@ fn walk_line(answer: WalkAnswer, phones: &[u8], numbers: &[u16], out: &mut [u8])
     if let Speech::Refused(x) = speech {
         return answers::walk_refusal(answer.steps, x, out);
     }
-    transcript::answer_line(answer, phones, numbers, out)
+    answer_lines::answer_line(answer, phones, numbers, out)
 }
 
 // 16: walk.

@@ -114,6 +114,10 @@ entryIn f = record { number = frameNumber f; rule = ruleIn f }
 abbrev pub longestFile : ℕ
 longestFile = headLineSize + lineSize longestClassFrame * classCount + lineSize longestFrame * maxRules
 
+-- the programs read no more bytes of a file, or of their input
+abbrev pub maxInput : ℕ
+maxInput = 32768
+
 -- ---- a rule in a struct
 
 abbrev pub numberedOf : Entry → Numbered

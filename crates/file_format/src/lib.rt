@@ -56,6 +56,9 @@ pub const LONGEST_FILE: usize = 2 * HEAD
     + (2 * LONGEST_CLASS + 1) * rules::CLASSES
     + (2 * LONGEST + 1) * rules::MAX_RULES;
 
+// The programs read no more bytes of a file, or of their input.
+pub const MAX_INPUT: usize = 32768;
+
 // The bytes of a rule's frame without its checksum, by its lengths.
 pub fn body_size(f: &[u8]) -> usize
     requires { ⌜ frontSize ≤ length (now f) ⌝ }

@@ -15,7 +15,8 @@ use Rattle.rules.specs.declared.Answer.the-variants.{Accepted, Refused}
 use Rattle.image.specs.Image.{valid, imageSize, editsOf, literalsOf, Edited, outcome}
 use Rattle.file.specs.Loading.{loaded}
 use Rattle.tables.specs.Words.{Built, building, builtFrom, built}
-use Rattle.loader.specs.Prepared.{maxInput, Prepared, ready, withTables, onward, prepared}
+use Rattle.file_format.specs.Layout.{maxInput}
+use Rattle.loader.specs.Prepared.{Prepared, ready, withTables, onward, prepared}
 
 module _ (rules image words sets : List ℕ) where
   abbrev whole : Prepared

@@ -8,11 +8,8 @@ use lib.ListN.{length}
 use Rattle.rules.specs.Refusals.{Reply, accepted, declined}
 use Rattle.image.specs.Image.{imageSize}
 use Rattle.tables.specs.Words.{Built, built}
+use Rattle.file_format.specs.Layout.{maxInput}
 use Rattle.file.specs.Loading.{loaded}
-
--- either input has at most so many bytes
-abbrev pub maxInput : ℕ
-maxInput = 32768
 
 -- the answer, and all lent memory after it
 pub record Prepared : Type 0 where

@@ -8,7 +8,7 @@ ghost use Rattle.image.specs.Image.{valid};
 ghost use Rattle.loader.specs.Prepared.{ready, prepared};
 
 // Either input of a program has at most so many bytes.
-pub const MAX_INPUT: usize = 32768;
+pub const MAX_INPUT: usize = file_format::MAX_INPUT;
 
 // A rule file read into lent memory, and its tables built there. Where this is accepted, the memory holds a ruleset, and names need no further
 // check of it.

@@ -22,7 +22,7 @@ fn say_line<'a>(image: &[u8], words: &'a [u16], sets: &'a [u64], text: &[u8], at
     requires { ⌜ (valid (now image) ≡ true) × (at < length (now text)) ⌝ }
     ensures { λ r. ⌜ at < r ⌝ }
 {
-    let mut out = [0u8; transcript::LONGEST_LINE];
+    let mut out = [0u8; answer_lines::LONGEST_LINE];
     let answered = transcript::answer_name(image, words, sets, text, at, &mut out);
     let len = answered.len;
     if !io::write_all(STDOUT_FILENO, &out[..len]) {

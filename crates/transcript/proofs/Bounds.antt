@@ -13,11 +13,11 @@ use Rattle.frames.specs.Lines.{pastLine, lineAfter, soundLine}
 use Rattle.speech.specs.Speech.{Told, spoken, refused}
 use Rattle.tables.specs.Walk.{walkSaid}
 use Rattle.lines.specs.Printed.{refusedBody, printed}
-use Rattle.transcript.specs.Answers.{longestLine, spokenBody, toldBody}
-use Rattle.transcript.specs.Names.{Asked, unsound, name, asked, lentPhones, lentNumbers, nameLine, answerTo, nameAnswer, ToldWithin}
-use Rattle.transcript.proofs.Fields.{length-spoken}
+use Rattle.answer_lines.specs.Answers.{longestLine, spokenBody, toldBody, ToldWithin}
+use Rattle.transcript.specs.Names.{Asked, unsound, name, asked, lentPhones, lentNumbers, nameLine, answerTo, nameAnswer}
+use Rattle.answer_lines.proofs.Fields.{length-spoken}
 use Rattle.lines.proofs.Printed.{length-printed}
-use Rattle.transcript.proofs.Spoken.{walk-within}
+use Rattle.answer_lines.proofs.Told.{walk-within}
 
 past-within : (s : List ℕ) → length (pastLine s) ≤ length s
 past-within [] = omega arith

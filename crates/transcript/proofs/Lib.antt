@@ -1,4 +1,3 @@
-pub mod Fields
 pub mod NameLine
 pub mod Spoken
 pub mod Bounds

@@ -1,6 +1,6 @@
--- What a walk tells fits the memory lent to it, and a name over 64 letters is answered as its first 65 are.
+-- What `say` answers to a name: one over 64 letters is answered as its first 65 are.
 -- Assumes nothing.
-use Prim.Native.Nat.{ℕ, _-_, _≤_, _<_}
+use Prim.Native.Nat.{ℕ, _-_, _<_}
 use mathlib.Core.Path.{_≡_, refl, sym, ap, _∙_, subst}
 use mathlib.Core.List.{List, []}
 use mathlib.Core.Bool.{Bool, true, false, cond}
@@ -12,35 +12,17 @@ use lib.Seq.{take-all, length-take-le}
 use Rattle.rules.proofs.Cases.{byBool}
 use Rattle.rules.proofs.Names.{name-long}
 use Rattle.rules.specs.Limits.{maxName}
-use Rattle.rules.specs.Refusals.{refusalNumber, refusalPlace}
-use Rattle.rules.specs.declared.Refusal.{Refusal}
-use Rattle.exceptions.specs.Judging.{Listing, noList}
+use Rattle.exceptions.specs.Judging.{noList}
 use Rattle.image.specs.Image.{valid, editsOf, literalsOf}
 use Rattle.frames.specs.Lines.{soundLine}
-use Rattle.speech.specs.Speech.{Outcome, speaks, declines, atOnce, judgedCall, Told, toldOf, saying, phonesOf, numbersOf, delivered}
-use Rattle.speech.specs.declared.Speech.{Speech}
-use Rattle.speech.specs.declared.Speech.the-variants.{Spoken, Refused}
+use Rattle.speech.specs.Speech.{Outcome, atOnce, Told, saying}
 use Rattle.speech.proofs.Call.{call-refused}
-use Rattle.speech.proofs.Counted.{contested-most}
 use Rattle.tables.specs.Words.{compiledFrom}
 use Rattle.tables.specs.Walk.{Walked, walkedAs, walkThrough, walkFor, walkSaid}
-use Rattle.lines.specs.Printed.{refusedBody, printed, refusalLine}
-use Rattle.transcript.specs.Answers.{spokenBody, toldBody, walkedLine}
-use Rattle.lines.proofs.Printed.{length-printed}
-use Rattle.transcript.specs.Names.{Asked, unsound, name, lentPhones, lentNumbers, nameLine, asked, answerTo, nameAnswer, cut, nameIn, ToldWithin}
-
-pub delivered-within : (o : Outcome) (phones numbers : List ℕ) → ToldWithin (delivered o phones numbers .told) (length phones) (length numbers)
-delivered-within (declines n p steps) phones numbers = tt
-delivered-within (speaks xs steps) phones numbers =
-    byBool (leb (length (phonesOf xs)) (length phones))
-    (λ e. rw e (byBool (leb (length (numbersOf xs)) (length numbers)) (λ f. rw f (leb-true _ _ e, leb-true _ _ f, contested-most xs)) (λ f. rw f tt)))
-    (λ e. rw e tt)
-
-pub walk-within : (image : List ℕ) (l : Listing) (words sets letters phones numbers : List ℕ)
-    → ToldWithin (walkSaid image l words sets letters phones numbers .said .told) (length phones) (length numbers)
-unfolding walkFor
-walk-within image l words sets letters phones numbers =
-    delivered-within (judgedCall image l letters (walkThrough (compiledFrom words sets) (editsOf image) (literalsOf image) letters)) phones numbers
+use Rattle.lines.specs.Printed.{refusedBody, printed}
+use Rattle.answer_lines.specs.Answers.{toldBody, walkedLine, ToldWithin}
+use Rattle.answer_lines.proofs.Told.{walk-within}
+use Rattle.transcript.specs.Names.{Asked, unsound, name, lentPhones, lentNumbers, nameLine, asked, answerTo, nameAnswer, cut, nameIn}
 
 module _ (image words sets : List ℕ) where
   -- the answer to a name over 64 letters
@@ -64,21 +46,6 @@ module _ (image words sets : List ℕ) where
   pub cut-answer : (a : Asked) → valid image ≡ true → answerTo image words sets (cut a) ≡ answerTo image words sets a
   cut-answer unsound v = refl
   cut-answer (name letters) v = cut-line letters v
-
--- ---- an answer by cases
-
-module _ (s : Speech) (p n c : ℕ) (e : s ≡ Spoken p n c) where
-  pub spoken-within : (a b : ℕ) → ToldWithin (toldOf s) a b → (p ≤ a) × (n ≤ b) × (c ≤ n)
-  spoken-within a b h = subst (λ (t : Speech). ToldWithin (toldOf t) a b) e h
-
-  pub spoken-told : (steps : ℕ) (phones numbers : List ℕ) → printed (spokenBody steps (take p phones) (take n numbers)) ≡ printed (toldBody (toldOf s) steps phones numbers)
-  spoken-told steps phones numbers = ap (λ (t : Speech). printed (toldBody (toldOf t) steps phones numbers)) (sym e)
-
-pub refused-told : (s : Speech) (x : Refusal) → s ≡ Refused x → (steps : ℕ) (phones numbers : List ℕ) → refusalLine x ≡ printed (toldBody (toldOf s) steps phones numbers)
-refused-told s x e steps phones numbers = ap (λ (t : Speech). printed (toldBody (toldOf t) steps phones numbers)) (sym e)
-
-pub length-refusal : (x : Refusal) → length (refusalLine x) ≡ 15
-length-refusal x = length-printed (refusedBody (refusalNumber x) (refusalPlace x))
 
 -- a walk whose answer is given with its lent memory
 module _ (image words sets letters : List ℕ) (told : Told) (steps : ℕ) (phones numbers : List ℕ)

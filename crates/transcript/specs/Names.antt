@@ -1,17 +1,16 @@
 -- What `say` prints for the line of a name (document 01, "The six rules").
 -- Assumes nothing.
 use mathlib.Core.Bool.{cond}
-use Prim.Native.Nat.{ℕ, _-_, _≤_}
+use Prim.Native.Nat.{ℕ, _-_}
 use mathlib.Core.List.{List}
 use lib.Dec.{eqb}
 use lib.ListN.{length, getD, take, drop, replicate}
 use Rattle.exceptions.specs.Judging.{noList}
 use Rattle.frames.specs.Lines.{Parsed, soundLine}
 use Rattle.frames.specs.Lines.Parsed.{Bad, Good}
-use Rattle.speech.specs.Speech.{Told, spoken, refused}
 use Rattle.tables.specs.Walk.{walkSaid}
 use Rattle.lines.specs.Printed.{refusedBody, printed}
-use Rattle.transcript.specs.Answers.{walkedLine}
+use Rattle.answer_lines.specs.Answers.{walkedLine}
 
 -- what a line asks for: the speech of a name, or nothing that can be spoken
 pub data Asked : Type 0 where
@@ -56,8 +55,3 @@ cut (name letters) = name (take 65 letters)
 -- what stands in a frame that was read, its letters ending before `end`; 0 for no name
 abbrev pub nameIn : ℕ → List ℕ → Asked
 nameIn end frame = cond (eqb end 0) unsound (name (take (end - 1) (drop 1 frame)))
-
--- as many phones and numbers as are told are there, and no more letters were contested than rules applied
-abbrev pub ToldWithin : Told → ℕ → ℕ → Type 0
-ToldWithin (spoken p n c) phones numbers = (p ≤ phones) × (n ≤ numbers) × (c ≤ n)
-ToldWithin (refused number place) phones numbers = Unit {0}

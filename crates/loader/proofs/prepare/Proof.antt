@@ -2,7 +2,7 @@
 -- Assumes nothing.
 use borrow.Author.Needs.{needs}
 use Rattle.rules.specs.Refusals.{replyOf, refusalNumber, refusalPlace}
-use Rattle.loader.specs.Prepared.{maxInput}
+use Rattle.file_format.specs.Layout.{maxInput}
 use Rattle.loader.proofs.Preparing.{too-short, too-long, refused-file, built-file, never-taken, accepted-valid}
 use Rattle.loader.proofs.prepare.Statement.{statement}
 use Rattle.loader.proofs.prepare.Tie as tie

@@ -1,6 +1,6 @@
 -- `say::say_line` meets its contract: no answer is longer than the memory for it, and the next line starts later.
 -- Assumes nothing.
-use Rattle.transcript.specs.Answers.{longestLine}
+use Rattle.answer_lines.specs.Answers.{longestLine}
 use Rattle.transcript.proofs.Bounds.{onward, answer-short}
 use lib.Seq.{length-take-le}
 use lib.ListN.{length, drop}

@@ -1,7 +1,8 @@
 -- `transcript::answer_name` meets its contract: 65 letters are answered as a longer name is.
 -- Assumes nothing.
 use Rattle.rules.specs.Memory.{over}
-use Rattle.transcript.proofs.Spoken.{answered-none, answered-name, length-refusal}
+use Rattle.transcript.proofs.Spoken.{answered-none, answered-name}
+use Rattle.answer_lines.proofs.Told.{length-refusal}
 use Rattle.rules.specs.declared.Refusal.the-variants.{BadLine}
 use lib.ListN.{length, drop}
 use Prim.Native.Nat.{ℕ}

@@ -2,7 +2,7 @@
 -- Assumes nothing.
 use native.Mathlib.Omega.{arith}
 use borrow.Author.Needs.{needs}
-use Rattle.transcript.proofs.Spoken.{spoken-within}
+use Rattle.answer_lines.proofs.Told.{spoken-within}
 use Rattle.commands.proofs.speaking.contested_after.Statement.{statement}
 use Rattle.commands.proofs.speaking.contested_after.Tie as tie
 

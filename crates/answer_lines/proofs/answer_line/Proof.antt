@@ -1,7 +1,7 @@
--- `transcript::answer_line` meets its contract, by the cases of the answer.
+-- `answer_lines::answer_line` meets its contract, by the cases of the answer.
 -- Assumes nothing.
 use Rattle.rules.specs.Memory.{over}
-use Rattle.transcript.proofs.Spoken.{spoken-within, spoken-told, refused-told, length-refusal}
+use Rattle.answer_lines.proofs.Told.{spoken-within, spoken-told, refused-told, length-refusal}
 use lib.Seq.{length-take-le}
 use lib.ListN.{length}
 use Prim.Native.Nat.{ℕ}
@@ -9,8 +9,8 @@ use mathlib.Core.List.{List}
 use mathlib.Core.Path.{sym, ap, _∙_}
 use native.Mathlib.Omega.{arith}
 use borrow.Author.Needs.{needs}
-use Rattle.transcript.proofs.answer_line.Statement.{statement}
-use Rattle.transcript.proofs.answer_line.Tie as tie
+use Rattle.answer_lines.proofs.answer_line.Statement.{statement}
+use Rattle.answer_lines.proofs.answer_line.Tie as tie
 
 enum-known-speech : tie.Need-enum-known-speech
 enum-known-speech c = search needs

@@ -1,7 +1,7 @@
 -- The lines that `say` prints (document 01, "The six rules"): 04, steps (2), phone count (2), phones, rule count (1), numbers (2 each); or
 -- 05, refusal number, place (4). Fields are high byte first; each line is a frame with its checksum.
 -- Assumes nothing.
-use Prim.Native.Nat.{ℕ, _%_}
+use Prim.Native.Nat.{ℕ, _%_, _≤_}
 use mathlib.Core.List.{List, [], _∷_, _++_}
 use lib.ListN.{length, take}
 use Rattle.numbers.specs.Numbers.{bytes2}
@@ -27,3 +27,8 @@ toldBody (refused number place) steps phones numbers = refusedBody number place
 -- the line of a walk
 abbrev pub walkedLine : Walked → List ℕ
 walkedLine w = printed (toldBody (w .said .told) (w .steps) (w .said .phones) (w .said .numbers))
+
+-- as many phones and numbers as are told are there, and no more letters were contested than rules applied
+abbrev pub ToldWithin : Told → ℕ → ℕ → Type 0
+ToldWithin (spoken p n c) phones numbers = (p ≤ phones) × (n ≤ numbers) × (c ≤ n)
+ToldWithin (refused number place) phones numbers = Unit {0}

@@ -7,7 +7,7 @@ use native.Mathlib.Omega.{arith}
 use lib.ListN.{length, length-append}
 use Rattle.lines.specs.Printed.{twos}
 use Rattle.lines.proofs.Printed.{length-twos}
-use Rattle.transcript.specs.Answers.{spokenFront, spokenBody}
+use Rattle.answer_lines.specs.Answers.{spokenFront, spokenBody}
 
 pub length-spoken : (steps : ℕ) (phones numbers : List ℕ) → length (spokenBody steps phones numbers) ≡ 6 + length phones + 2 * length numbers
 unfolding spokenBody

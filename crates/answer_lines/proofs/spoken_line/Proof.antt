@@ -1,12 +1,12 @@
--- `transcript::spoken_line` meets its contract: the frame begins, its body goes out, it ends.
+-- `answer_lines::spoken_line` meets its contract: the frame begins, its body goes out, it ends.
 -- Assumes nothing.
 use native.Mathlib.Omega.{arith}
-use Rattle.transcript.specs.Answers.{spokenBody}
+use Rattle.answer_lines.specs.Answers.{spokenBody}
 use Rattle.lines.proofs.Printed.{printed-sent, length-printed}
-use Rattle.transcript.proofs.Fields.{length-spoken}
+use Rattle.answer_lines.proofs.Fields.{length-spoken}
 use borrow.Author.Needs.{needs}
-use Rattle.transcript.proofs.spoken_line.Statement.{statement}
-use Rattle.transcript.proofs.spoken_line.Tie as tie
+use Rattle.answer_lines.proofs.spoken_line.Statement.{statement}
+use Rattle.answer_lines.proofs.spoken_line.Tie as tie
 
 begin-requires : tie.Need-begin-requires
 begin-requires c κs = search needs

@@ -1,10 +1,10 @@
--- `transcript::put_front` meets its contract: its three fields go out.
+-- `answer_lines::put_front` meets its contract: its three fields go out.
 -- Assumes nothing.
 use native.Mathlib.Omega.{arith}
 use Rattle.frames.proofs.Output.{sent-then}
 use borrow.Author.Needs.{needs}
-use Rattle.transcript.proofs.put_front.Statement.{statement}
-use Rattle.transcript.proofs.put_front.Tie as tie
+use Rattle.answer_lines.proofs.put_front.Statement.{statement}
+use Rattle.answer_lines.proofs.put_front.Tie as tie
 
 put-requires : tie.Need-put-requires
 put-requires c κs = search needs

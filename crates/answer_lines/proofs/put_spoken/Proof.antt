@@ -1,14 +1,14 @@
--- `transcript::put_spoken` meets its contract: its fields go out, one after the other.
+-- `answer_lines::put_spoken` meets its contract: its fields go out, one after the other.
 -- Assumes nothing.
 use Prim.Native.Nat.{ℕ}
 use mathlib.Core.Path.{ap}
 use mathlib.Core.List.{[], _∷_}
 use native.Mathlib.Omega.{arith}
 use Rattle.frames.proofs.Output.{sent-then, sent-as}
-use Rattle.transcript.specs.Answers.{spokenBody}
+use Rattle.answer_lines.specs.Answers.{spokenBody}
 use borrow.Author.Needs.{needs}
-use Rattle.transcript.proofs.put_spoken.Statement.{statement}
-use Rattle.transcript.proofs.put_spoken.Tie as tie
+use Rattle.answer_lines.proofs.put_spoken.Statement.{statement}
+use Rattle.answer_lines.proofs.put_spoken.Tie as tie
 
 put-front-requires : tie.Need-put-front-requires
 put-front-requires c κs = search needs
