@@ -6,14 +6,12 @@ use mathlib.Core.List.{List}
 use native.Mathlib.Omega.{arith}
 use lib.ListN.{length, take, drop, length-drop}
 use lib.Seq.{length-take-le, drop-drop}
-use Rattle.rule_bytes.specs.RuleBytes.{ruleWith, ruleStruct}
+use Rattle.rule_bytes.specs.RuleBytes.{ruleFrom, ruleStruct}
 use Rattle.file_format.specs.Layout.{frontSize, leftLength, targetLength, rightLength, phonesLength, bodySize, ruleIn}
 
 module _ (w : List ℕ) (room : bodySize w ≤ length w) where
   pub rule-held : (t r p e : ℕ) → t ≡ frontSize + leftLength w → r ≡ t + targetLength w → p ≡ r + rightLength w → e ≡ p + phonesLength w
-      → ruleWith (leftLength w) (targetLength w) (rightLength w) (phonesLength w) (take (t - frontSize) (drop frontSize w)) (take (r - t) (drop t w))
-      (take (p - r) (drop r w)) (take (e - p) (drop p w))
-      ≡ ruleStruct (ruleIn w)
+      → ruleFrom w 3 frontSize t r p e ≡ ruleStruct (ruleIn w)
   rule-held t r p e et er ep ee =
       let d₁ : drop (leftLength w) (drop frontSize w) ≡ drop t w = drop-drop (leftLength w) frontSize w ∙ ap (λ (k : ℕ). drop k w) (sym et) in
       let d₂ : drop (targetLength w) (drop t w) ≡ drop r w = drop-drop (targetLength w) t w ∙ ap (λ (k : ℕ). drop k w) (sym er) in

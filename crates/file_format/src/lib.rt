@@ -80,18 +80,5 @@ pub fn rule_in(f: &[u8]) -> Rule
     let right_at = target_at + numbers::wide(f[TARGET_LEN]);
     let phones_at = right_at + numbers::wide(f[RIGHT_LEN]);
     let end = phones_at + numbers::wide(f[PHONES_LEN]);
-    let left = &f[FRONT..target_at];
-    let target = &f[target_at..right_at];
-    let right = &f[right_at..phones_at];
-    let phones = &f[phones_at..end];
-    rule_bytes::rule_with(
-        f[LEFT_LEN],
-        f[TARGET_LEN],
-        f[RIGHT_LEN],
-        f[PHONES_LEN],
-        left,
-        target,
-        right,
-        phones,
-    )
+    rule_bytes::rule_from(f, LEFT_LEN, FRONT, target_at, right_at, phones_at, end)
 }

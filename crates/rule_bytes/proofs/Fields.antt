@@ -10,7 +10,7 @@ use Rattle.rules.specs.Limits.{maxContext, maxTarget, maxPhones, fieldsSize}
 use Rattle.rules.specs.Shape.{first}
 use Rattle.rules.specs.declared.Rule.{Rule}
 use Rattle.rules.proofs.Laws.{first-take}
-use Rattle.rule_bytes.specs.RuleBytes.{leftStart, targetStart, rightStart, phonesStart, ruleSize, ruleOf, ruleBytes, Filled, ruleWith}
+use Rattle.rule_bytes.specs.RuleBytes.{leftStart, targetStart, rightStart, phonesStart, ruleSize, ruleOf, ruleBytes, Filled, ruleFrom}
 use Rattle.rule_bytes.proofs.Parts.{part-same, byte-same, in-four}
 
 -- ---- read
@@ -32,9 +32,7 @@ whole m l h = first-take m l 0 (omega arith) ∙ (ap (λ (n : ℕ). take n l) (s
 
 -- the struct of the fields' bytes
 pub rule-is : (s : List ℕ) → ruleSize ≤ length s
-    → ruleWith (getD s 0 0) (getD s 1 0) (getD s 2 0) (getD s 3 0) (take maxContext (drop leftStart s)) (take maxTarget (drop targetStart s))
-    (take maxContext (drop rightStart s)) (take maxPhones (drop phonesStart s))
-    ≡ ruleOf s
+    → ruleFrom s 0 leftStart targetStart rightStart phonesStart ruleSize ≡ ruleOf s
 rule-is s h =
     let f = rule-filled s h in
     rw (whole maxContext _ (f .0), whole maxTarget _ (f .1 .0), whole maxContext _ (f .1 .1 .0), whole maxPhones _ (f .1 .1 .1))

@@ -1,7 +1,7 @@
 -- A rule as bytes and as a struct. As bytes: four lengths (1 each: left context, target, right context, phones), then the four fields with all their
 -- places. What lies past a field's length is kept and not judged.
 -- Assumes nothing.
-use Prim.Native.Nat.{ℕ, _+_}
+use Prim.Native.Nat.{ℕ, _+_, _-_}
 use mathlib.Core.Path.{_≡_}
 use mathlib.Core.List.{List, [], _∷_, _++_}
 use lib.ListN.{length, getD, take, drop}
@@ -67,6 +67,12 @@ ruleWith leftLen targetLen rightLen phoneLen left target right phones = record {
   right = first maxContext right 0;
   phones = first maxPhones phones 0;
 }
+
+-- the struct of bytes in which the lengths stand from `lens` on, and the fields one after the other, each up to where the next starts
+abbrev pub ruleFrom : List ℕ → ℕ → ℕ → ℕ → ℕ → ℕ → ℕ → Rule
+ruleFrom s lens left target right phones end =
+    ruleWith (getD s lens 0) (getD s (lens + 1) 0) (getD s (lens + 2) 0) (getD s (lens + 3) 0) (take (target - left) (drop left s))
+    (take (right - target) (drop target s)) (take (phones - right) (drop right s)) (take (end - phones) (drop phones s))
 
 -- the struct of a rule
 abbrev pub ruleStruct : Production → Rule

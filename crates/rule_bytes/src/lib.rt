@@ -8,7 +8,7 @@ ghost use lib.ListN.{length, take};
 ghost use lib.Seq.{paste};
 ghost use Rattle.rules.specs.Memory.{over, overAt};
 ghost use Rattle.rules.specs.Shape.{view, shape};
-ghost use Rattle.rule_bytes.specs.RuleBytes.{ruleSize, ruleOf, ruleBytes, ruleWith, blankRule};
+ghost use Rattle.rule_bytes.specs.RuleBytes.{leftStart, ruleSize, ruleOf, ruleBytes, ruleWith, ruleFrom, blankRule};
 
 // The layout of specs/RuleBytes.antt in numbers.
 pub const LEFT_LEN: usize = 0;
@@ -54,7 +54,7 @@ fn fill(room: &mut [u8], s: &[u8])
 }
 
 // The rule with these lengths and fields: of a field as many bytes as its array has places, 0 past them.
-pub fn rule_with(
+fn rule_with(
     left_len: u8,
     target_len: u8,
     right_len: u8,
@@ -102,25 +102,37 @@ pub fn blank() -> Rule
     }
 }
 
+// The rule whose lengths stand from `lens` on, and whose fields lie one after the other from `left` on, each up to the next.
+pub fn rule_from(
+    s: &[u8],
+    lens: usize,
+    left: usize,
+    target: usize,
+    right: usize,
+    phones: usize,
+    end: usize,
+) -> Rule
+    requires { ⌜ (lens + leftStart ≤ length (now s)) × ((left ≤ target) × ((target ≤ right) × ((right ≤ phones) × ((phones ≤ end) × (end ≤ length (now s)))))) ⌝ }
+    ensures { λ r. ⌜ r ≡ ruleFrom (now (s .entry)) lens left target right phones end ⌝ }
+{
+    rule_with(
+        s[lens],
+        s[lens + 1],
+        s[lens + 2],
+        s[lens + 3],
+        &s[left..target],
+        &s[target..right],
+        &s[right..phones],
+        &s[phones..end],
+    )
+}
+
 // The rule that `s` starts with.
 pub fn rule_of(s: &[u8]) -> Rule
     requires { ⌜ ruleSize ≤ length (now s) ⌝ }
     ensures { λ r. ⌜ r ≡ ruleOf (now (s .entry)) ⌝ }
 {
-    let left = &s[LEFT..TARGET];
-    let target = &s[TARGET..RIGHT];
-    let right = &s[RIGHT..PHONES];
-    let phones = &s[PHONES..SIZE];
-    rule_with(
-        s[LEFT_LEN],
-        s[TARGET_LEN],
-        s[RIGHT_LEN],
-        s[PHONES_LEN],
-        left,
-        target,
-        right,
-        phones,
-    )
+    rule_from(s, LEFT_LEN, LEFT, TARGET, RIGHT, PHONES, SIZE)
 }
 
 // Four runs of bytes are stored from `at` on, one after the other.

@@ -3,9 +3,9 @@
 use Prim.Native.Nat.{_+_}
 use mathlib.Core.Path.{_∙_}
 use native.Mathlib.Omega.{arith}
+use borrow.Author.Needs.{needs}
 use Rattle.file_format.specs.Layout.{frontSize}
 use Rattle.file_format.proofs.Fields.{rule-held}
-use borrow.Author.Needs.{needs}
 use Rattle.file_format.proofs.rule_in.Statement.{statement}
 use Rattle.file_format.proofs.rule_in.Tie as tie
 
@@ -45,59 +45,11 @@ wide-requires-4 c κs = search needs
 add-end : tie.Need-add-end
 add-end c = search needs
 
-sub-left : tie.Need-sub-left
-sub-left c = search needs
-
-part-left-start : tie.Need-part-left-start
-part-left-start c = search needs
-
-part-left-end : tie.Need-part-left-end
-part-left-end c = search needs
-
-sub-target : tie.Need-sub-target
-sub-target c = search needs
-
-part-target-start : tie.Need-part-target-start
-part-target-start c = search needs
-
-part-target-end : tie.Need-part-target-end
-part-target-end c = search needs
-
-sub-right : tie.Need-sub-right
-sub-right c = search needs
-
-part-right-start : tie.Need-part-right-start
-part-right-start c = search needs
-
-part-right-end : tie.Need-part-right-end
-part-right-end c = search needs
-
-sub-phones : tie.Need-sub-phones
-sub-phones c = search needs
-
-part-phones-start : tie.Need-part-phones-start
-part-phones-start c = search needs
-
-part-phones-end : tie.Need-part-phones-end
-part-phones-end c = search needs
-
-shared-slice-read-rule-with : tie.Need-shared-slice-read-rule-with
-shared-slice-read-rule-with c = search needs
-
-shared-slice-read-rule-with-2 : tie.Need-shared-slice-read-rule-with-2
-shared-slice-read-rule-with-2 c = search needs
-
-shared-slice-read-rule-with-3 : tie.Need-shared-slice-read-rule-with-3
-shared-slice-read-rule-with-3 c = search needs
-
-shared-slice-read-rule-with-4 : tie.Need-shared-slice-read-rule-with-4
-shared-slice-read-rule-with-4 c = search needs
-
-rule-with-requires : tie.Need-rule-with-requires
-rule-with-requires c κs = search needs
+rule-from-requires : tie.Need-rule-from-requires
+rule-from-requires c κs = search needs
 
 returns : tie.Need-returns
-returns c = let t = frontSize + c .before .before .before .before .before .before .before .before .before .before .before .before .before .before .before .wide .result in let r = t + c .before .before .before .before .before .before .before .before .before .before .before .before .before .wide2 .result in let p = r + c .before .before .before .before .before .before .before .before .before .before .before .wide3 .result in c .rule-with .ensures ∙ rule-held (c .before .before .before .before .before .before .before .before .before .before .before .before .before .before .before .before .before .before .args .f .now) (c .before .before .before .before .before .before .before .before .before .before .before .before .before .before .before .before .before .before .pre) t r p (p + c .before .before .before .before .before .before .before .before .before .wide4 .result) (omega arith) (omega arith) (omega arith) (omega arith)
+returns c = let t = frontSize + c .before .before .before .before .before .before .before .wide .result in let r = t + c .before .before .before .before .before .wide2 .result in let p = r + c .before .before .before .wide3 .result in c .rule-from .ensures ∙ rule-held (c .before .before .before .before .before .before .before .before .before .before .args .f .now) (c .before .before .before .before .before .before .before .before .before .before .pre) t r p (p + c .before .wide4 .result) (omega arith) (omega arith) (omega arith) (omega arith)
 
 pub rule-in-spec : {M : Type 1} → statement M
 rule-in-spec =
@@ -115,21 +67,5 @@ rule-in-spec =
     shared-slice-read-wide-4
     wide-requires-4
     add-end
-    sub-left
-    part-left-start
-    part-left-end
-    sub-target
-    part-target-start
-    part-target-end
-    sub-right
-    part-right-start
-    part-right-end
-    sub-phones
-    part-phones-start
-    part-phones-end
-    shared-slice-read-rule-with
-    shared-slice-read-rule-with-2
-    shared-slice-read-rule-with-3
-    shared-slice-read-rule-with-4
-    rule-with-requires
+    rule-from-requires
     returns)
