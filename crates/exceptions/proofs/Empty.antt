@@ -3,12 +3,14 @@
 use mathlib.Core.Path.{_≡_, sym, ap, ap₂, _∙_, subst}
 use Prim.Native.Nat.{ℕ, suc, _+_, _-_, _/_, _%_, _≤_, _<_}
 use native.Mathlib.Omega.{arith}
-use mathlib.Core.Bool.{true}
+use mathlib.Core.Bool.{true, _&&_}
 use mathlib.Core.List.{List, []}
+use lib.Dec.{eqb}
 use lib.ListN.{length, getD, set, length-set}
 use lib.Seq.{length-take-le, getD-take, getD-set-same, getD-set-other}
-use borrow.Author.Tests.{le-leb, lt-leb}
+use borrow.Author.Tests.{le-leb, lt-leb, eqb-true}
 use Rattle.rules.specs.Refusals.{accepted, declined}
+use Rattle.rules.proofs.Cases.{and-l, and-r}
 use Rattle.automaton.specs.Automaton.{Str, at, part, cellsOf, rowsOf, Sorted, Laid, phonesAt, look, Letters, Sound}
 use Rattle.automaton.specs.Totals.{total}
 use Rattle.automaton.proofs.Totals.{total-blank}
@@ -16,7 +18,7 @@ use Rattle.automaton.proofs.NameLengths.{blank-says}
 use Rattle.packing.specs.Packing.{digit, byteOf, unpack, byteAt}
 use Rattle.packing.proofs.Bytes.{digit-none}
 use Rattle.exceptions.specs.Layout.{listSize, startWord, wordsOf, startOf, phonesFor, namesIn}
-use Rattle.exceptions.specs.Judging.{IsList, isList, Says}
+use Rattle.exceptions.specs.Judging.{IsList, blank, isList, Says}
 use Rattle.exceptions.specs.Calls.{emptying, emptied}
 use Rattle.exceptions.proofs.Sizes.{size-is, start-is}
 use Rattle.exceptions.proofs.Decided.{facts-list}
@@ -104,6 +106,22 @@ module _ (ws : List ℕ) (b : Blank ws) where
   blank-phones : (w : Str) → Letters w → phonesFor ws w ≡ []
   unfolding phonesFor unpack byteOf
   blank-phones w t = ap (λ (x : ℕ). unpack (look (rowsOf ws) x w)) (b .start) ∙ ap unpack (says-nothing w t)
+
+-- the test of such words
+pub blank-found : (ws : List ℕ) → listSize ≤ length ws → blank ws ≡ true → IsList ws
+unfolding blank
+blank-found ws h e =
+    let s = eqb (startOf ws) 0 in
+    let a = eqb (getD ws 0 0) 4200 in
+    let b = eqb (getD ws 1 0) 4200 in
+    let r = and-r s (a && b) e in
+    blank-list ws
+    (record {
+      long = omega (arith, size-is);
+      first = eqb-true (getD ws 0 0) 4200 (and-l a b r);
+      end = eqb-true (getD ws 1 0) 4200 (and-r a b r);
+      start = eqb-true (startOf ws) 0 (and-l s (a && b) e);
+    })
 
 -- ---- the empty list
 

@@ -86,6 +86,10 @@ listed ws n =
     && (leb (namesIn ws) maxListed
     && (allShort (names n (look (rowsOf ws) n)) && none? (phonesAt (rowsOf ws) n))))))))
 
+-- the start is 0, which has no cells: words of a list's size are then an empty list (proofs/Empty)
+unfoldable pub blank : List ℕ → Bool
+blank ws = eqb (startOf ws) 0 && (eqb (getD ws 0 0) 4200 && eqb (getD ws 1 0) 4200)
+
 -- 17: the lent memory is as long as a list, and its words are one
 unfoldable pub isList : List ℕ → Bool
 isList list = leb listSize (length list) && listed (wordsOf list) (startOf (wordsOf list))

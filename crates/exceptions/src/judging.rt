@@ -11,7 +11,7 @@ ghost use Rattle.states.specs.States.{AsksState};
 ghost use Rattle.minimality.specs.Judging.{Decides};
 ghost use Rattle.measures.specs.Measures.{CountAsks, DeepAsks, Short};
 ghost use Rattle.exceptions.specs.Layout.{listSize, startOf, namesIn};
-ghost use Rattle.exceptions.specs.Judging.{IsList, listed, JudgeAsks, NamesAsk};
+ghost use Rattle.exceptions.specs.Judging.{IsList, listed, blank, JudgeAsks, NamesAsk};
 
 // Scratch: the heads of the chains by key in which minimality::listed looks for states alike.
 const KEYS: usize = 4093;
@@ -78,11 +78,28 @@ fn judge(words: &[u32], heads: &mut [u16], marks: &mut [u16]) -> bool
     names_listed(words, n, marks)
 }
 
-// Whether words of a list's size are a list.
+// Whether the words are an empty list.
+fn is_blank(words: &[u32]) -> bool
+    requires { ⌜ listSize ≤ length (now words) ⌝ }
+    ensures { λ r. ⌜ r ≡ blank (now (words .entry)) ⌝ }
+{
+    if crate::start_of(words) != 0 {
+        return false;
+    }
+    if words[0] != automaton::FIRST_CELL {
+        return false;
+    }
+    words[1] == automaton::FIRST_CELL
+}
+
+// Whether words of a list's size are a list. The empty one, which is lent where a host keeps no list, needs no scratch.
 pub fn words_listed(words: &[u32]) -> bool
     requires { ⌜ length (now words) ≡ listSize ⌝ }
     ensures { λ r. ⌜ r ≡ listed (now (words .entry)) (startOf (now (words .entry))) ⌝ }
 {
+    if is_blank(words) {
+        return true;
+    }
     let mut heads = [0u16; KEYS];
     let mut marks = [0u16; MARKS];
     judge(words, &mut heads, &mut marks)
