@@ -1,6 +1,6 @@
--- Every marked row is reached by a name, so that no list says the same where more rows are marked than a list has states.
+-- Every marked row is reached by a name, so that no automaton of at most 4,096 states says the same where more rows are marked.
 -- Assumes nothing.
-use mathlib.Core.Path.{_≡_, refl, sym, ap, _∙_}
+use mathlib.Core.Path.{_≡_, sym, ap, _∙_}
 use Prim.Native.Nat.{ℕ, zero, suc, _+_, _-_, _≤_, _<_}
 use native.Mathlib.Nat.{not-suc-le-zero}
 use native.Mathlib.Omega.{arith}
@@ -11,11 +11,7 @@ use Rattle.automaton.specs.Automaton.{Str, Rows, rowsOf, endState, look, Letter
 use Rattle.automaton.proofs.Tests.{bySame, byNat}
 use Rattle.compaction.specs.Compaction.{Under, Spread, marked}
 use Rattle.change.specs.Steps.{Crowded}
-use Rattle.change.proofs.Fewest.{letters-on, fewest}
-
-end-snoc : (f : Rows) (q c : ℕ) (w : Str) → endState f q (w ++ (c ∷ [])) ≡ f (endState f q w) c
-end-snoc f q c [] = refl
-end-snoc f q c (d ∷ w) = end-snoc f (f q d) c w
+use Rattle.change.proofs.Fewest.{end-on, letters-on, fewest}
 
 -- a name leads from the start to row x
 abbrev WordTo : Rows → ℕ → ℕ → Type 0
@@ -23,7 +19,7 @@ WordTo f n x = (w : Str) × Letters w × (endState f n w ≡ x)
 
 -- one letter more
 longer : (f : Rows) (n j c x : ℕ) → WordTo f n j → 0 < c → c < 64 → f j c ≡ x → WordTo f n x
-longer f n j c x (w, t, e) p l g = (w ++ (c ∷ []), letters-on w (c ∷ []) t (p, l, tt), end-snoc f n c w ∙ (ap (λ (v : ℕ). f v c) e ∙ g))
+longer f n j c x (w, t, e) p l g = (w ++ (c ∷ []), letters-on w (c ∷ []) t (p, l, tt), end-on f n w (c ∷ []) ∙ (ap (λ (v : ℕ). f v c) e ∙ g))
 
 module _ (ws m : List ℕ) (top : ℕ) (s : Sound (rowsOf ws) top) (sp : Spread ws top 0 m) where
   some-letter : (j c : ℕ) → j ≤ top → 0 < rowsOf ws j c → 0 < c
@@ -42,6 +38,6 @@ module _ (ws m : List ℕ) (top : ℕ) (s : Sound (rowsOf ws) top) (sp : Spread 
       (λ e. from-before x p (sp .why x p (omega arith) o) (λ j y k i. word-within b j (omega arith) (omega arith) k i))
 
   pub crowded : suc maxStates < marked (λ x. getD m x 0) (suc top) → (M : Str → Str) → ((w : Str) → Letters w → look (rowsOf ws) top w ≡ M w) → Crowded M
-  crowded h M a g k l t b =
-      let e = fewest (rowsOf ws) g top k s t (λ w o. a w o ∙ sym (b w o)) (λ x. getD m x 0) (λ x p o q. word-within (suc (top - x)) x (omega arith) p o q) in
+  crowded h M a k l b =
+      let e = fewest (rowsOf ws) top k s M a b (λ x. getD m x 0) (λ x p o q. word-within (suc (top - x)) x (omega arith) p o q) in
       omega arith

@@ -1,4 +1,4 @@
--- Groups of phones as they are packed: equal where their phones are; those that a list says are such, and so are those that a change gives.
+-- Groups of phones as they are packed: their phones tell them; those that a list says are such, and so are those that a change gives.
 -- Assumes nothing.
 use mathlib.Core.Path.{_≡_, refl, sym, ap, ap₂, _∙_, subst}
 use Prim.Native.Nat.{ℕ, suc, _+_, _*_, _/_, _%_, _≤_, _<_}
@@ -10,11 +10,10 @@ use Rattle.automaton.specs.Automaton.{Str, Rows, upTo, phonesAt, endState, look
 use Rattle.automaton.proofs.Tests.{byBool, byLess, bySame, byNat}
 use Rattle.automaton.proofs.Change.{upTo-ext}
 use Rattle.automaton.proofs.Endings.{upTo-same, reached}
-use Rattle.packing.specs.Packing.{Bytes, groupsOf, digit, byteOf, unpack, byteAt}
+use Rattle.packing.specs.Packing.{Bytes, groupAt, groupsOf, digit, byteOf, unpack, byteAt}
 use Rattle.packing.proofs.Bytes.{upTo-list, byte-back, digit-none, unpack-pack, groups-good}
-use Rattle.packing.proofs.StatePhones.{upTo-all}
+use Rattle.packing.proofs.StatePhones.{upTo-long, upTo-all}
 use Rattle.phone_strings.specs.Packed.{Packed, AllPacked}
-use Rattle.phone_strings.proofs.Padding.{digits-same}
 use Rattle.change.proofs.Fewest.{end-inside}
 
 -- byte j of numbers of three bytes
@@ -30,7 +29,7 @@ pub record Canonical (g : Str) : Type 0 where
   pub bytes : Padded 66 (byteIn group)
   pub short : byteIn group 64 ≡ 0
 
--- ---- equal where their phones are
+-- ---- told by their phones
 
 unpack-is : (g : Str) (c : Canonical g) → unpack g ≡ upTo 64 (byteIn (c .group))
 unfolding unpack byteOf
@@ -44,25 +43,48 @@ late-bytes g c k l h =
     (λ o. ap (byteIn (c .group)) o ∙ c .short)
     (λ o. let z : k ≡ 65 = omega arith in ap (byteIn (c .group)) z ∙ c .bytes 64 (omega arith) (c .short))
 
-module _ (g h : Str) (a : Canonical g) (b : Canonical h) (e : unpack g ≡ unpack h) where
-  bytes-same : (k : ℕ) → k < 66 → byteIn (a .group) k ≡ byteIn (b .group) k
-  bytes-same k o =
-      byLess k 64
-      (λ l. upTo-same 64 (byteIn (a .group)) (byteIn (b .group)) (λ m i. a .bytes m (omega arith)) (λ m i. b .bytes m (omega arith))
-      (sym (unpack-is g a) ∙ (e ∙ unpack-is h b)) k l)
-      (λ l. late-bytes g a k l o ∙ sym (late-bytes h b k l o))
+-- the groups of phones
+pub regroup : Str → Str
+regroup p = upTo 22 (groupAt p)
 
-  group-same : (k : ℕ) → k < 22 → a .group k ≡ b .group k
-  group-same k o =
-      let at : (u : ℕ → ℕ) (d : ℕ) → d < 3 → byteIn u (3 * k + d) ≡ digit d (u k) = λ u d l.
+pub regroup-none : regroup [] ≡ []
+unfolding regroup groupAt
+regroup-none = refl
+
+module _ (g : Str) (c : Canonical g) where
+  few : length (unpack g) ≤ 64
+  unfolding unpack
+  few = upTo-long 64 (byteOf g)
+
+  byte-said : (j : ℕ) → j < 66 → getD (unpack g) j 0 ≡ byteIn (c .group) j
+  byte-said j o =
+      byLess j 64
+      (λ l. ap (λ (t : Str). getD t j 0) (unpack-is g c) ∙ upTo-all 64 (byteIn (c .group)) (λ m i. c .bytes m (omega arith)) j l)
+      (λ l. let h = few in List·getD-eq-default (unpack g) 0 (omega arith) ∙ sym (late-bytes g c j l o))
+
+  group-said : (k : ℕ) → k < 22 → groupAt (unpack g) k ≡ c .group k
+  unfolding groupAt
+  group-said k o =
+      let at : (d : ℕ) → d < 3 → getD (unpack g) (3 * k + d) 0 ≡ digit d (c .group k) = λ d l.
       let x : (3 * k + d) % 3 ≡ d = omega arith in
       let y : (3 * k + d) / 3 ≡ k = omega arith in
-      ap₂ (λ (i j : ℕ). digit i (u j)) x y in
-      let one : (d : ℕ) → d < 3 → digit d (a .group k) ≡ digit d (b .group k) = λ d l. sym (at (a .group) d l) ∙ (bytes-same (3 * k + d) (omega arith) ∙ at (b .group) d l) in
-      digits-same (a .group k) (b .group k) (a .small k o) (b .small k o) (one 0 (omega arith)) (one 1 (omega arith)) (one 2 (omega arith))
+      byte-said (3 * k + d) (omega arith) ∙ ap₂ (λ (i j : ℕ). digit i (c .group j)) x y in
+      let z : 3 * k ≡ 3 * k + 0 = omega arith in
+      let a : getD (unpack g) (3 * k) 0 ≡ c .group k % 256 = ap (λ (j : ℕ). getD (unpack g) j 0) z ∙ at 0 (omega arith) in
+      let b : getD (unpack g) (3 * k + 1) 0 ≡ c .group k / 256 % 256 = at 1 (omega arith) in
+      let e : getD (unpack g) (3 * k + 2) 0 ≡ c .group k / 65536 = at 2 (omega arith) in
+      omega arith
 
-  pub groups-same : g ≡ h
-  groups-same = a .is ∙ (upTo-ext 22 (a .group) (b .group) group-same ∙ sym (b .is))
+  pub regrouped : regroup (unpack g) ≡ g
+  unfolding regroup
+  regrouped = upTo-ext 22 (groupAt (unpack g)) (c .group) group-said ∙ sym (c .is)
+
+-- groups without phones are none
+pub unpack-some : (g : Str) → Canonical g → unpack g ≡ [] → g ≡ []
+unpack-some g c e = sym (regrouped g c) ∙ (ap regroup e ∙ regroup-none)
+
+pub groups-same : (g h : Str) → Canonical g → Canonical h → unpack g ≡ unpack h → g ≡ h
+groups-same g h a b e = sym (regrouped g a) ∙ (ap regroup e ∙ regrouped h b)
 
 -- ---- what states say
 

@@ -3,18 +3,17 @@
 use mathlib.Core.Path.{_≡_, refl, sym, ap, _∙_, subst}
 use Prim.Native.Nat.{ℕ, _+_, _≤_}
 use native.Mathlib.Omega.{arith}
-use mathlib.Core.Bool.{Bool, true, false}
+use mathlib.Core.Bool.{Bool, true, false, cond}
 use mathlib.Core.List.{List, _++_}
 use lib.ListN.{length, take, drop, take-append-drop}
 use lib.Seq.{length-take-le, length-front, take-at, drop-at}
 use Rattle.rules.specs.Refusals.{accepted, declined}
 use Rattle.automaton.specs.Automaton.{Str, changed}
-use Rattle.automaton.proofs.Tests.{clash}
-use Rattle.minimality.proofs.Scan.{refuted}
+use Rattle.minimality.specs.Judging.{Decides}
 use Rattle.exceptions.specs.Layout.{listSize, wordsOf, phonesFor}
 use Rattle.exceptions.specs.Judging.{IsList, isList, Says}
 use Rattle.exceptions.proofs.Decided.{list-long, list-facts, facts-list}
-use Rattle.change.specs.Change.{Held}
+use Rattle.change.specs.Change.{Within}
 use Rattle.change.specs.Steps.{PhonesAsk, Relisted, ChangeAsks, Limited}
 
 pub never-accepted {ℓ} : {A : Type ℓ} {n p : ℕ} → declined n p ≡ accepted → A
@@ -58,6 +57,9 @@ module _ (list : List ℕ) (name p : Str) (k : ℕ) (e : k ≡ listSize) (a : Ch
     unfolding after
     after-long = let f = length-front list w k l in let h = list-long list (a .is) in omega arith
 
+    limits : (b : Bool) → Relisted (take k list) name p w b → Decides (Within (changed name p (phonesFor (wordsOf list)))) b
+    limits b r = subst (λ (x : List ℕ). Decides (Within (changed name p (phonesFor x))) b) (sym words) (r .limits)
+
     pub limited : (b : Bool) → Relisted (take k list) name p w b → b ≡ true → Limited (changed name p (phonesFor (wordsOf list))) list (w ++ drop k list) accepted
     unfolding after
     limited b r o =
@@ -65,9 +67,9 @@ module _ (list : List ℕ) (name p : Str) (k : ℕ) (e : k ≡ listSize) (a : Ch
         let says : Says (w ++ drop k list) (changed name p (phonesFor (wordsOf list))) = λ v t.
         ap (λ (x : List ℕ). phonesFor x v) after-words ∙ (r .says o v t ∙ ap (λ (x : List ℕ). changed name p (phonesFor x) v) (sym words)) in
         record {
-          fits = true;
-          limits = record { yes = λ z. record { list = w ++ drop k list; is = is; says = says }; no = λ z. clash refl z };
-          answer = refl;
+          fits = b;
+          limits = limits b r;
+          answer = ap (λ (t : Bool). cond t accepted (declined 19 0)) (sym o);
           list = λ z. is;
           says = λ z. says;
           rest = after-rest;
@@ -78,10 +80,9 @@ module _ (list : List ℕ) (name p : Str) (k : ℕ) (e : k ≡ listSize) (a : Ch
     unfolding after
     not-limited b r o =
         record {
-          fits = false;
-          limits = refuted (Held (changed name p (phonesFor (wordsOf list)))) (λ h.
-              r .full o (wordsOf (h .list)) (list-facts (h .list) (h .is)) (λ v t. h .says v t ∙ ap (λ (x : List ℕ). changed name p (phonesFor x) v) words));
-          answer = refl;
+          fits = b;
+          limits = limits b r;
+          answer = ap (λ (t : Bool). cond t accepted (declined 19 0)) (sym o);
           list = λ z. never-accepted z;
           says = λ z. never-accepted z;
           rest = after-rest;

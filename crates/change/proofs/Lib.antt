@@ -7,6 +7,7 @@ pub mod Crowding
 pub mod Building
 pub mod Groups
 pub mod NameCounts
+pub mod Automata
 pub mod Lists
 pub mod Listed
 pub mod Lent

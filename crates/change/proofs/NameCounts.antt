@@ -22,17 +22,26 @@ use Rattle.exceptions.specs.Layout.{startOf, namesIn}
 use Rattle.exceptions.specs.Judging.{IsList}
 use Rattle.change.specs.Steps.{namesAfter}
 
--- lists that say the same have the same names
-pub names-same : (h : ℕ) (m k : Str → Str) → ((w : Str) → Letters w → m w ≡ k w) → names h m ≡ names h k
-unfolding names
-names-same zero m k a = ap own (a [] tt)
-names-same (suc h) m k a =
-    ap₂ (λ (x y : List Str). x ++ y) (ap own (a [] tt))
-    (each-same (λ c. map (λ (w : Str). c ∷ w) (names h (λ w. m (c ∷ w)))) (λ c. map (λ (w : Str). c ∷ w) (names h (λ w. k (c ∷ w)))) 1 63
-    (λ d x y. ap (map (λ (w : Str). d ∷ w)) (names-same h (λ w. m (d ∷ w)) (λ w. k (d ∷ w)) (λ w t. a (d ∷ w) (omega arith, omega arith, t)))))
-
 pub never-cons {ℓ} : {A : Type ℓ} (x : ℕ) (p : Str) → x ∷ p ≡ [] → A
 never-cons x p e = let z : _≡_ {A = ℕ} 0 1 = cc in absurd (omega arith)
+
+-- which names there are depends on which have phones alone
+pub names-alike : (h : ℕ) (m k : Str → Str) → ((w : Str) → Letters w → own (m w) ≡ own (k w)) → names h m ≡ names h k
+unfolding names
+names-alike zero m k a = a [] tt
+names-alike (suc h) m k a =
+    ap₂ (λ (x y : List Str). x ++ y) (a [] tt)
+    (each-same (λ c. map (λ (w : Str). c ∷ w) (names h (λ w. m (c ∷ w)))) (λ c. map (λ (w : Str). c ∷ w) (names h (λ w. k (c ∷ w)))) 1 63
+    (λ d x y. ap (map (λ (w : Str). d ∷ w)) (names-alike h (λ w. m (d ∷ w)) (λ w. k (d ∷ w)) (λ w t. a (d ∷ w) (omega arith, omega arith, t)))))
+
+pub names-same : (h : ℕ) (m k : Str → Str) → ((w : Str) → Letters w → m w ≡ k w) → names h m ≡ names h k
+names-same h m k a = names-alike h m k (λ w t. ap own (a w t))
+
+pub own-alike : (p q : Str) → (p ≡ [] → q ≡ []) → (q ≡ [] → p ≡ []) → own p ≡ own q
+own-alike [] [] a b = refl
+own-alike [] (y ∷ q) a b = never-cons y q (a refl)
+own-alike (x ∷ p) [] a b = never-cons x p (b refl)
+own-alike (x ∷ p) (y ∷ q) a b = refl
 
 -- what is not something is nothing
 pub nothing-else : (p : Str) → ((p ≡ [] → ⊥) → ⊥) → p ≡ []

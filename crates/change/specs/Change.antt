@@ -1,17 +1,17 @@
 -- Adding, replacing and removing a name (document 02, request 1): the refusals in their order, and the list after the change.
 -- Assumes nothing.
 use mathlib.Core.Path.{_≡_}
-use Prim.Native.Nat.{ℕ}
+use Prim.Native.Nat.{ℕ, _≤_, _<_}
 use mathlib.Core.Bool.{Bool, true, false, cond, _&&_}
 use mathlib.Core.List.{List, []}
 use lib.Dec.{leb, ltb}
 use lib.ListN.{length, drop}
-use Rattle.rules.specs.Limits.{maxPhone, maxListedPhones}
+use Rattle.rules.specs.Limits.{maxPhone, maxName, maxNameByte, maxListed, maxListedPhones, maxStates}
 use Rattle.rules.specs.Shape.{allFrom}
 use Rattle.rules.specs.Refusals.{Reply, accepted, declined, unless}
 use Rattle.rules.specs.Names.{judgedName}
-use Rattle.automaton.specs.Automaton.{Str, changed}
-use Rattle.automaton.specs.Listing.{none?}
+use Rattle.automaton.specs.Automaton.{Str, endState, Letters, changed}
+use Rattle.automaton.specs.Listing.{none?, names}
 use Rattle.minimality.specs.Judging.{Decides}
 use Rattle.exceptions.specs.Layout.{listSize, wordsOf, phonesFor}
 use Rattle.exceptions.specs.Judging.{isList, Says}
@@ -43,18 +43,35 @@ abbrev pub afterChange : (Str → Str) → Change → (Str → Str)
 afterChange m (Add name p) = changed name p m
 afterChange m (Remove name) = changed name [] m
 
--- a list within the limits says m. Lists that say the same have as many names and states (`same-names`, `same-states`), so that this is so just
--- where m has at most 1,000 names and its smallest automaton at most 4,096 states.
-pub record Held (m : Str → Str) : Type 0 where
-  pub list : List ℕ
-  pub is : isList list ≡ true
-  pub says : Says list m
+-- An automaton of k states that says m of each name. The states are the numbers 1 to k, the start counted; 0 is none. Any is meant, however it
+-- is kept: it may have states that are alike, that are not reached or that lead to no name.
+pub record Automaton (m : Str → Str) (k : ℕ) : Type 0 where
+  -- the successor of a state under a letter, 0 where there is none
+  pub next : ℕ → ℕ → ℕ
+  -- the phones of the names that end in a state, none where no name does
+  pub phones : ℕ → Str
+  pub start : ℕ
+  pub first : 0 < start
+  pub last : start ≤ k
+  pub inside : (q c : ℕ) → q ≤ k → 0 < c → c ≤ maxNameByte → next q c ≤ k
+  -- no state follows 0, and no name ends in it
+  pub ended : (c : ℕ) → 0 < c → c ≤ maxNameByte → next 0 c ≡ 0
+  pub none : phones 0 ≡ []
+  pub says : (w : Str) → Letters w → phones (endState next start w) ≡ m w
+
+-- The limits, of m alone: it has at most 1,000 names, and its smallest automaton at most 4,096 states, as one of so few says it. The smallest is
+-- the one without states alike, not reached or leading to no name: a list has no more states than any automaton that says the same (`smallest`, proofs/Lists).
+pub record Within (m : Str → Str) : Type 0 where
+  pub listed : length (names maxName m) ≤ maxListed
+  pub states : ℕ
+  pub few : states ≤ maxStates
+  pub automaton : Automaton m states
 
 -- the answer to a change on a list that says m: what is refused before the limits, and 19, checked last
 pub record Answers (m : Str → Str) (c : Change) (reply : Reply) : Type 0 where
-  -- whether the list after the change is within the limits
+  -- whether what is said after the change is within the limits
   pub fits : Bool
-  pub limits : judgedChange m c ≡ accepted → Decides (Held (afterChange m c)) fits
+  pub limits : judgedChange m c ≡ accepted → Decides (Within (afterChange m c)) fits
   pub answer : reply ≡ unless (judgedChange m c) (cond fits accepted (declined 19 0))
 
 -- all that a change of lent memory gives; how the states after it are numbered, and what the free words hold, is free

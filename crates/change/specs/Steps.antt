@@ -7,7 +7,7 @@ use mathlib.Core.List.{List}
 use lib.ListN.{length, getD, set, drop}
 use Rattle.rules.specs.Limits.{maxName, maxStates}
 use Rattle.rules.specs.Refusals.{Reply, accepted, declined, unless}
-use Rattle.automaton.specs.Automaton.{Str, Rows, rowsOf, Laid, look, Letters, Sound, Needed, changed}
+use Rattle.automaton.specs.Automaton.{Str, rowsOf, Laid, look, Letters, Sound, Needed, changed}
 use Rattle.automaton.specs.Changes.{Phones}
 use Rattle.automaton.specs.Listing.{names}
 use Rattle.compaction.specs.Compaction.{Spread, marked, Swept}
@@ -15,7 +15,7 @@ use Rattle.packing.specs.Packing.{Bytes}
 use Rattle.minimality.specs.Judging.{Decides}
 use Rattle.exceptions.specs.Layout.{listSize, startWord, wordsOf, startOf, phonesFor}
 use Rattle.exceptions.specs.Judging.{IsList, isList, judgedList, Says}
-use Rattle.change.specs.Change.{Change, judgedChange, Held}
+use Rattle.change.specs.Change.{Change, judgedChange, Automaton, Within}
 
 -- ---- the free words: 65 offsets from word n + 2 on, 5,590 words from the end of the cells on
 
@@ -91,9 +91,9 @@ pub record Built (m : Str → Str) (ws : List ℕ) : Type 0 where
   pub says : (w : Str) → Letters w → look (rowsOf ws) (startOf ws) w ≡ m w
   pub size : length ws ≡ listSize
 
--- no such automaton says m
+-- no automaton of at most 4,096 states says m
 abbrev pub Crowded : (Str → Str) → Type 0
-Crowded m = (g : Rows) (k : ℕ) → k ≤ maxStates → Sound g k → ((w : Str) → Letters w → look g k w ≡ m w) → ⊥
+Crowded m = (k : ℕ) → k ≤ maxStates → Automaton m k → ⊥
 
 pub record Applied (ws : List ℕ) (n end : ℕ) (name p : Str) (ws′ : List ℕ) (r : Bool) : Type 0 where
   pub done : r ≡ true → Built (afterGroups ws name p) ws′
@@ -120,14 +120,10 @@ pub record PhonesAsk (ws : List ℕ) (name p : Str) : Type 0 where
   pub letters : Letters name
   pub phones : Bytes p
 
--- no list says m
-abbrev pub NoList : (Str → Str) → Type 0
-NoList m = (ws : List ℕ) → IsList ws → ((w : Str) → Letters w → phonesFor ws w ≡ m w) → ⊥
-
 pub record Relisted (ws : List ℕ) (name p ws′ : List ℕ) (r : Bool) : Type 0 where
+  pub limits : Decides (Within (changed name p (phonesFor ws))) r
   pub list : r ≡ true → IsList ws′
   pub says : r ≡ true → (w : Str) → Letters w → phonesFor ws′ w ≡ changed name p (phonesFor ws) w
-  pub full : r ≡ false → NoList (changed name p (phonesFor ws))
   pub kept : r ≡ false → ws′ ≡ ws
 
 -- ---- one change of a lent list
@@ -147,7 +143,7 @@ pub record ChangeAsks (list : List ℕ) (name p : Str) : Type 0 where
 -- the limits, and what the lent list is then
 pub record Limited (m : Str → Str) (before after : List ℕ) (reply : Reply) : Type 0 where
   pub fits : Bool
-  pub limits : Decides (Held m) fits
+  pub limits : Decides (Within m) fits
   pub answer : reply ≡ cond fits accepted (declined 19 0)
   pub list : reply ≡ accepted → isList after ≡ true
   pub says : reply ≡ accepted → Says after m

@@ -17,8 +17,9 @@ use Rattle.exceptions.specs.Judging.{isList, Says}
 use Rattle.exceptions.proofs.Names.{sound-letters}
 use Rattle.exceptions.proofs.Decided.{list-facts}
 use Rattle.exceptions.proofs.States.{states-differ, states-reached, states-lead}
-use Rattle.change.specs.Change.{Change, judgedListed, judgedChange, afterChange, Held, Answers, Changed}
+use Rattle.change.specs.Change.{Change, judgedListed, judgedChange, afterChange, Within, Answers, Changed}
 use Rattle.change.specs.Change.Change.{Add, Remove}
+use Rattle.change.proofs.Automata.{within-ext}
 use Rattle.change_history.specs.Replay.{afterReply, AllAnswered, saidAfter, nothing, Minimal, FromEmpty}
 
 -- ---- lists that say the same of every name of letters
@@ -38,15 +39,15 @@ judged-ext m m′ e (Remove name) = by (judgement name)
     by (sound s) = ap (λ (x : Str). unless (judgedName name) (judgedListed x)) (e name (sound-letters name s))
     by (refuses n p h q) = rw q
 
-held-ext : (m m′ : Str → Str) → Agree m m′ → (c : Change) → Held (afterChange m c) → Held (afterChange m′ c)
-held-ext m m′ e c h = record { list = h .list; is = h .is; says = λ w l. h .says w l ∙ after-ext m m′ e c w l }
+within-after : (m m′ : Str → Str) → Agree m m′ → (c : Change) → Within (afterChange m c) → Within (afterChange m′ c)
+within-after m m′ e c = within-ext (afterChange m c) (afterChange m′ c) (after-ext m m′ e c)
 
 pub answers-ext : (m m′ : Str → Str) → Agree m m′ → (c : Change) (r : Reply) → Answers m c r → Answers m′ c r
 answers-ext m m′ e c r a = record {
   fits = a .fits;
   limits = λ j.
       let d = a .limits (judged-ext m m′ e c ∙ j) in
-      record { yes = λ t. held-ext m m′ e c (d .yes t); no = λ t h. d .no t (held-ext m′ m (λ w l. sym (e w l)) c h) };
+      record { yes = λ t. within-after m m′ e c (d .yes t); no = λ t h. d .no t (within-after m′ m (λ w l. sym (e w l)) c h) };
   answer = a .answer ∙ ap (λ (x : Reply). unless x (cond (a .fits) accepted (declined 19 0))) (judged-ext m m′ e c);
 }
 

@@ -22,7 +22,7 @@ upTo-length (suc n) g (suc k) h a e =
     (λ y z. ap (λ (x : ℕ). length (unlessZero x (upTo n (λ k. g (suc k))))) z
     ∙ ap suc (upTo-length n (λ k. g (suc k)) k (le-of-suc-le-suc h) (λ j l. a (suc j) (omega arith)) (λ l. e (omega arith))))
 
-upTo-long : (n : ℕ) (g : ℕ → ℕ) → length (upTo n g) ≤ n
+pub upTo-long : (n : ℕ) (g : ℕ → ℕ) → length (upTo n g) ≤ n
 upTo-long zero g = omega arith
 upTo-long (suc n) g =
     byNat (g zero)
