@@ -20,7 +20,7 @@ pub fn clear(marks: &mut [u16], len: usize)
 }
 
 // Marks what the cells a to e lead to.
-pub fn mark_cells(words: &[u32], marks: &mut [u16], a: usize, e: usize)
+fn mark_cells(words: &[u32], marks: &mut [u16], a: usize, e: usize)
     requires { ⌜ CellsAsk (now words) (now marks) a e ⌝ }
     ensures { λ _. ⌜ CellsMarked (now (words .entry)) a e (now (marks .entry)) (now (marks .exit)) ⌝ }
 {
@@ -33,7 +33,7 @@ pub fn mark_cells(words: &[u32], marks: &mut [u16], a: usize, e: usize)
 }
 
 // Marks the successors of row i.
-pub fn mark_row(words: &[u32], marks: &mut [u16], top: usize, i: usize)
+fn mark_row(words: &[u32], marks: &mut [u16], top: usize, i: usize)
     requires { ⌜ SweepAsks (now words) (now marks) top × (i ≤ top) ⌝ }
     ensures { λ _. ⌜ RowMarked (now (words .entry)) i (now (marks .entry)) (now (marks .exit)) ⌝ }
 {
@@ -45,7 +45,7 @@ pub fn mark_row(words: &[u32], marks: &mut [u16], top: usize, i: usize)
 }
 
 // Marks the successors of row i where it is marked itself.
-pub fn spread_row(words: &[u32], marks: &mut [u16], top: usize, i: usize)
+fn spread_row(words: &[u32], marks: &mut [u16], top: usize, i: usize)
     requires { ⌜ SweepAsks (now words) (now marks) top × (i ≤ top) ⌝ }
     ensures { λ _. ⌜ RowSpread (now (words .entry)) i (now (marks .entry)) (now (marks .exit)) ⌝ }
 {
@@ -108,7 +108,7 @@ fn renumbered(marks: &[u16], x: u32) -> u32
 }
 
 // The cells from a on move down to b, their successors by their new numbers.
-pub fn move_cells(words: &mut [u32], marks: &[u16], a: usize, b: usize, len: usize)
+fn move_cells(words: &mut [u32], marks: &[u16], a: usize, b: usize, len: usize)
     requires { ⌜ (b ≤ a) × (a + len ≤ length (now words)) × ((j : ℕ) → j < len → keyOf (getD (now words) (a + j) 0) < 64 → valOf (getD (now words) (a + j) 0) < length (now marks)) ⌝ }
     ensures { λ _. ⌜ Written (movedOf (now (marks .entry)) (now (words .entry)) a) b len (now (words .entry)) (now (words .exit)) ⌝ }
 {
@@ -121,7 +121,7 @@ pub fn move_cells(words: &mut [u32], marks: &[u16], a: usize, b: usize, len: usi
 }
 
 // Row i becomes row k.
-pub fn move_row(words: &mut [u32], marks: &[u16], i: usize, k: usize)
+fn move_row(words: &mut [u32], marks: &[u16], i: usize, k: usize)
     requires { ⌜ KeepAsks (now words) (now marks) i k ⌝ }
     ensures { λ _. ⌜ Moved (now (words .entry)) (now (marks .entry)) i k (now (words .exit)) ⌝ }
 {
@@ -133,7 +133,7 @@ pub fn move_row(words: &mut [u32], marks: &[u16], i: usize, k: usize)
 }
 
 // Row i moves down to k where it is marked, and its mark becomes k. Gives the next row to fill.
-pub fn keep_row(words: &mut [u32], marks: &mut [u16], i: usize, k: usize) -> usize
+fn keep_row(words: &mut [u32], marks: &mut [u16], i: usize, k: usize) -> usize
     requires { ⌜ KeepAsks (now words) (now marks) i k ⌝ }
     ensures { λ r. ⌜ RowKept (now (words .entry)) (now (marks .entry)) i k (now (words .exit)) (now (marks .exit)) r ⌝ }
 {

@@ -27,7 +27,7 @@ fn count_at(counts: &[u16], x: usize) -> usize
 }
 
 // The number of names from state q, 1,001 where it is more.
-pub fn count_row(words: &[u32], n: usize, q: usize, counts: &[u16]) -> usize
+fn count_row(words: &[u32], n: usize, q: usize, counts: &[u16]) -> usize
     requires { ⌜ CountAsks (now words) n q (now counts) ⌝ }
     ensures { λ r. ⌜ r ≡ min 1001 (total (rowsOf (now (words .entry))) q) ⌝ }
 {
@@ -83,7 +83,7 @@ fn depth_at(depths: &[u16], x: usize) -> usize
 }
 
 // The length of the longest name from state q, 65 where it is more.
-pub fn depth_row(words: &[u32], n: usize, q: usize, depths: &[u16]) -> usize
+fn depth_row(words: &[u32], n: usize, q: usize, depths: &[u16]) -> usize
     requires { ⌜ DeepAsks (now words) n q (now depths) ⌝ }
     ensures { λ r. ⌜ Depth (rowsOf (now (words .entry))) q r ⌝ }
 {

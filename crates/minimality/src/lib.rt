@@ -24,7 +24,7 @@ fn rising(words: &[u32], n: usize) -> bool
 }
 
 // The cells lie in the words, one state's after another's, and the blank state has none.
-pub fn offsets(words: &[u32], n: usize) -> bool
+fn offsets(words: &[u32], n: usize) -> bool
     requires { ⌜ (n < 4180) × (4200 ≤ length (now words)) ⌝ }
     ensures { λ r. ⌜ Decides (Offsets (now (words .entry)) n) r ⌝ }
 {
@@ -65,7 +65,7 @@ fn cell_good(q: usize, lo: usize, x: u32) -> bool
 }
 
 // The cells a to e may be those of row q.
-pub fn row_good(words: &[u32], q: usize, a: usize, e: usize) -> bool
+fn row_good(words: &[u32], q: usize, a: usize, e: usize) -> bool
     requires { ⌜ (a ≤ e) × (e ≤ length (now words)) ⌝ }
     ensures { λ r. ⌜ Decides (Good q 1 (part (now (words .entry)) a (e - a))) r ⌝ }
 {
@@ -82,7 +82,7 @@ pub fn row_good(words: &[u32], q: usize, a: usize, e: usize) -> bool
     true
 }
 
-pub fn rows_good(words: &[u32], n: usize) -> bool
+fn rows_good(words: &[u32], n: usize) -> bool
     requires { ⌜ (n < 4180) × (4200 ≤ length (now words)) × Offsets (now words) n ⌝ }
     ensures { λ r. ⌜ Decides (RowsGood (now (words .entry)) n) r ⌝ }
 {
@@ -113,7 +113,7 @@ fn key(words: &[u32], a: usize, e: usize) -> usize
 }
 
 // The key of row q.
-pub fn row_key(words: &[u32], n: usize, q: usize) -> usize
+fn row_key(words: &[u32], n: usize, q: usize) -> usize
     requires { ⌜ AsksState (now words) n q ⌝ }
     ensures { λ r. ⌜ r ≡ keyOf (cellsOf (now (words .entry)) q) ⌝ }
 {
@@ -124,7 +124,7 @@ pub fn row_key(words: &[u32], n: usize, q: usize) -> usize
 }
 
 // No row of the chain that starts at `from` holds what row t does.
-pub fn walk(words: &[u32], links: &[u16], t: usize, from: usize) -> bool
+fn walk(words: &[u32], links: &[u16], t: usize, from: usize) -> bool
     requires { ⌜ WalkAsks (now words) (now links) t from ⌝ }
     ensures { λ r. ⌜ Decides (Fresh (now (words .entry)) t) r ⌝ }
 {
@@ -139,7 +139,7 @@ pub fn walk(words: &[u32], links: &[u16], t: usize, from: usize) -> bool
 }
 
 // No two rows to n are alike.
-pub fn apart(words: &[u32], heads: &mut [u16], links: &mut [u16], n: usize) -> bool
+fn apart(words: &[u32], heads: &mut [u16], links: &mut [u16], n: usize) -> bool
     requires { ⌜ ApartAsks (now words) (now heads) (now links) n ⌝ }
     ensures { λ r. ⌜ Decides (Apart (rowsOf (now (words .entry))) n) r ⌝ }
 {
@@ -159,7 +159,7 @@ pub fn apart(words: &[u32], heads: &mut [u16], links: &mut [u16], n: usize) -> b
 }
 
 // Every mark to n is set.
-pub fn all_marked(marks: &[u16], n: usize) -> bool
+fn all_marked(marks: &[u16], n: usize) -> bool
     requires { ⌜ n + 1 ≤ length (now marks) ⌝ }
     ensures { λ r. ⌜ Decides ((x : ℕ) → x ≤ n → 0 < getD (now (marks .entry)) x 0) r ⌝ }
 {
@@ -174,7 +174,7 @@ pub fn all_marked(marks: &[u16], n: usize) -> bool
 }
 
 // Every state but the start n is a successor of one.
-pub fn rows_needed(words: &[u32], marks: &mut [u16], n: usize) -> bool
+fn rows_needed(words: &[u32], marks: &mut [u16], n: usize) -> bool
     requires { ⌜ SweepAsks (now words) (now marks) n ⌝ }
     ensures { λ r. ⌜ Decides (Needed (rowsOf (now (words .entry))) n) r ⌝ }
 {

@@ -130,7 +130,7 @@ pub fn same_rows(words: &[u32], i: usize, t: usize) -> bool
 }
 
 // The first row that holds what row t does.
-pub fn find(words: &[u32], t: usize) -> usize
+fn find(words: &[u32], t: usize) -> usize
     requires { ⌜ Laid (now words) t ⌝ }
     ensures { λ r. ⌜ First (rowsOf (now (words .entry))) t r ⌝ }
 {
@@ -145,7 +145,7 @@ pub fn find(words: &[u32], t: usize) -> usize
 }
 
 // The row after n is found again or added.
-pub fn find_or_add(words: &[u32], n: usize) -> Placed
+fn find_or_add(words: &[u32], n: usize) -> Placed
     requires { ⌜ Laid (now words) (n + 1) ⌝ }
     ensures { λ r. ⌜ FoundOrAdded (now (words .entry)) n r ⌝ }
 {
@@ -158,7 +158,7 @@ pub fn find_or_add(words: &[u32], n: usize) -> Placed
 }
 
 // Copies `len` words from a to b.
-pub fn copy(words: &mut [u32], a: usize, b: usize, len: usize)
+fn copy(words: &mut [u32], a: usize, b: usize, len: usize)
     requires { ⌜ (a + len ≤ b) × (b + len ≤ length (now words)) ⌝ }
     ensures { λ _. ⌜ Written (copyOf (now (words .entry)) a) b len (now (words .entry)) (now (words .exit)) ⌝ }
 {
@@ -224,7 +224,7 @@ fn closed(words: &mut [u32], n: usize, i: usize, e: usize, c: usize, o: usize)
 }
 
 // The row after n becomes row q with r as the successor under c.
-pub fn append_with_successor(words: &mut [u32], n: usize, q: usize, c: usize, r: usize)
+fn append_with_successor(words: &mut [u32], n: usize, q: usize, c: usize, r: usize)
     requires { ⌜ AppendAsks (now words) n q × (0 < c) × (c < 64) × (r < 5000) ⌝ }
     ensures { λ _. ⌜ Appended (now (words .entry)) n (withSuccessor c r (cellsOf (now (words .entry)) q)) (now (words .exit)) ⌝ }
 {
@@ -237,7 +237,7 @@ pub fn append_with_successor(words: &mut [u32], n: usize, q: usize, c: usize, r:
 }
 
 // The groups of phones as cells from o on.
-pub fn write_groups(words: &mut [u32], o: usize, groups: &[u32])
+fn write_groups(words: &mut [u32], o: usize, groups: &[u32])
     requires { ⌜ (length (now groups) ≤ 22) × (o + length (now groups) ≤ length (now words)) ⌝ }
     ensures { λ _. ⌜ Written (groupOf (now (groups .entry))) o (length (now (groups .entry))) (now (words .entry)) (now (words .exit)) ⌝ }
 {
@@ -249,7 +249,7 @@ pub fn write_groups(words: &mut [u32], o: usize, groups: &[u32])
 }
 
 // The row after n becomes row q with these groups of phones.
-pub fn append_with_phones(words: &mut [u32], n: usize, q: usize, groups: &[u32])
+fn append_with_phones(words: &mut [u32], n: usize, q: usize, groups: &[u32])
     requires { ⌜ AppendAsks (now words) n q × (length (now groups) ≤ 22) ⌝ }
     ensures { λ _. ⌜ Appended (now (words .entry)) n (withPhones (now (groups .entry)) (cellsOf (now (words .entry)) q)) (now (words .exit)) ⌝ }
 {
