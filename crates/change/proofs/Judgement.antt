@@ -25,7 +25,7 @@ use Rattle.exceptions.specs.Judging.{IsList, isList, judgedList}
 use Rattle.exceptions.proofs.Decided.{list-long, list-facts}
 use Rattle.exceptions.proofs.Judged.{front-size}
 use Rattle.exceptions.proofs.Names.{sound-letters}
-use Rattle.exceptions.proofs.States.{unpack-none, said-none}
+use Rattle.exceptions.proofs.States.{unpack-none, nothing-said}
 use Rattle.change.specs.Change.{goodEntry, Change, judgedEntry, judgedListed, judgedChange, afterChange, Changed}
 use Rattle.change.specs.Change.Change.{Add, Remove}
 use Rattle.change.specs.Steps.{ListAsks, judged, ChangeAsks, Limited}
@@ -95,7 +95,7 @@ module _ (ws : List ℕ) (name : Str) (a : ListAsks ws name) (r : Bool) (d : Dec
   unlisted-is =
       byBool r
       (λ e. e ∙ sym (none-is (unpack (look (rowsOf ws) (startOf ws) name)) (ap unpack (d .yes e) ∙ unpack-none)))
-      (λ e. e ∙ sym (none-not (unpack (look (rowsOf ws) (startOf ws) name)) (λ o. d .no e (said-none ws (a .list) (startOf ws) (omega arith) name (a .letters) o))))
+      (λ e. e ∙ sym (none-not (unpack (look (rowsOf ws) (startOf ws) name)) (λ o. d .no e (nothing-said ws (startOf ws) (a .list .sound) (a .list .phones) (startOf ws) (omega arith) name (a .letters) o))))
 
 -- the words of a lent list; k is their size, the literal of the code
 module _ (list : List ℕ) (name : Str) (k : ℕ) (e : k ≡ listSize) (l : isList list ≡ true) where

@@ -15,12 +15,11 @@ use Rattle.automaton.specs.Automaton.{Str, Letters, same}
 use Rattle.exceptions.specs.Layout.{wordsOf, phonesFor}
 use Rattle.exceptions.specs.Judging.{isList, Says}
 use Rattle.exceptions.proofs.Names.{sound-letters}
-use Rattle.exceptions.proofs.Decided.{list-facts}
-use Rattle.exceptions.proofs.States.{states-differ, states-reached, states-lead}
+use Rattle.exceptions.proofs.Worded.{list-worded}
 use Rattle.change.specs.Change.{Change, judgedListed, judgedChange, afterChange, Within, Answers, Changed}
 use Rattle.change.specs.Change.Change.{Add, Remove}
 use Rattle.change.proofs.Automata.{within-ext}
-use Rattle.change_history.specs.Replay.{afterReply, AllAnswered, saidAfter, nothing, Minimal, FromEmpty}
+use Rattle.change_history.specs.Replay.{afterReply, AllAnswered, saidAfter, nothing, FromEmpty}
 
 -- ---- lists that say the same of every name of letters
 
@@ -88,11 +87,6 @@ list-more : (c : Change) (before after : List ℕ) (r : Reply) → isList before
 list-more c before after accepted h d = d .list refl
 list-more c before after (declined n p) h d = ap isList (d .kept never) ∙ h
 
-pub minimal-list : (list : List ℕ) → isList list ≡ true → Minimal (wordsOf list)
-minimal-list list h =
-    let l = list-facts list h in
-    record { differ = states-differ (wordsOf list) l; reached = states-reached (wordsOf list) l; leads = states-lead (wordsOf list) l }
-
 -- ---- the claim
 
 -- before any change
@@ -104,7 +98,7 @@ none-yet list answers places h s = record {
   spots = refl;
   is = h;
   says = s;
-  minimal = minimal-list list h;
+  minimal = list-worded list h .minimal;
 }
 
 -- after one more, whose answer is stored
@@ -122,5 +116,5 @@ one-more cs answers₀ places₀ list answers places f c list′ r d i v p e h k
       spots = snoc-by replyPlace (f .replies) r places₀ places i p (f .spots) n k pe;
       is = t;
       says = λ w l. says-more m c list list′ r (f .says) d w l ∙ ap (λ (g : Str → Str). g w) (sym (said-more nothing cs (f .replies) c r (f .answered)));
-      minimal = minimal-list list′ t;
+      minimal = list-worded list′ t .minimal;
     }

@@ -1,16 +1,16 @@
 -- A list of changes from the empty list, one after the other (document 02, request 1): each answer with its place, and the list after them.
 -- Assumes nothing.
 use mathlib.Core.Path.{_≡_}
-use Prim.Native.Nat.{ℕ, _*_, _≤_, _<_, _/_, min}
+use Prim.Native.Nat.{ℕ, _*_, _/_, min}
 use mathlib.Core.Bool.{true}
 use mathlib.Core.List.{List, [], _∷_, map}
 use lib.ListN.{length, drop}
 use Rattle.rules.specs.Memory.{over, Below, wordBound}
 use Rattle.rules.specs.Refusals.{Reply, accepted, declined, replyCode, replyPlace}
-use Rattle.automaton.specs.Automaton.{Str, rowsOf, endState, Letters, look}
-use Rattle.packing.specs.Packing.{unpack}
-use Rattle.exceptions.specs.Layout.{listSize, wordsOf, startOf}
+use Rattle.automaton.specs.Automaton.{Str}
+use Rattle.exceptions.specs.Layout.{listSize, wordsOf}
 use Rattle.exceptions.specs.Judging.{isList, Says}
+use Rattle.exceptions.specs.Worded.{Minimal}
 use Rattle.exceptions.specs.Calls.{emptied}
 use Rattle.change.specs.Change.{Change, Answers, afterChange}
 use Rattle.change_history.specs.Code.{changeWords, codedChanges, wordsAll, textAll}
@@ -48,18 +48,6 @@ nothing w = []
 
 -- ---- the claim
 
--- what the words say of the letters from state q on
-abbrev pub saidFrom : List ℕ → ℕ → Str → Str
-saidFrom ws q w = unpack (look (rowsOf ws) q w)
-
--- the two rules on states
-pub record Minimal (ws : List ℕ) : Type 0 where
-  -- no two states have the same endings with the same phones
-  pub differ : (i j : ℕ) → i ≤ startOf ws → j ≤ startOf ws → ((w : Str) → Letters w → saidFrom ws i w ≡ saidFrom ws j w) → i ≡ j
-  -- every state is reached from the start, and leads to a name
-  pub reached : (q : ℕ) → 0 < q → q ≤ startOf ws → (w : Str) × Letters w × (endState (rowsOf ws) (startOf ws) w ≡ q)
-  pub leads : (q : ℕ) → 0 < q → q ≤ startOf ws → (w : Str) × Letters w × (saidFrom ws q w ≡ [] → ⊥)
-
 -- The claim over the changes cs from the empty list, refused ones included, in memory that held answers₀ and places₀.
 pub record FromEmpty (cs : List Change) (answers₀ places₀ list answers places : List ℕ) : Type 0 where
   -- each answer with its place; what lies past them keeps its contents
@@ -70,6 +58,7 @@ pub record FromEmpty (cs : List Change) (answers₀ places₀ list answers place
   -- the memory holds a list, which says just the names added and not removed since, with their last phones
   pub is : isList list ≡ true
   pub says : Says list (saidAfter nothing cs replies)
+  -- with no two states that have the same endings with the same phones, each reached and leading to a name
   pub minimal : Minimal (wordsOf list)
 
 -- the same of changes on an empty list; what lies past the list's words is kept

@@ -133,7 +133,7 @@ short-decides f n s =
     (λ a w m. let r = listed-only n (look f n) w m in a w (r .0) (r .2))
     (none-long-decides (names n (look f n)))
 
-nothing-decides : (p : Str) → Decides (p ≡ []) (none? p)
+pub nothing-decides : (p : Str) → Decides (p ≡ []) (none? p)
 nothing-decides [] = affirmed (_≡_ {A = Str} [] []) refl
 nothing-decides (x ∷ p) = refuted (x ∷ p ≡ []) (λ e. let z : _≡_ {A = ℕ} 0 1 = cc in omega arith)
 
@@ -146,10 +146,10 @@ module _ (ws : List ℕ) (l : IsList ws) where
   few-of : startOf ws < 4180
   few-of = let h = l .states in omega arith
 
-  offsets-of : Offsets ws (startOf ws)
+  pub offsets-of : Offsets ws (startOf ws)
   offsets-of = stable (Offsets ws (startOf ws)) _ (offsets-decides ws (startOf ws)) (λ x. offsets-fail ws (startOf ws) few-of x .no refl automaton-of)
 
-  rows-of : RowsGood ws (startOf ws)
+  pub rows-of : RowsGood ws (startOf ws)
   rows-of = stable (RowsGood ws (startOf ws)) _ (rows-decide ws (startOf ws)) (λ x. rows-fail ws (startOf ws) few-of x .no refl automaton-of)
 
 -- the clauses after those of the automaton

@@ -6,3 +6,4 @@ pub mod Names
 pub mod Looking
 pub mod Empty
 pub mod States
+pub mod Worded

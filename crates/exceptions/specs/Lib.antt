@@ -1,3 +1,4 @@
 pub mod Layout
 pub mod Judging
+pub mod Worded
 pub mod Calls

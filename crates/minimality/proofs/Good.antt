@@ -156,7 +156,7 @@ module _ (ws : List ℕ) (n : ℕ) (few : n < 4180) where
   pub laid-of : Offsets ws n → RowsGood ws n → Laid ws n
   laid-of o g = record { few = omega arith; start = o .start; ends = o .rising; inside = o .inside; sorted = λ q h. good-sorted q 1 (cellsOf ws q) (g q h) }
 
-  blank-of : Offsets ws n → (k : ℕ) → rowsOf ws 0 k ≡ 0
+  pub blank-of : Offsets ws n → (k : ℕ) → rowsOf ws 0 k ≡ 0
   unfolding rowsOf cellsOf
   blank-of o k =
       let a = o .start in

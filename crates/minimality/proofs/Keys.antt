@@ -8,7 +8,7 @@ use mathlib.Core.Bool.{true, false}
 use mathlib.Core.List.{List, [], _∷_}
 use lib.ListN.{length, getD, set}
 use lib.Seq.{getD-set-same, getD-set-other}
-use Rattle.automaton.specs.Automaton.{at, part, cellsOf, rowsOf, Laid, Alike}
+use Rattle.automaton.specs.Automaton.{part, cellsOf, rowsOf, Laid, Alike}
 use Rattle.automaton.proofs.Tests.{byLess, bySame, clash}
 use Rattle.states.specs.States.{Written, Placing}
 use Rattle.states.proofs.Rows.{begins-rise}
@@ -16,7 +16,8 @@ use Rattle.states.proofs.Cells.{same-cells}
 use Rattle.states.proofs.Parts.{part-cons, part-none}
 use Rattle.minimality.specs.Judging.{Decides, Apart}
 use Rattle.minimality.proofs.Scan.{AllTo, all-next, refuted}
-use Rattle.minimality.specs.Chains.{hash, keyOf, Fresh, LastWith, Linked, Headed, zeroOf}
+use Rattle.minimality.specs.Chains.{hash, keyOf, Fresh, LastWith, Linked, Headed}
+use Rattle.compaction.specs.Compaction.{zeroOf}
 
 -- the rest, from h, has the key of the whole
 pub record Hashing (ws : List ℕ) (a e h i : ℕ) : Type 0 where

@@ -4,7 +4,7 @@ use mathlib.Core.Path.{_≡_}
 use Prim.Native.Nat.{ℕ, _+_, _-_, _*_, _%_, _≤_, _<_}
 use mathlib.Core.List.{List, [], _∷_}
 use lib.ListN.{length, getD}
-use Rattle.automaton.specs.Automaton.{Rows, cellsOf, rowsOf, Laid, Alike}
+use Rattle.automaton.specs.Automaton.{cellsOf, rowsOf, Laid, Alike}
 
 abbrev pub hash : ℕ → List ℕ → ℕ
 hash h [] = h
@@ -42,6 +42,3 @@ pub record ApartAsks (ws heads links : List ℕ) (n : ℕ) : Type 0 where
   pub laid : Laid ws n
   pub keys : 4093 ≤ length heads
   pub room : n + 1 ≤ length links
-
-abbrev pub zeroOf : ℕ → ℕ
-zeroOf j = 0

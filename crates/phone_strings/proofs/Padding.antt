@@ -16,7 +16,7 @@ use Rattle.phone_strings.proofs.Grouped.{byte-in}
 digits-are : (v : ℕ) → v ≡ digit 0 v + 256 * digit 1 v + 65536 * digit 2 v
 digits-are v = omega arith
 
-pub digits-same : (v w : ℕ) → v < 16777216 → w < 16777216 → digit 0 v ≡ digit 0 w → digit 1 v ≡ digit 1 w → digit 2 v ≡ digit 2 w → v ≡ w
+digits-same : (v w : ℕ) → v < 16777216 → w < 16777216 → digit 0 v ≡ digit 0 w → digit 1 v ≡ digit 1 w → digit 2 v ≡ digit 2 w → v ≡ w
 digits-same v w a b x y z = digits-are v ∙ (ap₂ (λ (u t : ℕ). u + 65536 * t) (ap₂ (λ (u t : ℕ). u + 256 * t) x y) z ∙ sym (digits-are w))
 
 module _ (ws : List ℕ) (n : ℕ) (s : Sound (rowsOf ws) n) (p : AllPacked (rowsOf ws) n) where

@@ -11,9 +11,10 @@ use lib.Seq.{take-suc-set, take-set-le, take-take}
 use Rattle.automaton.specs.Automaton.{Str, Rows, keyOf, valOf, rowsOf, unlessZero, upTo, phonesAt, Sound}
 use Rattle.automaton.specs.Listing.{each, ownText, readout}
 use Rattle.automaton.proofs.Tests.{bySame}
-use Rattle.packing.specs.Packing.{byteOf, unpack, said}
+use Rattle.packing.specs.Packing.{unpack, said}
 use Rattle.states.specs.States.{Placing, Split}
 use Rattle.measures.proofs.Cursors.{Cursor, Here, cursor-at, cursor-begin, cursor-end}
+use Rattle.exceptions.proofs.States.{unpack-none}
 use Rattle.readout.specs.Texts.{Wrote, TextAsks, TextGives, under}
 use Rattle.readout.proofs.Appending.{wrote-none, wrote-is, wrote-append}
 
@@ -55,10 +56,6 @@ each-part g c (suc k) (suc n) h =
     omega arith
 
 -- ---- nothing is written of the blank state
-
-pub unpack-none : unpack [] ≡ []
-unfolding unpack byteOf
-unpack-none = refl
 
 blank-phones : (f : Rows) (n : ℕ) → Sound f n → unpack (phonesAt f 0) ≡ []
 unfolding phonesAt

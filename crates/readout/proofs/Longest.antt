@@ -16,7 +16,7 @@ use Rattle.exceptions.specs.Judging.{IsList, isList}
 use Rattle.exceptions.proofs.Decided.{list-facts}
 use Rattle.readout.specs.Texts.{mostText}
 use Rattle.readout.specs.ReadOut.{listText}
-use Rattle.readout.proofs.Descent.{unpack-none}
+use Rattle.exceptions.proofs.States.{unpack-none}
 use Rattle.readout.proofs.Entries.{entry-length}
 
 each-long : (g : ℕ → List ℕ) (k : ℕ → List Str) (c n : ℕ) → ((d : ℕ) → c ≤ d → d < c + n → length (g d) ≤ 130 * length (k d)) → length (each g c n) ≤ 130 * length (each k c n)
