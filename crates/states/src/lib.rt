@@ -134,7 +134,7 @@ fn find(words: &[u32], t: usize) -> usize
     requires { ⌜ Laid (now words) t ⌝ }
     ensures { λ r. ⌜ First (rowsOf (now (words .entry))) t r ⌝ }
 {
-    let mut i: usize = 0;
+    let mut i: usize = 0; // a row like the blank one leads to no name
     while i < t {
         if same_rows(words, i, t) {
             return i;
