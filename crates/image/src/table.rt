@@ -9,13 +9,14 @@ ghost use mathlib.Core.Bool.{true, _&&_};
 ghost use mathlib.Core.List.{_∷_, []};
 ghost use Prim.Native.Nat.{_+_, _*_, _/_, _%_, _≤_, _<_};
 ghost use lib.ListN.{length, getD, drop};
-ghost use Rattle.rules.specs.Limits.{maxRules};
+ghost use Rattle.rules.specs.Limits.{maxContext, maxRules};
+ghost use Rattle.rule_bytes.specs.RuleBytes.{ruleSize};
 ghost use Rattle.rules.specs.Memory.{overAt};
 ghost use Rattle.classes.specs.Counting.{capped};
 ghost use Rattle.classes.specs.Expansion.{literalCount};
 ghost use Rattle.classes.specs.Ordinal.{origin, originRun};
 ghost use Rattle.image.specs.State.{expandable};
-ghost use Rattle.image.specs.Image.{imageSize, originSize, totalStart, tableStart, countOf, totalOf, classesOf, entriesOf, entryAt, originsOf, originsAt, originBytes, Slots, tabled, sound, valid, settled};
+ghost use Rattle.image.specs.Image.{imageSize, originSize, totalStart, tableStart, countOf, totalOf, classesOf, entriesOf, entryAt, originsOf, originsAt, originBytes, Slots, noClass, withoutClasses, tabled, sound, valid, settled};
 
 // ---- reading
 
@@ -43,12 +44,46 @@ pub fn ordinal_at(image: &[u8], p: usize) -> usize
     numbers::wide16(numbers::two_at(image, TABLE + ORIGIN * p + 2))
 }
 
+// Whether none of the four bytes of a context is a class, those past its length among them: so no length is read.
+fn no_class_at(s: &[u8], at: usize) -> bool
+    requires { ⌜ at + maxContext ≤ length (now s) ⌝ }
+    ensures { λ r. ⌜ r ≡ noClass maxContext at (now (s .entry)) ⌝ }
+{
+    if rules::FIRST_CLASS <= s[at] {
+        return false;
+    }
+    if rules::FIRST_CLASS <= s[at + 1] {
+        return false;
+    }
+    if rules::FIRST_CLASS <= s[at + 2] {
+        return false;
+    }
+    if rules::FIRST_CLASS <= s[at + 3] {
+        return false;
+    }
+    true
+}
+
+// Whether this holds of both contexts of the rule whose bytes start at `at`.
+fn without_classes(s: &[u8], at: usize) -> bool
+    requires { ⌜ at + ruleSize ≤ length (now s) ⌝ }
+    ensures { λ r. ⌜ r ≡ withoutClasses at (now (s .entry)) ⌝ }
+{
+    if !no_class_at(s, at + rule_bytes::LEFT) {
+        return false;
+    }
+    no_class_at(s, at + rule_bytes::RIGHT)
+}
+
 // How many literal rules the rule at a place has, counted to 513: 0 where a class that it uses is undefined.
 fn literal_count_at(image: &[u8], place: usize) -> usize
     requires { ⌜ Slots (now image) × (place < countOf (now image)) ⌝ }
     ensures { λ r. ⌜ (r ≡ capped (literalCount (classesOf (now (image .entry))) (entryAt (now (image .entry)) place .rule))) × (r ≤ 513) ⌝ }
 {
     let at = RULES + SLOT * place;
+    if without_classes(image, at) {
+        return 1; // as most rules are: the classes need not be read
+    }
     let left = crate::run_at(image, at + rule_bytes::LEFT_LEN, at + rule_bytes::LEFT);
     let right = crate::run_at(image, at + rule_bytes::RIGHT_LEN, at + rule_bytes::RIGHT);
     classes::runs::literal_count(crate::class_bytes::masks(image), left, right)
