@@ -95,9 +95,9 @@ judged-start file from count last k seen e h = record {
   within = h;
 }
 
-holds-next : (seen : List ℕ) (l : List Entry) (x : Entry) (full : length seen ≡ 1024) (h : x .number < 65536) → Holds seen l → Holds (put-in seen (x .number) full h) (l ++ (x ∷ []))
-holds-next seen l x full h f k u =
-    held-put seen (x .number) full h k (eqb (x .number) k) refl
+holds-next : (seen : List ℕ) (l : List Entry) (x : Entry) (h : x .number / 64 < length seen) → Holds seen l → Holds (put-in seen (x .number) h) (l ++ (x ∷ []))
+holds-next seen l x h f k u =
+    held-put seen (x .number) h k (eqb (x .number) k) refl
     ∙ (ap (λ (b : Bool). eqb (x .number) k || b) (f k u)
     ∙ (or-comm (eqb (x .number) k) (member k l)
     ∙ (ap (λ (b : Bool). member k l || b) (sym (or-false (eqb (x .number) k))) ∙ sym (member-append k l (x ∷ [])))))
@@ -185,7 +185,8 @@ module _ (file : List ℕ) (from count last : ℕ) (k : Classes) (seen : List �
                 let l = total-yes (literalTotal k (p .done)) k (entryIn frame .rule) (λ y. nz (total-is n en ∙ y)) in
                 let fits : ruleFits last k (p .done) frame ≡ true = and-i (a .0) (and-i (a .1) (new-i (sym seen-is ∙ t) (l .0))) in
                 let v : entryIn frame .number < 65536 = rw (← number-is) u in
-                let z′ : z ≡ put-in seen (entryIn frame .number) (p .width) v =
+                let in-words : entryIn frame .number / 64 < length seen = omega (arith, p .width) in
+                let z′ : z ≡ put-in seen (entryIn frame .number) in-words =
                 w ∙ ap (λ (n : ℕ). set seen (n / 64) (bitOr (getD seen (n / 64) 0) (2 ^ (n % 64)))) number-is in
                 record {
                   done = p .done ++ (entryIn frame ∷ []);
@@ -197,7 +198,7 @@ module _ (file : List ℕ) (from count last : ℕ) (k : Classes) (seen : List �
                   sum = total-is n en ∙ (l .1 ∙ sym (total-more k (p .done) (entryIn frame)));
                   few = nf;
                   width = ap length w ∙ (simp length-set (p .width));
-                  holds = λ j b. ap (λ (q : List ℕ). held q j) z′ ∙ holds-next seen (p .done) (entryIn frame) (p .width) v (p .holds) j b;
+                  holds = λ j b. ap (λ (q : List ℕ). held q j) z′ ∙ holds-next seen (p .done) (entryIn frame) in-words (p .holds) j b;
                   within = line-within file at last line e s;
                 }
 

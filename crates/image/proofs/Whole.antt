@@ -130,9 +130,6 @@ module _ (d : List ℕ) (long : imageSize ≤ length d) (l : List Numbered) (n :
   pub relisted-valid : valid (settled (laid next d)) ≡ true
   relisted-valid = settled-valid (laid next d) laid-sound
 
-  pub relisted-long : length (settled (laid next d)) ≡ length d
-  relisted-long = settled-long (laid next d) laid-sound ∙ laid-long d long next (fine-held next fine) (fine .filled)
-
 -- ---- a class set that no rule uses
 
 module _ (d : List ℕ) (ok : valid d ≡ true) (c : ℕ) (symbol : isClass c ≡ true) (l : List ℕ) (set : letterSet l ≡ true) where
@@ -237,7 +234,3 @@ module _ (d : List ℕ) (long : imageSize ≤ length d) (g : Ledger) (fine : Fin
   pub whole-valid : valid (whole g d) ≡ true
   unfolding whole
   whole-valid = settled-valid classed classed-sound
-
-  pub whole-long : length (whole g d) ≡ length d
-  unfolding whole
-  whole-long = settled-long classed classed-sound ∙ classed-long

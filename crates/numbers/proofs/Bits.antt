@@ -77,14 +77,14 @@ or-no : (b c : Bool) → c ≡ false → (b || c) ≡ b
 or-no b c e = rw e (or-false b)
 
 -- the words with number n put in
-module _ (words : List ℕ) (n : ℕ) (full : length words ≡ 1024) (h : n < 65536) where
+module _ (words : List ℕ) (n : ℕ) (h : n / 64 < length words) where
   abbrev pub put-in : List ℕ
   put-in = set words (n / 64) (bitOr (getD words (n / 64) 0) (2 ^ (n % 64)))
 
   same-word : (k : ℕ) → k / 64 ≡ n / 64 → held put-in k ≡ (held words k || eqb (k % 64) (n % 64))
   same-word k e =
       ap (λ (q : ℕ). bit (getD put-in q 0) (k % 64)) e
-      ∙ (ap (λ (q : ℕ). bit q (k % 64)) (getD-set-same words (n / 64) (bitOr (getD words (n / 64) 0) (2 ^ (n % 64))) 0 (omega arith))
+      ∙ (ap (λ (q : ℕ). bit q (k % 64)) (getD-set-same words (n / 64) (bitOr (getD words (n / 64) 0) (2 ^ (n % 64))) 0 h)
       ∙ (bit-set (getD words (n / 64) 0) (n % 64) (k % 64)
       ∙ ap (λ (q : ℕ). bit (getD words q 0) (k % 64) || eqb (k % 64) (n % 64)) (sym e)))
 

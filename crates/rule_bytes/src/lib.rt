@@ -1,5 +1,5 @@
-// A rule as bytes, four lengths and then its fields with all their places, and as a struct: the one made of the other. No other crate makes the
-// arrays of a rule.
+// A rule as bytes, four lengths and then its fields with all their places, and as a struct: the one made of the other. No other crate below the
+// programs makes the arrays of a rule.
 use rules::Rule;
 ghost use mathlib.Core.Path.{_≡_};
 ghost use mathlib.Core.List.{_++_};

@@ -1,10 +1,6 @@
 -- `image::table::literal_count_at` meets its contract.
 -- Assumes nothing.
-use Prim.Native.Nat.{ℕ}
-use mathlib.Core.Path.{_≡_, sym, ap, _∙_}
-use mathlib.Core.List.{List}
-use Rattle.classes.specs.Counting.{capped}
-use Rattle.image.specs.Image.{Slots, classesOf}
+use mathlib.Core.Path.{sym, _∙_}
 use Rattle.image.proofs.Entries.{held-slot-inside, held-left-field, held-right-field}
 use Rattle.image.proofs.Lent.{masks-long, count-by}
 use Rattle.image.proofs.ClassFree.{class-free-count}
