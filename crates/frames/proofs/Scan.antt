@@ -6,7 +6,7 @@ use mathlib.Core.List.{List, [], _∷_, _++_, append-assoc, append-nil}
 use mathlib.Core.Bool.{Bool, true, false, cond}
 use native.Mathlib.Omega.{arith}
 use native.Mathlib.Numerals.{add-one}
-use borrow.Author.Tests.{eq-eqb, ne-eqb, leb-true, leb-false}
+use borrow.Author.Tests.{eq-eqb, ne-eqb, eqb-true, eqb-false, leb-true, leb-false}
 use lib.ListN.{length, take, drop, getD, set, length-append, length-drop, length-take, drop-of-length-le}
 use lib.Seq.{getD-drop, drop-drop, drop-cons, take-all, take-append-le, set-out, length-take-le}
 use lib.Dec.{leb, eqb}
@@ -14,7 +14,7 @@ use Rattle.rules.specs.Memory.{over}
 use Rattle.rules.proofs.Memory.{over-length, over-snoc}
 use Rattle.rules.proofs.Cases.{byBool}
 use Rattle.frames.specs.declared.Pair.{Pair}
-use Rattle.frames.specs.Lines.{total, Parsed, after, guard, readLine, checked, soundLine, pairOf, decoded, report, pastLine, lineAfter}
+use Rattle.frames.specs.Lines.{total, complement, Parsed, after, guard, readLine, checked, soundLine, pairOf, decoded, report, pastLine, lineAfter}
 use Rattle.frames.specs.Lines.Parsed.{Bad, Good}
 use Rattle.frames.proofs.Lines.{total-append}
 use Rattle.frames.proofs.Pairs.{read-pair, decoded-pair, read-unpaired, decoded-unpaired, read-end, decoded-end, pair-room}
@@ -52,22 +52,26 @@ stored-next xs f b =
     ∙ (over-snoc f xs (length f) b refl h
     ∙ ap (λ (l : List ℕ). over l xs) (sym (take-all (length xs) (f ++ (b ∷ [])) (omega (arith, length-append f (b ∷ [])))))))
 
-pub record Scan (s : List ℕ) (at : ℕ) (xs frame : List ℕ) (sum len i : ℕ) : Type 0 where
+pub record Scan (s : List ℕ) (at : ℕ) (xs frame : List ℕ) (sum last len i : ℕ) : Type 0 where
   pub done : List ℕ
   pub ahead : readLine (drop at s) ≡ afterAll done (readLine (drop i s))
   pub bytes : decoded (drop at s) ≡ done ++ decoded (drop i s)
   pub stored : frame ≡ over (take (length xs) done) xs
-  pub summed : total done % 256 ≡ sum
+  pub summed : total done % 256 ≡ (sum + last) % 256
+  pub sum-byte : sum < 256
+  pub last-byte : last < 256
   pub counted : length done ≡ len
   pub within : length done ≤ i
 
-pub scan-start : (s : List ℕ) (at : ℕ) (xs : List ℕ) → Scan s at xs xs 0 0 at
+pub scan-start : (s : List ℕ) (at : ℕ) (xs : List ℕ) → Scan s at xs xs 0 0 0 at
 scan-start s at xs = record {
   done = [];
   ahead = refl;
   bytes = refl;
   stored = start (length xs);
   summed = refl;
+  sum-byte = omega arith;
+  last-byte = omega arith;
   counted = refl;
   within = omega arith;
 }
@@ -81,7 +85,14 @@ guarded len true true l = refl
 guarded len true false l = refl
 guarded len false b l = refl
 
-module _ (s : List ℕ) (at : ℕ) (xs frame : List ℕ) (sum len i : ℕ) (c : Scan s at xs frame sum len i) where
+-- the last byte is the one that the sum of those before it asks for, where all add to zero
+ends-sum : (sum last : ℕ) → sum < 256 → last < 256 → eqb last (complement sum) ≡ eqb ((sum + last) % 256) 0
+ends-sum sum last h g =
+    byBool (eqb last (complement sum))
+    (λ e. let u = eqb-true last (complement sum) e in e ∙ sym (eq-eqb ((sum + last) % 256) 0 (omega arith)))
+    (λ e. let u = eqb-false last (complement sum) e in e ∙ sym (ne-eqb ((sum + last) % 256) 0 (λ z. u (omega arith))))
+
+module _ (s : List ℕ) (at : ℕ) (xs frame : List ℕ) (sum last len i : ℕ) (c : Scan s at xs frame sum last len i) where
   pub scan-len : len ≤ i
   scan-len = rw (← c .counted) (c .within)
 
@@ -117,7 +128,7 @@ module _ (s : List ℕ) (at : ℕ) (xs frame : List ℕ) (sum len i : ℕ) (c : 
     end-bytes e = shut (decoded-end (drop i s) (at-front ∙ e))
 
     pub end-line : getD s i 0 ≡ 10
-        → cond (leb 2 len) (cond (eqb sum 0) (record { sound = true; next = i + 1; len = len }) (report 0 Bad)) (report 0 Bad) ≡ report (length s) (soundLine (drop at s))
+        → cond (leb 2 len) (cond (eqb last (complement sum)) (record { sound = true; next = i + 1; len = len }) (report 0 Bad)) (report 0 Bad) ≡ report (length s) (soundLine (drop at s))
     unfolding soundLine
     end-line e =
         let f = c .done in
@@ -125,7 +136,7 @@ module _ (s : List ℕ) (at : ℕ) (xs frame : List ℕ) (sum len i : ℕ) (c : 
         let r : readLine (drop i s) ≡ Good [] rest = read-end (drop i s) (omega (arith, length-drop i s)) (at-front ∙ e) ∙ ap (Good []) (drop-drop 1 i s) in
         let a : readLine (drop at s) ≡ Good f rest = c .ahead ∙ (ap (afterAll f) r ∙ after-end f rest) in
         let n : i + 1 ≡ length s - length rest = omega (arith, length-drop (i + 1) s) in
-        rw (n, ← c .counted, ← c .summed)
+        rw (n, ← c .counted, ends-sum sum last (c .sum-byte) (c .last-byte), ← c .summed)
         (guarded (length s) (leb 2 (length f)) (eqb (total f % 256) 0) (Good f rest) ∙ ap (λ (m : Parsed). report (length s) (checked m)) (sym a))
 
     module _ (ne : getD s i 0 ≡ 10 → ⊥) (p : Pair) (e : p ≡ pairOf (drop i s)) where
@@ -146,8 +157,8 @@ module _ (s : List ℕ) (at : ℕ) (xs frame : List ℕ) (sum len i : ℕ) (c : 
         pub scan-room : i + 2 ≤ length s
         scan-room = omega (arith, pair-room (drop i s) ok, length-drop i s)
 
-        pub scan-next : (r : ℕ) → r ≡ (sum + p .byte) % 256 → (z : List ℕ) → z ≡ set frame len (p .byte) → Scan s at xs z r (len + 1) (i + 2)
-        scan-next r q z w =
+        pub scan-next : (r : ℕ) → r ≡ (sum + last) % 256 → p .byte < 256 → (z : List ℕ) → z ≡ set frame len (p .byte) → Scan s at xs z r (p .byte) (len + 1) (i + 2)
+        scan-next r q v z w =
             let b = p .byte in
             let f = c .done in
             let l : readLine (drop i s) ≡ after b (readLine (drop (i + 2) s)) =
@@ -158,8 +169,10 @@ module _ (s : List ℕ) (at : ℕ) (xs frame : List ℕ) (sum len i : ℕ) (c : 
               done = f ++ (b ∷ []);
               ahead = c .ahead ∙ (ap (afterAll f) l ∙ sym (after-snoc f b (readLine (drop (i + 2) s))));
               bytes = c .bytes ∙ (ap (λ (m : List ℕ). f ++ m) d ∙ sym (append-assoc f (b ∷ []) (decoded (drop (i + 2) s))));
-              stored = w ∙ (ap₂ (λ (v : List ℕ) (n : ℕ). set v n b) (c .stored) (sym (c .counted)) ∙ stored-next xs f b);
-              summed = omega (arith, total-append f (b ∷ []), c .summed);
+              stored = w ∙ (ap₂ (λ (y : List ℕ) (n : ℕ). set y n b) (c .stored) (sym (c .counted)) ∙ stored-next xs f b);
+              summed = let t : r ≡ total f % 256 = q ∙ sym (c .summed) in omega (arith, total-append f (b ∷ []), t);
+              sum-byte = omega (arith, q);
+              last-byte = v;
               counted = omega (arith, length-append f (b ∷ []), c .counted);
               within = omega (arith, length-append f (b ∷ []), c .within);
             }

@@ -7,7 +7,7 @@ ghost use Prim.Native.Nat.{_+_, _-_, _*_, _/_, _%_, _<_, _≤_};
 ghost use lib.Dec.{leb, ltb, eqb};
 ghost use lib.ListN.{length, getD, take, drop, set};
 ghost use Rattle.rules.specs.Memory.{over};
-ghost use Rattle.frames.specs.Lines.{digit, value, Parsed, soundLine, pairOf, decoded, report, lineAfter};
+ghost use Rattle.frames.specs.Lines.{digit, value, complement, Parsed, soundLine, pairOf, decoded, report, lineAfter};
 
 // A line that was read: whether it is sound, where the next one starts and how many bytes its frame has, the checksum among them.
 pub struct Line {
@@ -99,14 +99,14 @@ fn no_line() -> Line
     }
 }
 
-// A line that ended: a frame of 2 bytes or more that add to zero.
-fn ended(sum: u8, len: usize, next: usize) -> Line
-    ensures { λ r. ⌜ r ≡ cond (leb 2 len) (cond (eqb sum 0) (record { sound = Bool.true; next = next; len = len }) (report 0 Parsed.Bad)) (report 0 Parsed.Bad) ⌝ }
+// A line that ended: a frame of 2 bytes or more, the last of which is the checksum that the sum of those before it asks for.
+fn ended(sum: u8, last: u8, len: usize, next: usize) -> Line
+    ensures { λ r. ⌜ r ≡ cond (leb 2 len) (cond (eqb last (complement sum)) (record { sound = Bool.true; next = next; len = len }) (report 0 Parsed.Bad)) (report 0 Parsed.Bad) ⌝ }
 {
     if len < 2 {
         return no_line();
     }
-    if sum == 0 {
+    if last == std::num::wrapping_sub_u8(0, sum) {
         return Line {
             sound: true,
             next,
@@ -122,18 +122,20 @@ pub fn read_line(text: &[u8], at: usize, frame: &mut [u8]) -> Line
     ensures line { λ r. ⌜ r ≡ report (length (now (text .entry))) (soundLine (drop at (now (text .entry)))) ⌝ }
     ensures bytes { λ _. ⌜ now (frame .exit) ≡ over (take (length (now (frame .entry))) (decoded (drop at (now (text .entry))))) (now (frame .entry)) ⌝ }
 {
-    let mut sum: u8 = 0;
+    let mut sum: u8 = 0; // of the bytes before the last
+    let mut last: u8 = 0;
     let mut len: usize = 0;
     let mut i = at;
     while i < text.len() {
         if text[i] == 10 {
-            return ended(sum, len, i + 1);
+            return ended(sum, last, len, i + 1);
         }
         let p = pair_at(text, i);
         if !p.ok {
             return no_line();
         }
-        sum = std::num::wrapping_add_u8(sum, p.byte);
+        sum = std::num::wrapping_add_u8(sum, last);
+        last = p.byte;
         store(&mut *frame, len, p.byte);
         len += 1;
         i += 2;

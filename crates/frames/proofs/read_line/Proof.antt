@@ -12,10 +12,10 @@ use Rattle.frames.proofs.read_line.Statement.{statement}
 use Rattle.frames.proofs.read_line.Tie as tie
 
 abbrev Inv-loop : tie.InvT-loop
-Inv-loop text at frame₀ sum₀ len₀ i₀ frame sum len i = Scan text at frame₀ frame sum len i
+Inv-loop text at frame₀ sum₀ last₀ len₀ i₀ frame sum last len i = Scan text at frame₀ frame sum last len i
 
 abbrev μ-loop : tie.MeasureT-loop
-μ-loop text at frame₀ sum₀ len₀ i₀ frame sum len i = length text - i
+μ-loop text at frame₀ sum₀ last₀ len₀ i₀ frame sum last len i = length text - i
 
 loop-holds : tie.Need-loop-holds Inv-loop μ-loop
 loop-holds c = let a = c .before .before .args in scan-start (a .text .now) (a .at) (a .frame .now)
@@ -33,7 +33,7 @@ same-length : tie.Need-same-length Inv-loop μ-loop
 same-length c =
     let a = c .before .before .before .before .before .before .before .args in
     let l = c .before .before .before .before .loop in
-    scan-length (a .text .now) (a .at) (a .frame .now) (l .frame) (l .sum) (l .len) (l .i) (l .inv)
+    scan-length (a .text .now) (a .at) (a .frame .now) (l .frame) (l .sum) (l .last) (l .len) (l .i) (l .inv)
 
 returns : tie.Need-returns Inv-loop μ-loop
 returns c =
@@ -41,8 +41,8 @@ returns c =
     let l = c .before .before .before .before .loop in
     let t = c .before .before .before .loop-test .taken in
     let e = c .before .if1 .taken in (
-      c .ended .ensures ∙ end-line (a .text .now) (a .at) (a .frame .now) (l .frame) (l .sum) (l .len) (l .i) (l .inv) t e,
-      end-bytes (a .text .now) (a .at) (a .frame .now) (l .frame) (l .sum) (l .len) (l .i) (l .inv) t e,
+      c .ended .ensures ∙ end-line (a .text .now) (a .at) (a .frame .now) (l .frame) (l .sum) (l .last) (l .len) (l .i) (l .inv) t e,
+      end-bytes (a .text .now) (a .at) (a .frame .now) (l .frame) (l .sum) (l .last) (l .len) (l .i) (l .inv) t e,
     )
 
 pair-at-requires : tie.Need-pair-at-requires Inv-loop μ-loop
@@ -55,7 +55,7 @@ same-length-2 : tie.Need-same-length-2 Inv-loop μ-loop
 same-length-2 c =
     let a = c .before .before .before .before .before .before .before .before .before .before .args in
     let l = c .before .before .before .before .before .before .before .loop in
-    scan-length (a .text .now) (a .at) (a .frame .now) (l .frame) (l .sum) (l .len) (l .i) (l .inv)
+    scan-length (a .text .now) (a .at) (a .frame .now) (l .frame) (l .sum) (l .last) (l .len) (l .i) (l .inv)
 
 returns-2 : tie.Need-returns-2 Inv-loop μ-loop
 returns-2 c =
@@ -65,8 +65,8 @@ returns-2 c =
     let n = c .before .before .before .before .if1 .left in
     let p = c .before .before .before .pair-at in
     let e = not-true _ (c .before .if2 .taken) in (
-      c .no-line .ensures ∙ fault-line (a .text .now) (a .at) (a .frame .now) (l .frame) (l .sum) (l .len) (l .i) (l .inv) t n (p .result) (p .ensures) e,
-      fault-bytes (a .text .now) (a .at) (a .frame .now) (l .frame) (l .sum) (l .len) (l .i) (l .inv) t n (p .result) (p .ensures) e,
+      c .no-line .ensures ∙ fault-line (a .text .now) (a .at) (a .frame .now) (l .frame) (l .sum) (l .last) (l .len) (l .i) (l .inv) t n (p .result) (p .ensures) e,
+      fault-bytes (a .text .now) (a .at) (a .frame .now) (l .frame) (l .sum) (l .last) (l .len) (l .i) (l .inv) t n (p .result) (p .ensures) e,
     )
 
 wrapping-add-u8-requires : tie.Need-wrapping-add-u8-requires Inv-loop μ-loop
@@ -79,7 +79,7 @@ add-len : tie.Need-add-len Inv-loop μ-loop
 add-len c =
     let a = c .before .before .before .before .before .before .before .before .before .before .before .before .before .before .args in
     let l = c .before .before .before .before .before .before .before .before .before .before .before .loop in
-    omega (arith, scan-len (a .text .now) (a .at) (a .frame .now) (l .frame) (l .sum) (l .len) (l .i) (l .inv))
+    omega (arith, scan-len (a .text .now) (a .at) (a .frame .now) (l .frame) (l .sum) (l .last) (l .len) (l .i) (l .inv))
 
 add-i : tie.Need-add-i Inv-loop μ-loop
 add-i c =
@@ -88,7 +88,7 @@ add-i c =
     let p = c .before .before .before .before .before .before .before .pair-at in
     omega (
       arith,
-      scan-room (a .text .now) (a .at) (a .frame .now) (l .frame) (l .sum) (l .len) (l .i) (l .inv) (c .before .before .before .before .before .before .before .before .before .before .loop-test .taken) (c .before .before .before .before .before .before .before .before .if1 .left) (p .result) (p .ensures)
+      scan-room (a .text .now) (a .at) (a .frame .now) (l .frame) (l .sum) (l .last) (l .len) (l .i) (l .inv) (c .before .before .before .before .before .before .before .before .before .before .loop-test .taken) (c .before .before .before .before .before .before .before .before .if1 .left) (p .result) (p .ensures)
           (not-false _ (c .before .before .before .before .before .if2 .left)),
     )
 
@@ -100,8 +100,8 @@ loop-again c =
     let a = c .before .before .before .before .before .before .before .before .before .before .before .before .before .before .args in
     let l = c .before .before .before .before .before .before .before .before .before .before .before .loop in
     let p = c .before .before .before .before .before .before .before .pair-at in
-    scan-next (a .text .now) (a .at) (a .frame .now) (l .frame) (l .sum) (l .len) (l .i) (l .inv) (c .before .before .before .before .before .before .before .before .before .before .loop-test .taken) (c .before .before .before .before .before .before .before .before .if1 .left) (p .result) (p .ensures)
-    (not-false _ (c .before .before .before .before .before .if2 .left)) (c .before .before .before .before .wrapping-add-u8 .result) (c .before .before .before .before .wrapping-add-u8 .ensures) _ (c .before .before .store .ensures)
+    scan-next (a .text .now) (a .at) (a .frame .now) (l .frame) (l .sum) (l .last) (l .len) (l .i) (l .inv) (c .before .before .before .before .before .before .before .before .before .before .loop-test .taken) (c .before .before .before .before .before .before .before .before .if1 .left) (p .result) (p .ensures)
+    (not-false _ (c .before .before .before .before .before .if2 .left)) (c .before .before .before .before .wrapping-add-u8 .result) (c .before .before .before .before .wrapping-add-u8 .ensures) (omega arith) _ (c .before .before .store .ensures)
 
 no-line-requires-2 : tie.Need-no-line-requires-2 Inv-loop μ-loop
 no-line-requires-2 c κs = search needs
@@ -110,15 +110,15 @@ same-length-3 : tie.Need-same-length-3 Inv-loop μ-loop
 same-length-3 c =
     let a = c .before .before .before .before .before .args in
     let l = c .before .before .loop in
-    scan-length (a .text .now) (a .at) (a .frame .now) (l .frame) (l .sum) (l .len) (l .i) (l .inv)
+    scan-length (a .text .now) (a .at) (a .frame .now) (l .frame) (l .sum) (l .last) (l .len) (l .i) (l .inv)
 
 returns-3 : tie.Need-returns-3 Inv-loop μ-loop
 returns-3 c =
     let a = c .before .before .before .before .before .args in
     let l = c .before .before .loop in
     let t = c .before .loop-test .left in (
-      c .no-line2 .ensures ∙ out-line (a .text .now) (a .at) (a .frame .now) (l .frame) (l .sum) (l .len) (l .i) (l .inv) t,
-      out-bytes (a .text .now) (a .at) (a .frame .now) (l .frame) (l .sum) (l .len) (l .i) (l .inv) t,
+      c .no-line2 .ensures ∙ out-line (a .text .now) (a .at) (a .frame .now) (l .frame) (l .sum) (l .last) (l .len) (l .i) (l .inv) t,
+      out-bytes (a .text .now) (a .at) (a .frame .now) (l .frame) (l .sum) (l .last) (l .len) (l .i) (l .inv) t,
     )
 
 pub read-line-spec : {M : Type 1} → statement M
