@@ -3,3 +3,4 @@ pub mod Counted
 pub mod Written
 pub mod ListedNames
 pub mod Lookup
+pub mod Stored

@@ -7,7 +7,8 @@ ghost use mathlib.Core.Bool.{true, cond};
 ghost use Prim.Native.Nat.{_+_, _≤_, _<_};
 ghost use lib.Dec.{leb, ltb};
 ghost use lib.ListN.{length};
-ghost use Rattle.rules.specs.Limits.{maxListedPhones};
+ghost use lib.Seq.{paste};
+ghost use Rattle.rules.specs.Limits.{maxPhones, maxListedPhones};
 ghost use Rattle.rules.specs.Memory.{over};
 ghost use Rattle.rules.specs.Names.{SoundName};
 ghost use Rattle.exceptions.specs.Layout.{wordsOf, phonesFor};
@@ -123,6 +124,29 @@ struct Given {
     contested: usize,
 }
 
+// The phones of a rule, at most four, stored from `at` on one by one: a loop over so few takes longer than all of them.
+fn put_phones(phones: &mut [u8], at: usize, said: &[u8])
+    requires { ⌜ (length (now said) ≤ maxPhones) × (at + length (now said) ≤ length (now phones)) ⌝ }
+    ensures { λ _. ⌜ now (phones .exit) ≡ paste (now (phones .entry)) at (now (said .entry)) (length (now (said .entry))) ⌝ }
+{
+    if said.len() == 0 {
+        return;
+    }
+    phones[at] = said[0];
+    if said.len() == 1 {
+        return;
+    }
+    phones[at + 1] = said[1];
+    if said.len() == 2 {
+        return;
+    }
+    phones[at + 2] = said[2];
+    if said.len() == 3 {
+        return;
+    }
+    phones[at + 3] = said[3];
+}
+
 // The phones of a part, and its number where it is a rule, after those given before.
 fn write_part(
     image: &[u8],
@@ -140,7 +164,7 @@ fn write_part(
         let at = given.numbers;
         numbers[at] = image::number_at(image, place);
         let said = image::phones_at(image, place);
-        rule_bytes::put(&mut *phones, given.phones, said);
+        put_phones(&mut *phones, given.phones, said);
         return Given {
             phones: given.phones + said.len(),
             numbers: given.numbers + 1,

@@ -6,7 +6,7 @@ use mathlib.Core.List.{[], _∷_}
 use native.Mathlib.Omega.{arith}
 use lib.ListN.{length}
 use borrow.Author.Needs.{needs}
-use Rattle.image.proofs.Entries.{number-is-at}
+use Rattle.image.proofs.Entries.{number-is-at, entry-shaped}
 use Rattle.image.proofs.Tests.{valid-long}
 use Rattle.speech.specs.Places.{partAt}
 use Rattle.speech.proofs.Written.{rule-phones, rule-numbers, rule-contested, listed-phones, listed-numbers, listed-contested, given-rule, given-listed}
@@ -31,10 +31,16 @@ slice-write-numbers c =
 phones-at-requires : tie.Need-phones-at-requires
 phones-at-requires c κs = (c .before .before .before .before .before .before .before .pre .0, omega (arith, c .before .before .before .before .before .before .before .pre .1 .rule (omega (arith, c .before .if1 .taken, c .before .before .place-in .ensures)), c .before .before .place-in .ensures))
 
-put-requires : tie.Need-put-requires
-put-requires c κs =
+put-phones-requires : tie.Need-put-phones-requires
+put-phones-requires c κs =
     let st = c .before .before .before .before .before .before .before .before .before in
-    omega (arith, st .pre .2, ap length (c .before .phones-at .ensures), ap length (rule-phones (st .args .image .now) (st .args .list .now) (st .args .part) _ (c .before .before .before .before .place-in .ensures) (c .before .before .before .if1 .taken)))
+    let e = c .before .before .before .before .place-in .ensures in
+    let u = c .before .before .before .if1 .taken in
+    let p = c .before .phones-at .ensures in
+    let w = entry-shaped (st .args .image .now) (st .pre .0) (c .before .before .before .before .place-in .result) (omega (arith, st .pre .1 .rule (omega arith))) .phones-most in (
+      omega (arith, w, ap length p),
+      omega (arith, st .pre .2, ap length p, ap length (rule-phones (st .args .image .now) (st .args .list .now) (st .args .part) _ e u)),
+    )
 
 add-t18 : tie.Need-add-t18
 add-t18 c = search needs
@@ -69,7 +75,7 @@ returns c =
     let u = c .before .before .before .before .before .before .before .before .before .before .if1 .taken in
     let b = rule-numbers (st .args .image .now) (st .args .list .now) (st .args .part) _ e u in
     given-rule (partAt (st .args .image .now) (st .args .list .now) (st .args .part)) (st .args .given) _ (st .args .phones .now) (st .args .numbers .now) _ _ (c .before .before .before .before .before .before .before .before .phones-at .result .now)
-    (rule-phones (st .args .image .now) (st .args .list .now) (st .args .part) _ e u ∙ sym (c .before .before .before .before .before .before .before .before .phones-at .ensures)) refl (c .before .before .before .before .before .before .put .ensures)
+    (rule-phones (st .args .image .now) (st .args .list .now) (st .args .part) _ e u ∙ sym (c .before .before .before .before .before .before .before .before .phones-at .ensures)) refl (c .before .before .before .before .before .before .put-phones .ensures)
     (c .before .before .before .before .before .before .before .before .before .number-at .result) (c .before .contested-in .result)
     (b ∙ ap (λ (n : ℕ). n ∷ []) (number-is-at (st .args .image .now) (st .pre .0) _ (omega (arith, st .pre .1 .rule (omega arith))) ∙ sym (c .before .before .before .before .before .before .before .before .before .number-at .ensures)))
     (rule-contested (st .args .image .now) (st .args .list .now) (st .args .part) _ e u ∙ sym (c .before .contested-in .ensures))
@@ -109,7 +115,7 @@ write-part-spec =
     mul-numbers
     slice-write-numbers
     phones-at-requires
-    put-requires
+    put-phones-requires
     add-t18
     add-t19
     contested-in-requires
