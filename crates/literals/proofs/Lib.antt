@@ -1,3 +1,4 @@
 pub mod Matching
 pub mod Fitting
 pub mod Places
+pub mod Ends

@@ -1,10 +1,10 @@
 -- The literal rule at a place, by what the table has for it: it is literal rule j of the numbered rule at q, so that its contexts are choices of that
 -- rule's, and as applied it is that rule.
 -- Assumes nothing.
-use Prim.Native.Nat.{ℕ, _/_, _≤_, _<_}
+use Prim.Native.Nat.{ℕ, _+_, _/_, _≤_, _<_}
 use mathlib.Core.Path.{_≡_, sym, ap, ap₂, _∙_, subst}
 use mathlib.Core.List.{List, _++_}
-use mathlib.Core.Bool.{true, _&&_}
+use mathlib.Core.Bool.{Bool, true, cond, _&&_}
 use native.Mathlib.Omega.{arith}
 use lib.ListN.{length, getD, take, drop, length-drop}
 use lib.Seq.{length-take-le}
@@ -20,7 +20,7 @@ use Rattle.image.proofs.Tests.{valid-long}
 use Rattle.image.proofs.Literals.{LiteralAt, literal-is}
 use Rattle.fitting.specs.Fitting.{Str, starts, ends, fits}
 use Rattle.fitting.specs.Reading.{apply}
-use Rattle.literals.specs.Matching.{ruleWith}
+use Rattle.literals.specs.Matching.{ruleWith, endOf}
 use Rattle.literals.specs.Places.{literalEntry}
 
 module _ (d : List ℕ) (ok : valid d ≡ true) (p : ℕ) (h : p < totalOf d) where
@@ -92,3 +92,6 @@ module _ (d : List ℕ) (ok : valid d ≡ true) (p : ℕ) (h : p < totalOf d) wh
           pub literal-fits : (f : Str) (i : ℕ) → fits (literalAt (classesIn m) (ruleWith l t r) j) f i ≡ fits (literalEntry d p .rule) f i
           literal-fits f i =
               ap₂ _&&_ (ap (λ (x : Str). ends x (take i f)) literal-left) (ap₂ (λ (x y : Str). starts (x ++ y) (drop i f)) literal-target literal-right)
+
+          pub literal-end : (f : Str) (i : ℕ) → endOf (literalAt (classesIn m) (ruleWith l t r) j) f i ≡ endOf (literalEntry d p .rule) f i
+          literal-end f i = ap₂ (λ (b : Bool) (n : ℕ). cond b (i + n) 0) (literal-fits f i) (ap length literal-target)

@@ -1,15 +1,15 @@
-// Where the literal rule at a place fits: what the walk asks of the place that it finds (document 02, request 5).
+// Where the literal rule at a place fits, and where its target then ends: what the walk asks of the place that it finds (document 02, request 5).
 use classes::Rest;
 ghost use mathlib.Core.Path.{_≡_};
-ghost use mathlib.Core.Bool.{true};
+ghost use mathlib.Core.Bool.{true, cond};
 ghost use Prim.Native.Nat.{_+_, _<_, _≤_};
 ghost use lib.ListN.{length, take, drop};
 ghost use Rattle.classes.specs.Expansion.{size};
 ghost use Rattle.classes.specs.Masks.{masksSize, classesIn};
 ghost use Rattle.classes.specs.Ordinal.{choiceAt, literalAt};
 ghost use Rattle.image.specs.Image.{valid, totalOf};
-ghost use Rattle.fitting.specs.Fitting.{ends, fits};
-ghost use Rattle.literals.specs.Matching.{matched, started, ruleWith};
+ghost use Rattle.fitting.specs.Fitting.{ends, starts};
+ghost use Rattle.literals.specs.Matching.{matched, started, ruleWith, endOf};
 ghost use Rattle.literals.specs.Places.{literalEntry};
 
 // Whether the letters of the frame from `to` on are choice `j` of a run.
@@ -56,9 +56,27 @@ fn ends_choice(masks: &[u8], run: &[u8], j: usize, frame: &[u8], i: usize) -> bo
     }
 }
 
-// Whether literal rule `j` of a rule fits at `i`. The target is tested first: it decides soonest. What the right context leaves of `j` is
-// the left one's.
-fn literal_fits(
+// Where a target ends that the frame has from `i` on, 0 where the frame has other letters there. One letter is a case apart, so that a processor
+// goes on at the next letter before it has the length; with `== 1` for `< 2` the compiler joins the two cases again.
+fn target_end(target: &[u8], frame: &[u8], i: usize) -> usize
+    requires { ⌜ (1 ≤ length (now target)) × (i < length (now frame)) ⌝ }
+    ensures { λ r. ⌜ r ≡ cond (starts (now (target .entry)) (drop i (now (frame .entry)))) (i + length (now (target .entry))) 0 ⌝ }
+{
+    if target.len() < 2 {
+        if target[0] != frame[i] {
+            return 0;
+        }
+        return i + 1;
+    }
+    if !fitting::starts_at(target, frame, i) {
+        return 0;
+    }
+    i + target.len()
+}
+
+// Where the target of literal rule `j` of a rule ends if it fits at `i`, else 0. The target is tested first: it decides soonest. What the right
+// context leaves of `j` is the left one's.
+fn literal_end(
     masks: &[u8],
     left: &[u8],
     target: &[u8],
@@ -66,24 +84,28 @@ fn literal_fits(
     j: usize,
     frame: &[u8],
     i: usize,
-) -> bool
-    requires { ⌜ (masksSize ≤ length (now masks)) × ((1 ≤ size (classesIn (now masks)) (now left)) × ((1 ≤ size (classesIn (now masks)) (now right)) × (i ≤ length (now frame)))) ⌝ }
-    ensures { λ r. ⌜ r ≡ fits (literalAt (classesIn (now (masks .entry))) (ruleWith (now (left .entry)) (now (target .entry)) (now (right .entry))) j) (now (frame .entry)) i ⌝ }
+) -> usize
+    requires { ⌜ (masksSize ≤ length (now masks)) × ((1 ≤ size (classesIn (now masks)) (now left)) × ((1 ≤ size (classesIn (now masks)) (now right)) × ((1 ≤ length (now target)) × (i < length (now frame))))) ⌝ }
+    ensures { λ r. ⌜ r ≡ endOf (literalAt (classesIn (now (masks .entry))) (ruleWith (now (left .entry)) (now (target .entry)) (now (right .entry))) j) (now (frame .entry)) i ⌝ }
 {
-    if !fitting::starts_at(target, frame, i) {
-        return false;
+    let end = target_end(target, frame, i);
+    if end == 0 {
+        return 0;
     }
-    let rest = starts_choice(masks, right, j, frame, i + target.len());
+    let rest = starts_choice(masks, right, j, frame, end);
     let Rest::Next(q) = rest else {
-        return false;
+        return 0;
     };
-    ends_choice(masks, left, q, frame, i)
+    if !ends_choice(masks, left, q, frame, i) {
+        return 0;
+    }
+    end
 }
 
-// Whether the literal rule at place `p` fits at `i`.
-pub fn place_fits(image: &[u8], p: usize, frame: &[u8], i: usize) -> bool
-    requires { ⌜ (valid (now image) ≡ true) × ((p < totalOf (now image)) × (i ≤ length (now frame))) ⌝ }
-    ensures { λ r. ⌜ r ≡ fits (literalEntry (now (image .entry)) p .rule) (now (frame .entry)) i ⌝ }
+// Where the target of the literal rule at place `p` ends if it fits at `i`, else 0.
+pub fn place_end(image: &[u8], p: usize, frame: &[u8], i: usize) -> usize
+    requires { ⌜ (valid (now image) ≡ true) × ((p < totalOf (now image)) × (i < length (now frame))) ⌝ }
+    ensures { λ r. ⌜ r ≡ endOf (literalEntry (now (image .entry)) p .rule) (now (frame .entry)) i ⌝ }
 {
     let place = image::table::owner_at(image, p);
     let j = image::table::ordinal_at(image, p);
@@ -91,5 +113,5 @@ pub fn place_fits(image: &[u8], p: usize, frame: &[u8], i: usize) -> bool
     let left = image::left_at(image, place);
     let target = image::target_at(image, place);
     let right = image::right_at(image, place);
-    literal_fits(masks, left, target, right, j, frame, i)
+    literal_end(masks, left, target, right, j, frame, i)
 }

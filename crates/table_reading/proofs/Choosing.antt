@@ -130,8 +130,8 @@ module _ (image ss : List ℕ) (base : ℕ) (left right f : List ℕ) (ok : vali
       next p n e u x is = going-part made (length f - 2) ahead image ok parts count i g h p n e u x is
 
       -- no rule is chosen
-      pub declines : (x : Chosen) → choiceOf image x ≡ made i → ((p n : ℕ) → x ≡ Rule p n → ⊥) → ReadBy image made (length f - 2) parts (endingAt x i)
-      declines (Rule p n) e other = absurd (other p n refl)
+      pub declines : (x : Chosen) → choiceOf image x ≡ made i → ((p n k : ℕ) → x ≡ Rule p n k → ⊥) → ReadBy image made (length f - 2) parts (endingAt x i)
+      declines (Rule p n k) e other = absurd (other p n k refl)
       declines Nothing e other = read-none image made (length f - 2) ahead parts count i g h (sym e)
       declines Unusable e other = read-unusable image made (length f - 2) ahead parts count i g h (sym e)
 

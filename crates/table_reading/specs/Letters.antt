@@ -41,17 +41,18 @@ choiceBy image ss s t f i = lookup (λ e. fits (e .rule) f i) (countShared ss s 
 
 -- what the answer `Chosen` says
 abbrev pub choiceOf : List ℕ → Chosen → Choice
-choiceOf image (Rule p n) = chosen (apply n (entryAt image p))
+choiceOf image (Rule p n k) = chosen (apply n (entryAt image p))
 choiceOf image Nothing = nothing
 choiceOf image Unusable = unusable
 
-pub record Chooses (image : List ℕ) (choice : Choice) (r : Chosen) : Type 0 where
+-- the answer says the choice at position i, and where reading goes on from there
+pub record Chooses (image : List ℕ) (choice : Choice) (i : ℕ) (r : Chosen) : Type 0 where
   pub is : choiceOf image r ≡ choice
-  pub inside : (p n : ℕ) → r ≡ Rule p n → (p < countOf image) × (n ≤ maxRules)
+  pub inside : (p n k : ℕ) → r ≡ Rule p n k → (p < countOf image) × ((n ≤ maxRules) × (k ≡ i + length (entryAt image p .rule .target)))
 
 -- how reading ends at position i where no rule is chosen
 abbrev pub endingAt : Chosen → ℕ → Reached
-endingAt (Rule p n) i = Uncovered i
+endingAt (Rule p n k) i = Uncovered i
 endingAt Nothing i = Uncovered i
 endingAt Unusable i = BadTables
 

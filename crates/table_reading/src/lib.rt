@@ -59,9 +59,10 @@ fn count_shared(sets: &[u64], s: usize, t: usize) -> usize
     count
 }
 
-// What is found at a reached letter: the place of the numbered rule to apply and how many literal rules fit, none, or tables that are unusable.
+// What is found at a reached letter: the place of the numbered rule to apply, how many literal rules fit and where reading goes on; none; or tables
+// that are unusable.
 pub enum Chosen {
-    Rule(usize, usize),
+    Rule(usize, usize, usize),
     Nothing,
     Unusable,
 }
@@ -77,8 +78,8 @@ fn choose(
     frame: &[u8],
     i: usize,
 ) -> Chosen
-    requires { ⌜ (s + setSize ≤ length (now sets)) × (t + setSize ≤ length (now sets)) × (valid (now image) ≡ true) × (total ≡ totalOf (now image)) × (i ≤ length (now frame)) ⌝ }
-    ensures { λ r. ⌜ Chooses (now (image .entry)) (choiceBy (now (image .entry)) (now (sets .entry)) s t (now (frame .entry)) i) r ⌝ }
+    requires { ⌜ (s + setSize ≤ length (now sets)) × (t + setSize ≤ length (now sets)) × (valid (now image) ≡ true) × (total ≡ totalOf (now image)) × (1 ≤ i) × (i < length (now frame)) ⌝ }
+    ensures { λ r. ⌜ Chooses (now (image .entry)) (choiceBy (now (image .entry)) (now (sets .entry)) s t (now (frame .entry)) i) i r ⌝ }
 {
     let found = lowest_place(sets, s, t);
     let Found::Place(place) = found else {
@@ -87,11 +88,12 @@ fn choose(
     if total <= place {
         return Chosen::Unusable;
     }
-    if !literals::place_fits(image, place, frame, i) {
+    let end = literals::place_end(image, place, frame, i);
+    if end == 0 {
         return Chosen::Unusable;
     }
     let rule = image::table::owner_at(image, place);
-    Chosen::Rule(rule, count_shared(sets, s, t))
+    Chosen::Rule(rule, count_shared(sets, s, t), end)
 }
 
 // How reading ends where no rule is chosen.
@@ -99,7 +101,7 @@ fn ending_at(choice: Chosen, i: usize) -> Reached
     ensures { λ r. ⌜ r ≡ endingAt choice i ⌝ }
 {
     match choice {
-        Chosen::Rule(_, _) => Reached::Uncovered(i),
+        Chosen::Rule(_, _, _) => Reached::Uncovered(i),
         Chosen::Nothing => Reached::Uncovered(i),
         Chosen::Unusable => Reached::BadTables,
     }
@@ -126,12 +128,12 @@ pub fn read_letters(
         let s = tables::SET * numbers::wide16(left[i]);
         let t = right_sets + tables::SET * numbers::wide16(right[i]);
         let choice = choose(sets, s, t, image, total, frame, i);
-        let Chosen::Rule(rule, fitting) = choice else {
+        let Chosen::Rule(rule, fitting, next) = choice else {
             return ending_at(choice, i);
         };
         parts[count] = speech::part_of(rule, fitting);
         count += 1;
-        i += fitting::target_len_at(image, rule);
+        i = next;
     }
     Reached::Rules(count)
 }

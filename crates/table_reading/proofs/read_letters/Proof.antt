@@ -5,9 +5,10 @@ use mathlib.Core.Path.{_≡_, refl, sym, ap, ap₂, _∙_, subst}
 use mathlib.Core.Logic.{_⊎_, ⊎-elim}
 use borrow.Author.Needs.{needs}
 use native.Mathlib.Omega.{arith}
-use lib.ListN.{length, length-set}
+use lib.ListN.{length, set, length-set}
 use denote.Enum.Declared.{tagOf}
 use Rattle.image.proofs.Tests.{valid-long, valid-count}
+use Rattle.image.proofs.Entries.{entry-shaped}
 use Rattle.table_reading.specs.Letters.{choiceOf, choiceBy, choicesBy}
 use Rattle.table_reading.specs.declared.Chosen.{Chosen}
 use Rattle.table_reading.specs.declared.Chosen.the-variants.{Rule}
@@ -25,8 +26,8 @@ Inv-loop sets right-sets image frame left right parts₀ rules end count₀ i₀
 abbrev μ-loop : tie.MeasureT-loop
 μ-loop sets right-sets image frame left right parts₀ rules end count₀ i₀ parts count i = (length frame + 5) - i
 
-not-rule : (x : Chosen) → ((tagOf the-type x ≡ 1) ⊎ (tagOf the-type x ≡ 2)) → (p n : ℕ) → x ≡ Rule p n → ⊥
-not-rule x k p n e =
+not-rule : (x : Chosen) → ((tagOf the-type x ≡ 1) ⊎ (tagOf the-type x ≡ 2)) → (p n l : ℕ) → x ≡ Rule p n l → ⊥
+not-rule x k p n l e =
     let z : tagOf the-type x ≡ 0 = ap (tagOf the-type) e in
     ⊎-elim (λ w. omega arith) (λ w. omega arith) k
 
@@ -72,7 +73,7 @@ choose-requires : tie.Need-choose-requires Inv-loop μ-loop
 choose-requires c κs =
     let l = c .before .before .before .before .before .before .before .before .before .before .before .before .before .pre .3 .lefts (c .before .before .before .before .before .loop .i) (omega (arith, c .before .before .before .before .before .loop .inv .0 .behind)) (omega arith) in
     let r = c .before .before .before .before .before .before .before .before .before .before .before .before .before .pre .3 .rights (c .before .before .before .before .before .loop .i) (omega (arith, c .before .before .before .before .before .loop .inv .0 .behind)) (omega arith) in
-    (omega (arith, c .before .before .wide16 .ensures .0), omega (arith, c .wide162 .ensures .0), c .before .before .before .before .before .before .before .before .before .before .before .before .before .pre .0, c .before .before .before .before .before .before .literal-total .ensures .0, omega arith)
+    (omega (arith, c .before .before .wide16 .ensures .0), omega (arith, c .wide162 .ensures .0), c .before .before .before .before .before .before .before .before .before .before .before .before .before .pre .0, c .before .before .before .before .before .before .literal-total .ensures .0, omega (arith, c .before .before .before .before .before .loop .inv .0 .behind), omega arith)
 
 enum-known-choice : tie.Need-enum-known-choice Inv-loop μ-loop
 enum-known-choice c = search needs
@@ -94,8 +95,8 @@ returns c =
 
 part-of-requires : tie.Need-part-of-requires Inv-loop μ-loop
 part-of-requires c κs =
-    let h = c .before .before .before .choose .ensures .inside _ _ (c .before .choice .given .1) in
-    (omega (arith, h .0, valid-count (c .before .before .before .before .before .before .before .before .before .before .before .before .before .before .before .before .before .args .image .now) (c .before .before .before .before .before .before .before .before .before .before .before .before .before .before .before .before .before .pre .0)), omega (arith, h .1))
+    let h = c .before .before .before .choose .ensures .inside _ _ _ (c .before .choice .given .1) in
+    (omega (arith, h .0, valid-count (c .before .before .before .before .before .before .before .before .before .before .before .before .before .before .before .before .before .args .image .now) (c .before .before .before .before .before .before .before .before .before .before .before .before .before .before .before .before .before .pre .0)), omega (arith, h .1 .0))
 
 mul-parts : tie.Need-mul-parts Inv-loop μ-loop
 mul-parts c = omega (arith, c .before .before .before .before .before .before .before .before .before .before .loop .inv .0 .behind)
@@ -106,24 +107,26 @@ slice-write-parts c = omega (arith, c .before .before .before .before .before .b
 add-count : tie.Need-add-count Inv-loop μ-loop
 add-count c = omega (arith, c .before .before .before .before .before .before .before .before .before .before .loop .inv .0 .behind)
 
-target-len-at-requires : tie.Need-target-len-at-requires Inv-loop μ-loop
-target-len-at-requires c κs = (c .before .before .before .before .before .before .before .before .before .before .before .before .before .before .before .before .before .before .pre .0, c .before .before .before .before .choose .ensures .inside _ _ (c .before .before .choice .given .1) .0)
-
-add-i : tie.Need-add-i Inv-loop μ-loop
-add-i c = omega (arith, c .target-len-at .ensures .1 .1)
-
 loop-less : tie.Need-loop-less Inv-loop μ-loop
-loop-less c = omega (arith, c .target-len-at .ensures .1 .0, c .before .before .before .before .before .before .before .before .before .before .before .loop .inv .0 .near)
+loop-less c =
+    let st = c .before .before .before .before .before .before .before .before .before .before .before .before .before .before .before .before .before .before in
+    let h = c .before .before .before .before .choose .ensures .inside _ _ _ (c .before .before .choice .given .1) in
+    let w = entry-shaped (st .args .image .now) (st .pre .0) _ (h .0) in
+    omega (arith, h .1 .1, w .target-least, c .before .before .before .before .before .before .before .before .before .before .loop .inv .0 .near)
 
 loop-again : tie.Need-loop-again Inv-loop μ-loop
 loop-again c =
-    let a = c .before .before .before .before .before .before .before .before .before .before .before .before .before .before .before .before .before .before .before .args in
-    let k = c .before .before .before .before .before .before .before .before .before .before .before .loop in
-    let t = c .target-len-at in (
-      next (a .image .now) (a .sets .now) (a .right-sets) (a .left .now) (a .right .now) (a .frame .now) (c .before .before .before .before .before .before .before .before .before .before .before .before .before .before .before .before .before .before .before .pre .0) (k .parts) (k .count) (k .i) (k .inv .0) (omega arith)
+    let st = c .before .before .before .before .before .before .before .before .before .before .before .before .before .before .before .before .before .before in
+    let a = st .args in
+    let k = c .before .before .before .before .before .before .before .before .before .before .loop in
+    let e = c .before .before .choice .given .1 in
+    let h = c .before .before .before .before .choose .ensures .inside _ _ _ e in
+    let w = entry-shaped (a .image .now) (st .pre .0) _ (h .0) in (
+      subst (λ (x : ℕ). Gone (a .image .now) (a .sets .now) (a .right-sets) (a .left .now) (a .right .now) (a .frame .now) (set (k .parts) (k .count) (c .part-of .result)) (k .count + 1) x) (sym (h .1 .1))
+          (next (a .image .now) (a .sets .now) (a .right-sets) (a .left .now) (a .right .now) (a .frame .now) (st .pre .0) (k .parts) (k .count) (k .i) (k .inv .0) (omega arith)
           _ _
-          (sym (c .before .before .before .before .before .choose .ensures .is ∙ ap₂ (λ (x y : ℕ). choiceBy (a .image .now) (a .sets .now) (setSize * x) (a .right-sets + setSize * y) (a .frame .now) (k .i)) (c .before .before .before .before .before .before .before .before .wide16 .ensures .0) (c .before .before .before .before .before .before .wide162 .ensures .0)) ∙ ap (choiceOf (a .image .now)) (c .before .before .before .choice .given .1))
-          (c .before .before .before .before .before .choose .ensures .inside _ _ (c .before .before .before .choice .given .1) .0) _ (c .before .part-of .ensures) (t .result) (t .ensures .0) (t .ensures .1 .0) (t .ensures .1 .1),
+          (sym (c .before .before .before .before .choose .ensures .is ∙ ap₂ (λ (x y : ℕ). choiceBy (a .image .now) (a .sets .now) (setSize * x) (a .right-sets + setSize * y) (a .frame .now) (k .i)) (c .before .before .before .before .before .before .before .wide16 .ensures .0) (c .before .before .before .before .before .wide162 .ensures .0)) ∙ ap (choiceOf (a .image .now)) e)
+          (h .0) _ (c .part-of .ensures) _ refl (w .target-least) (w .target-most)),
       length-set (k .parts) (k .count) _ ∙ k .inv .1,
     )
 
@@ -163,8 +166,6 @@ read-letters-spec =
     mul-parts
     slice-write-parts
     add-count
-    target-len-at-requires
-    add-i
     loop-less
     loop-again
     same-length-2
