@@ -4,7 +4,7 @@ use Prim.Native.Nat.{ℕ, zero, suc, _+_, _-_, _*_, _≤_, _<_}
 use native.Mathlib.Nat.{le-of-suc-le-suc, not-suc-le-zero}
 use native.Mathlib.Decide.{decLe}
 use native.Mathlib.Omega.{arith}
-use mathlib.Core.Path.{_≡_, refl, sym, ap, _∙_, subst}
+use mathlib.Core.Path.{_≡_, refl, sym, ap, ap₂, _∙_, subst}
 use mathlib.Core.Bool.{Bool, true, false, cond}
 use mathlib.Core.List.{List, [], _∷_}
 use mathlib.Core.Option.{Option, none, some}
@@ -21,17 +21,16 @@ use Rattle.literals.proofs.Places.{literal-applied}
 use Rattle.fitting.specs.Fitting.{Str, fits}
 use Rattle.fitting.specs.Reading.{Application, apply, Choice, chosen, nothing, unusable, past}
 use Rattle.speech.specs.Places.{partOf, applyAt, ReadBy}
-use Rattle.speech.specs.declared.Reached.the-variants.{Rules}
+use Rattle.speech.specs.declared.Reached.the-variants.{Rules, Uncovered, BadTables}
 use Rattle.fitting.proofs.Search.{Targets}
 use Rattle.reading.proofs.Expansion.{literals-targets}
 use Rattle.reading.proofs.Loop.{Going, going-begin}
 use Rattle.reading.proofs.Plain.{going-part, read-none, read-unusable, read-end}
 use Rattle.tables.specs.Words.{setSize}
 use Rattle.tables.specs.Walk.{lookup}
-use Rattle.table_reading.specs.Letters.{foundOf, lowestShared, countShared, choiceBy, choicesBy, choiceOf, endingAt}
+use Rattle.table_reading.specs.Letters.{foundOf, lowestShared, countShared, choiceBy, choicesBy, choiceOf, Chooses}
 use Rattle.table_reading.specs.declared.Found.the-variants.{Place, Empty}
 use Rattle.table_reading.specs.declared.Chosen.{Chosen}
-use Rattle.table_reading.specs.declared.Chosen.the-variants.{Rule, Nothing, Unusable}
 
 -- ---- the rule at the place found
 
@@ -105,6 +104,10 @@ module _ (image ss : List ℕ) (base : ℕ) (left right f : List ℕ) where
   abbrev choose : ℕ → Choice
   choose = choicesBy image ss base left right f
 
+  -- what is told by the sets of the two states remembered for i is the choice at i
+  pub by-states : (i l r : ℕ) → l ≡ getD left i 0 → r ≡ getD right i 0 → (x : Chosen) → Chooses image (choiceBy image ss (setSize * l) (base + setSize * r) f i) i x → choiceOf image x ≡ choose i
+  by-states i l r el er x c = c .is ∙ ap₂ (λ (y z : ℕ). choiceBy image ss (setSize * y) (base + setSize * z) f i) el er
+
   -- the loop has `parts` and `count`, and stands at i
   abbrev pub Gone : List ℕ → ℕ → ℕ → Type 0
   Gone parts count i = Going choose (length f - 2) (applyAt image) (countOf image) parts count i
@@ -130,10 +133,11 @@ module _ (image ss : List ℕ) (base : ℕ) (left right f : List ℕ) (ok : vali
       next p n e u x is = going-part made (length f - 2) ahead image ok parts count i g h p n e u x is
 
       -- no rule is chosen
-      pub declines : (x : Chosen) → choiceOf image x ≡ made i → ((p n k : ℕ) → x ≡ Rule p n k → ⊥) → ReadBy image made (length f - 2) parts (endingAt x i)
-      declines (Rule p n k) e other = absurd (other p n k refl)
-      declines Nothing e other = read-none image made (length f - 2) ahead parts count i g h (sym e)
-      declines Unusable e other = read-unusable image made (length f - 2) ahead parts count i g h (sym e)
+      pub unusable-here : made i ≡ unusable → ReadBy image made (length f - 2) parts BadTables
+      unusable-here = read-unusable image made (length f - 2) ahead parts count i g h
+
+      pub none-here : made i ≡ nothing → ReadBy image made (length f - 2) parts (Uncovered i)
+      none-here = read-none image made (length f - 2) ahead parts count i g h
 
     pub done : length f - 2 < i → ReadBy image made (length f - 2) parts (Rules count)
     done = read-end image made (length f - 2) ahead parts count i g

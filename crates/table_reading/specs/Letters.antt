@@ -50,12 +50,6 @@ pub record Chooses (image : List ℕ) (choice : Choice) (i : ℕ) (r : Chosen) :
   pub is : choiceOf image r ≡ choice
   pub inside : (p n k : ℕ) → r ≡ Rule p n k → (p < countOf image) × ((n ≤ maxRules) × (k ≡ i + length (entryAt image p .rule .target)))
 
--- how reading ends at position i where no rule is chosen
-abbrev pub endingAt : Chosen → ℕ → Reached
-endingAt (Rule p n k) i = Uncovered i
-endingAt Nothing i = Uncovered i
-endingAt Unusable i = BadTables
-
 -- the choice at each position, by the remembered states; the right sets begin at set word `base`
 abbrev pub choicesBy : List ℕ → List ℕ → ℕ → List ℕ → List ℕ → List ℕ → ℕ → Choice
 choicesBy image ss base left right f i = choiceBy image ss (setSize * getD left i 0) (base + setSize * getD right i 0) f i

@@ -12,7 +12,7 @@ ghost use Rattle.image.specs.Image.{totalOf, valid};
 ghost use Rattle.speech.specs.Words.{frameOf};
 ghost use Rattle.speech.specs.Places.{frameSize, ReadBy};
 ghost use Rattle.tables.specs.Words.{setSize};
-ghost use Rattle.table_reading.specs.Letters.{foundOf, lowestShared, countShared, choiceBy, Chooses, endingAt, choicesBy, Bounded, suffix, between, WordRead, Held, NameRead};
+ghost use Rattle.table_reading.specs.Letters.{foundOf, lowestShared, countShared, choiceBy, Chooses, choicesBy, Bounded, suffix, between, WordRead, Held, NameRead};
 
 // The lowest place that two sets share.
 pub enum Found {
@@ -96,17 +96,6 @@ fn choose(
     Chosen::Rule(rule, count_shared(sets, s, t), end)
 }
 
-// How reading ends where no rule is chosen.
-fn ending_at(choice: Chosen, i: usize) -> Reached
-    ensures { λ r. ⌜ r ≡ endingAt choice i ⌝ }
-{
-    match choice {
-        Chosen::Rule(_, _, _) => Reached::Uncovered(i),
-        Chosen::Nothing => Reached::Uncovered(i),
-        Chosen::Unusable => Reached::BadTables,
-    }
-}
-
 // At each reached letter the rule chosen by its two remembered states is applied, and reading goes on after its target.
 pub fn read_letters(
     sets: &[u64],
@@ -128,8 +117,11 @@ pub fn read_letters(
         let s = tables::SET * numbers::wide16(left[i]);
         let t = right_sets + tables::SET * numbers::wide16(right[i]);
         let choice = choose(sets, s, t, image, total, frame, i);
+        if let Chosen::Unusable = choice {
+            return Reached::BadTables;
+        }
         let Chosen::Rule(rule, fitting, next) = choice else {
-            return ending_at(choice, i);
+            return Reached::Uncovered(i);
         };
         parts[count] = speech::part_of(rule, fitting);
         count += 1;
