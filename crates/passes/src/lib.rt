@@ -94,7 +94,7 @@ fn right_pass(
 }
 
 // The left pass, then the right pass, whose count goes on from the left's.
-pub fn run_passes(
+fn run_passes(
     words: &[u16],
     left_states: usize,
     right_states: usize,

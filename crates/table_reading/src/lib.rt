@@ -15,7 +15,7 @@ ghost use Rattle.tables.specs.Words.{setSize};
 ghost use Rattle.table_reading.specs.Letters.{foundOf, lowestShared, countShared, choiceBy, Chooses, choicesBy, Bounded, suffix, between, WordRead, Held, NameRead};
 
 // The lowest place that two sets share.
-pub enum Found {
+enum Found {
     Place(usize),
     Empty,
 }
@@ -61,7 +61,7 @@ fn count_shared(sets: &[u64], s: usize, t: usize) -> usize
 
 // What is found at a reached letter: the place of the numbered rule to apply, how many literal rules fit and where reading goes on; none; or tables
 // that are unusable.
-pub enum Chosen {
+enum Chosen {
     Rule(usize, usize, usize),
     Nothing,
     Unusable,
@@ -97,7 +97,7 @@ fn choose(
 }
 
 // At each reached letter the rule chosen by its two remembered states is applied, and reading goes on after its target.
-pub fn read_letters(
+fn read_letters(
     sets: &[u64],
     right_sets: usize,
     image: &[u8],
