@@ -11,7 +11,7 @@ use borrow.Author.Tests.{lt-ltb, le-ltb, ltb-true}
 use lib.Dec.{ltb}
 use lib.ListN.{length, getD, take, drop, length-append, drop-of-length-le}
 use lib.Seq.{take-suc, drop-cons, take-all}
-use Rattle.rules.specs.Limits.{maxRules, maxPhones}
+use Rattle.rules.specs.Limits.{maxRules}
 use Rattle.rules.proofs.Cases.{byBool}
 use Rattle.fitting.specs.Reading.{Piece, applied, listed}
 use Rattle.speech.specs.Places.{placeIn, rulesAmong}
@@ -62,11 +62,11 @@ module _ (all : List Piece → ℕ) (each : Piece → ℕ) (g : Sums all each) (
   pub counted-end : (k total : ℕ) → Counted all most f ps k total → length ps ≤ k → total ≡ all (map f ps)
   counted-end k total c h = c .counts ∙ ap (λ (l : List ℕ). all (map f l)) (take-all k ps h)
 
--- four a part are enough where no part has more
-pub phones-few : (f : ℕ → Piece) (ps : List ℕ) → ((k : ℕ) → k < length ps → length (phonesIn (f (getD ps k 0))) ≤ maxPhones) → length (phonesOf (map f ps)) ≤ maxPhones * length ps
-phones-few f [] h = omega arith
-phones-few f (p ∷ ps) h =
-    omega (arith, length-append (phonesIn (f p)) (phonesOf (map f ps)), h 0 (omega arith), phones-few f ps (λ k u. h (suc k) (omega arith)))
+-- `most` a part are enough where no part has more
+pub phones-few : (most : ℕ) (f : ℕ → Piece) (ps : List ℕ) → ((k : ℕ) → k < length ps → length (phonesIn (f (getD ps k 0))) ≤ most) → length (phonesOf (map f ps)) ≤ most * length ps
+phones-few most f [] h = omega arith
+phones-few most f (p ∷ ps) h =
+    omega (arith, length-append (phonesIn (f p)) (phonesOf (map f ps)), h 0 (omega arith), phones-few most f ps (λ k u. h (suc k) (omega arith)), mul-suc most (length ps))
 
 -- a part is one letter at most, and a contested one has a number
 pub contested-least : (x : Piece) → contestedIn x ≤ 1
@@ -112,7 +112,7 @@ module _ (ps : List ℕ) where
 one-most : (p : ℕ) → cond (ltb p maxRules) 1 0 ≤ 1
 one-most p = byBool (ltb p maxRules) (λ e. rw e (omega arith)) (λ e. rw e (omega arith))
 
-rules-most : (ps : List ℕ) → rulesAmong ps ≤ length ps
+pub rules-most : (ps : List ℕ) → rulesAmong ps ≤ length ps
 rules-most [] = omega arith
 rules-most (p ∷ ps) = omega (arith, one-most (placeIn p), rules-most ps)
 

@@ -1,23 +1,29 @@
 -- The phones and the numbers of parts, gathered in the same way and written one part at a time.
 -- Assumes nothing.
 use Prim.Native.Nat.{ℕ, _+_, _-_, _≤_, _<_}
-use mathlib.Core.Path.{_≡_, refl, sym, ap, ap₂, _∙_}
+use mathlib.Core.Path.{_≡_, refl, sym, ap, ap₂, _∙_, subst}
 use mathlib.Core.Bool.{true, false, cond}
 use mathlib.Core.List.{List, [], _∷_, _++_, map, append-assoc, append-nil, map-append}
+use native.Mathlib.Decide.{decLe}
 use native.Mathlib.Omega.{arith}
 use native.Mathlib.Numerals.{add-one}
-use borrow.Author.Tests.{le-leb, lt-leb, lt-ltb, le-ltb}
+use borrow.Author.Tests.{lt-ltb, le-ltb}
 use lib.Dec.{leb, ltb}
 use lib.ListN.{length, getD, take, drop, set, length-append, take-append-drop}
 use lib.Seq.{take-suc, paste, paste-zero, set-split, append-snoc, take-all, take-length}
-use Rattle.rules.specs.Limits.{maxRules}
+use Rattle.rules.specs.Limits.{maxRules, maxListedPhones}
 use Rattle.rules.specs.Memory.{over}
 use Rattle.rules.proofs.Cases.{byBool}
 use Rattle.rules.proofs.Memory.{over-length, over-paste}
+use Rattle.packing.proofs.StatePhones.{phones-long}
 use Rattle.exceptions.specs.Layout.{wordsOf, phonesEnding}
-use Rattle.image.specs.Image.{entryAt}
+use Rattle.exceptions.specs.Judging.{StateOf}
+use Rattle.exceptions.proofs.Sizes.{words-are}
+use Rattle.exceptions.proofs.Looking.{list-state, asks-of}
+use Rattle.image.specs.Image.{valid, entryAt}
+use Rattle.image.proofs.Entries.{entry-shaped}
 use Rattle.fitting.specs.Reading.{Piece, listed}
-use Rattle.speech.specs.Places.{placeIn, fittingIn, pieceAt, partAt, partsAt, rulesAmong, PartGiven, AllGiven}
+use Rattle.speech.specs.Places.{placeIn, fittingIn, pieceAt, partAt, partsAt, rulesAmong, PartIn, PartGiven, AllGiven}
 use Rattle.speech.specs.Speech.{speaks, phonesIn, phonesOf, numbersIn, numbersOf, contestedIn, spoken, refused, saying, delivered}
 use Rattle.speech.specs.declared.Given.{Given}
 
@@ -100,6 +106,10 @@ module _ (all : List Piece → List ℕ) (each : Piece → List ℕ) (g : Gather
 
 -- ---- a part is a rule or a state of the list
 
+-- what a state of the list says
+state-phones : (list : List ℕ) (q : ℕ) → StateOf list q → length (phonesEnding (wordsOf list) q) ≤ maxListedPhones
+state-phones list q s = subst (λ (ws : List ℕ). length (phonesEnding ws q) ≤ maxListedPhones) (words-are list) (phones-long _ _ q (asks-of _ q _ (list-state list q s) refl .0))
+
 module _ (image list : List ℕ) where
   module _ (p q : ℕ) (e : q ≡ placeIn p) where
     rule-part : q < maxRules → partAt image list p ≡ pieceAt image p
@@ -125,6 +135,16 @@ module _ (image list : List ℕ) where
 
     pub listed-contested : maxRules ≤ q → contestedIn (partAt image list p) ≡ 0
     listed-contested h = ap contestedIn (listed-part h)
+
+  -- neither has more phones than a listed word may
+  pub part-most : valid image ≡ true → (p : ℕ) → PartIn image list p → length (phonesIn (partAt image list p)) ≤ maxListedPhones
+  part-most ok p i = go (decLe maxRules (placeIn p))
+    where
+      go : Dec (maxRules ≤ placeIn p) → length (phonesIn (partAt image list p)) ≤ maxListedPhones
+      go (yes h) = omega (arith, ap length (listed-phones p _ refl h), state-phones list (placeIn p - maxRules) (i .state h))
+      go (no n) =
+          let h : placeIn p < maxRules = omega arith in
+          omega (arith, ap length (rule-phones p _ refl h), entry-shaped image ok (placeIn p) (i .rule h) .phones-most)
 
   one-number : (p : ℕ) → length (numbersIn (partAt image list p)) ≡ cond (ltb (placeIn p) maxRules) 1 0
   one-number p = byBool (ltb (placeIn p) maxRules) (λ e. rw e refl) (λ e. rw e refl)
@@ -167,14 +187,14 @@ module _ (x : Piece) (from to : Given) (phones numbers phones′ numbers′ t : 
 
 -- ---- the cases of `delivered`
 
-module _ (rs : List Piece) (phones numbers : List ℕ) (n : ℕ) (b : length (numbersOf rs) ≡ n) where
+module _ (rs : List Piece) (phones numbers : List ℕ) where
   pub phones-short : leb (length (phonesOf rs)) (length phones) ≡ false → (m : ℕ) → m ≡ length (phonesOf rs) → saying (refused 4 m) phones numbers ≡ delivered (speaks rs 0) phones numbers
   phones-short h m a = rw (a, h)
 
   module _ (h : leb (length (phonesOf rs)) (length phones) ≡ true) where
-    pub numbers-short : length numbers < n → saying (refused 5 n) phones numbers ≡ delivered (speaks rs 0) phones numbers
-    numbers-short u = rw (h, b, lt-leb _ _ u)
+    pub numbers-short : leb (length (numbersOf rs)) (length numbers) ≡ false → (m : ℕ) → m ≡ length (numbersOf rs) → saying (refused 5 m) phones numbers ≡ delivered (speaks rs 0) phones numbers
+    numbers-short u m b = rw (b, h, u)
 
-    pub both-written : n ≤ length numbers → (g : Given) → AllGiven rs g → (phones′ numbers′ : List ℕ) → phones′ ≡ over (phonesOf rs) phones → numbers′ ≡ over (numbersOf rs) numbers
-        → saying (spoken (g .phones) n (g .contested)) phones′ numbers′ ≡ delivered (speaks rs 0) phones numbers
-    both-written u g a phones′ numbers′ p q = rw (p, q, a .phones, a .contested, h, b, le-leb _ _ u)
+    pub both-written : leb (length (numbersOf rs)) (length numbers) ≡ true → (g : Given) → AllGiven rs g → (phones′ numbers′ : List ℕ) → phones′ ≡ over (phonesOf rs) phones → numbers′ ≡ over (numbersOf rs) numbers
+        → saying (spoken (g .phones) (g .numbers) (g .contested)) phones′ numbers′ ≡ delivered (speaks rs 0) phones numbers
+    both-written u g a phones′ numbers′ p q = rw (p, q, a .phones, a .numbers, a .contested, h, u)

@@ -103,18 +103,32 @@ fn phone_count(image: &[u8], list: &[u32], parts: &[u32]) -> usize
     total
 }
 
-// Whether there is room for the phones of the parts. A rule has at most four, so that they need not be counted where all parts are rules and
-// there is room for as many.
-fn phones_fit(image: &[u8], list: &[u32], parts: &[u32], rules: usize, room: usize) -> bool
-    requires { ⌜ (valid (now image) ≡ true) × ((length (now parts) ≤ frameSize) × PartsIn (now image) (now list) (now parts)) × («rules» ≡ rulesAmong (now parts)) ⌝ }
+// Whether there is room for the phones of the parts. No part has more than 64, and a rule no more than four: where there is room for as many, they need
+// not be counted.
+fn phones_fit(image: &[u8], list: &[u32], parts: &[u32], room: usize) -> bool
+    requires { ⌜ (valid (now image) ≡ true) × ((length (now parts) ≤ frameSize) × PartsIn (now image) (now list) (now parts)) ⌝ }
     ensures { λ r. ⌜ r ≡ leb (length (phonesOf (partsAt (now (image .entry)) (now (list .entry)) (now (parts .entry))))) room ⌝ }
 {
-    if rules == parts.len() {
-        if rules::MAX_PHONES * rules <= room {
+    if rules::MAX_LISTED_PHONES * parts.len() <= room {
+        return true;
+    }
+    if rules::MAX_PHONES * parts.len() <= room {
+        if rules_among(parts) == parts.len() {
             return true;
         }
     }
     phone_count(image, list, parts) <= room
+}
+
+// Whether there is room for the numbers of the rules among the parts, which are no more than the parts.
+fn numbers_fit(parts: &[u32], room: usize) -> bool
+    requires { ⌜ length (now parts) ≤ frameSize ⌝ }
+    ensures { λ r. ⌜ r ≡ leb (rulesAmong (now (parts .entry))) room ⌝ }
+{
+    if parts.len() <= room {
+        return true;
+    }
+    rules_among(parts) <= room
 }
 
 // How many phones and numbers are given, and how many letters were contested.
@@ -216,17 +230,16 @@ fn deliver(
     requires { ⌜ (valid (now image) ≡ true) × ((length (now parts) ≤ frameSize) × PartsIn (now image) (now list) (now parts)) ⌝ }
     ensures { λ r. ⌜ saying (toldOf r) (now (phones .exit)) (now (numbers .exit)) ≡ delivered (speaks (partsAt (now (image .entry)) (now (list .entry)) (now (parts .entry))) 0) (now (phones .entry)) (now (numbers .entry)) ⌝ }
 {
-    let count = rules_among(parts);
-    if !phones_fit(image, list, parts, count, phones.len()) {
+    if !phones_fit(image, list, parts, phones.len()) {
         return Speech::Refused(Refusal::PhonesRoom(phone_count(image, list, parts)));
     }
-    if numbers.len() < count {
-        return Speech::Refused(Refusal::NumbersRoom(count));
+    if !numbers_fit(parts, numbers.len()) {
+        return Speech::Refused(Refusal::NumbersRoom(rules_among(parts)));
     }
     let given = write_parts(image, list, parts, phones, numbers);
     Speech::Spoken {
         phones: given.phones,
-        numbers: count,
+        numbers: given.numbers,
         contested: given.contested,
     }
 }

@@ -4,8 +4,7 @@ use mathlib.Core.Path.{sym, ap, _∙_}
 use native.Mathlib.Omega.{arith}
 use borrow.Author.Needs.{needs}
 use lib.ListN.{length}
-use Rattle.image.proofs.Entries.{entry-shaped}
-use Rattle.speech.proofs.Written.{rule-phones, listed-phones}
+use Rattle.speech.proofs.Written.{rule-phones, listed-phones, part-most}
 use Rattle.speech.proofs.part_phones.Statement.{statement}
 use Rattle.speech.proofs.part_phones.Tie as tie
 
@@ -18,10 +17,9 @@ phones-at-requires c κs = (c .before .before .before .before .pre .0, omega (ar
 returns : tie.Need-returns
 returns c =
     let st = c .before .before .before .before .before in
-    let e = c .before .before .place-in .ensures in (
-      ap length (c .phones-at .ensures ∙ sym (rule-phones (st .args .image .now) (st .args .list .now) (st .args .part) (c .before .before .place-in .result) e (c .before .if1 .taken))),
-      omega (arith, ap length (c .phones-at .ensures), entry-shaped (st .args .image .now) (st .pre .0) (c .before .before .place-in .result) (omega (arith, st .pre .1 .rule (omega arith))) .phones-most),
-    )
+    let a = st .args in
+    let e = ap length (c .phones-at .ensures ∙ sym (rule-phones (a .image .now) (a .list .now) (a .part) (c .before .before .place-in .result) (c .before .before .place-in .ensures) (c .before .if1 .taken))) in
+    (e, omega (arith, e, part-most (a .image .now) (a .list .now) (st .pre .0) (a .part) (st .pre .1)))
 
 phone-count-requires : tie.Need-phone-count-requires
 phone-count-requires c κs = rw (c .before .place-in .ensures) (c .before .before .before .before .pre .1 .state (omega (arith, c .before .place-in .ensures)))
