@@ -69,12 +69,12 @@ module _ (m : Lent) (g : Given)
     (b : g .build ≡ built (g .replay .image) (m .words) (m .sets))
     (p : g .plain ≡ plainSaid (g .replay .image) (listingOf (m .list)) (m .name) (m .«plain-phones») (m .«plain-numbers»))
     (w : g .walk ≡ walkSaid (g .replay .image) (listingOf (m .list)) (g .build .words) (g .build .sets) (m .name) (m .«walk-phones») (m .«walk-numbers»)) where
-  module _ (e : Enough m) where
+  module _ (e : Enough (takenEdits m) m) where
     done : FromEmpty (takenEdits m) (m .image) (m .answers) (m .places) (g .replay)
     done = r .claim (ap (λ (x : Replay). x .reply) (r .whole) ∙ replay-accepted (m .image) (m .code) (m .letters) (m .answers) (m .places) (e .image))
 
-    literals-are : literalsOf (g .replay .image) ≡ literalsAfter m
-    literals-are = state-literals (g .replay .image) (ledgerAfter m) (done .state)
+    literals-are : literalsOf (g .replay .image) ≡ literalsAfter (takenEdits m)
+    literals-are = state-literals (g .replay .image) (ledgerAfter (takenEdits m)) (done .state)
 
     ready : built (g .replay .image) (m .words) (m .sets) .reply ≡ accepted
     ready =
@@ -88,7 +88,7 @@ module _ (m : Lent) (g : Given)
     walk-is =
         w ∙ ap (λ (x : Built). walkSaid (g .replay .image) (listingOf (m .list)) (x .words) (x .sets) (m .name) (m .«walk-phones») (m .«walk-numbers»)) b
 
-    made : Claim m g
+    made : Claim (takenEdits m) m g
     made = record {
       edits = done;
       tables = ap (λ (x : Built). x .reply) b ∙ ready;

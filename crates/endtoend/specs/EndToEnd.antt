@@ -83,34 +83,32 @@ pub record Given : Type 0 where
 abbrev pub given : Replay → Built → Said → Walked → Given
 given r b p w = record { replay = r; build = b; plain = p; walk = w }
 
--- the edits taken, the state that the ledger has after them, and its literal rules
-abbrev pub takenEdits : Lent → List Edit
-takenEdits m = taken (m .code) (m .letters) (m .answers) (m .places)
+-- the state that the ledger has after the edits es, and its literal rules
+abbrev pub ledgerAfter : List Edit → Ledger
+ledgerAfter es = afterAll start es
 
-abbrev pub ledgerAfter : Lent → Ledger
-ledgerAfter m = afterAll start (takenEdits m)
-
-abbrev pub literalsAfter : Lent → List Entry
-literalsAfter m = expand (ledgerAfter m .classes) (rulesOf (ledgerAfter m))
+abbrev pub literalsAfter : List Edit → List Entry
+literalsAfter es = expand (ledgerAfter es .classes) (rulesOf (ledgerAfter es))
 
 -- the words of the name that the lent list does not say
 abbrev pub unlistedWords : Lent → List Word
 unlistedWords m = unlisted (saidOf (listingOf (m .list))) (wordsIn (m .name))
 
--- the memory is long enough for a ruleset and for the tables of the literal rules after the edits, and both readings are lent as much
-pub record Enough (m : Lent) : Type 0 where
+-- the memory is long enough for a ruleset and for the tables of the literal rules after the edits es, and both readings are lent as much
+pub record Enough (es : List Edit) (m : Lent) : Type 0 where
   pub image : imageSize ≤ length (m .image)
-  pub words : wordsFor (literalsAfter m) ≤ length (m .words)
-  pub sets : setsFor (literalsAfter m) ≤ length (m .sets)
+  pub words : wordsFor (literalsAfter es) ≤ length (m .words)
+  pub sets : setsFor (literalsAfter es) ≤ length (m .sets)
   pub phones : length (m .«walk-phones») ≡ length (m .«plain-phones»)
   pub numbers : length (m .«walk-numbers») ≡ length (m .«plain-numbers»)
 
-pub record Claim (m : Lent) (g : Given) : Type 0 where
+-- what the calls gave, of the edits es from the empty ruleset and of the name
+pub record Claim (es : List Edit) (m : Lent) (g : Given) : Type 0 where
   -- each answer with its place, and the ruleset after, are the ledger's; no number was given twice
-  pub edits : FromEmpty (takenEdits m) (m .image) (m .answers) (m .places) (g .replay)
+  pub edits : FromEmpty es (m .image) (m .answers) (m .places) (g .replay)
   -- the tables were built, and carry the count of the accepted additions, drops and moves, which the walk compares
   pub tables : g .build .reply ≡ accepted
-  pub carried : editsIn (g .build .words) ≡ counted start (takenEdits m)
+  pub carried : editsIn (g .build .words) ≡ counted start es
   -- walk and plain reading are alike in phones, rule numbers and contested letters, of listed names and all others, and where the lent list is none
   pub alike : result (g .walk .said) ≡ result (g .plain)
   -- the steps counted for a name that is not on the list are 2 |w| + 2 for each of its words that is not
@@ -121,10 +119,14 @@ pub record Claim (m : Lent) (g : Given) : Type 0 where
   pub listed : SoundName (m .name) → (p : Str) → ListedAs (listingOf (m .list)) (m .name) p
       → (result (g .plain) ≡ fromList p (length (m .«plain-phones»))) × (g .walk .steps ≡ 0)
 
+-- the edits that the lent code says
+abbrev pub takenEdits : Lent → List Edit
+takenEdits m = taken (m .code) (m .letters) (m .answers) (m .places)
+
 pub record EndToEnd (m : Lent) (g : Given) : Type 0 where
   -- each call got the ruleset, and the walk the tables, as the calls before left them
   pub replayed : Replayed (m .image) (m .code) (m .letters) (m .answers) (m .places) (g .replay)
   pub built-after : g .build ≡ built (g .replay .image) (m .words) (m .sets)
   pub read : g .plain ≡ plainSaid (g .replay .image) (listingOf (m .list)) (m .name) (m .«plain-phones») (m .«plain-numbers»)
   pub walked : g .walk ≡ walkSaid (g .replay .image) (listingOf (m .list)) (g .build .words) (g .build .sets) (m .name) (m .«walk-phones») (m .«walk-numbers»)
-  pub claim : Enough m → Claim m g
+  pub claim : Enough (takenEdits m) m → Claim (takenEdits m) m g

@@ -102,7 +102,7 @@ length-all (e ∷ es) at t =
     omega (arith, words-length at e (wordsFrom (at + length (lettersOf e)) es) (t .0), length-all es (at + length (lettersOf e)) (t .1))
 
 -- where each edit has room for its answer, all are taken
-taken-whole : (es : List Edit) → TypedAll es → (answers places : List ℕ) → length es ≤ length answers → length es ≤ length places
+pub taken-whole : (es : List Edit) → TypedAll es → (answers places : List ℕ) → length es ≤ length answers → length es ≤ length places
     → taken (wordsAll es) (poolOf es) answers places ≡ es
 taken-whole es t answers places h k =
     let c : length (wordsAll es) / editWords ≡ length es = omega (arith, length-all es 0 t) in
@@ -147,6 +147,9 @@ all-words (e ∷ es) at t h =
     let n = length-append (lettersOf e) (poolOf es) in
     edit-words at e (t .0) (omega arith) (all-words es (at + length (lettersOf e)) (t .1) (omega arith))
 
+pub list-words : (es : List Edit) → TypedAll es → length (poolOf es) < wordBound → Below wordBound (wordsAll es)
+list-words es t b = words-below (all-words es 0 t (omega arith))
+
 -- ---- and its letters are one of bytes
 
 letters-below : (e : Edit) → Typed e → Below 256 (lettersOf e)
@@ -155,9 +158,9 @@ letters-below (Drop n) t k = omega arith
 letters-below (Move n p) t k = omega arith
 letters-below (SetClass c l) t k = t .1 k
 
-pool-below : (es : List Edit) → TypedAll es → Below 256 (poolOf es)
-pool-below [] t k = omega arith
-pool-below (e ∷ es) t k = below-append (lettersOf e) (poolOf es) (letters-below e (t .0)) (pool-below es (t .1)) k
+pub list-letters : (es : List Edit) → TypedAll es → Below 256 (poolOf es)
+list-letters [] t k = omega arith
+list-letters (e ∷ es) t k = below-append (lettersOf e) (poolOf es) (letters-below e (t .0)) (list-letters es (t .1)) k
 
 -- ---- the claim
 
@@ -194,8 +197,8 @@ every-list es t b image answers places h k l =
     replayed-through image (wordsAll es) (poolOf es) answers places h ∙ ap (λ (x : List Edit). through x (cleared image .image) answers places) w in
     record {
       size = length-all es 0 t;
-      words = words-below (all-words es 0 t (omega arith));
-      letters = pool-below es t;
+      words = list-words es t b;
+      letters = list-letters es t;
       whole = w;
       reply = replay-accepted image (wordsAll es) (poolOf es) answers places h;
       claim = rw r (from-empty es (all-filled es t) image answers places (long-cleared image h));

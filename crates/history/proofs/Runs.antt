@@ -27,7 +27,7 @@ use Rattle.edits.proofs.Counted.{counted-all}
 use Rattle.edits.proofs.History.{history, history-valid, history-issued, issued-rise}
 use Rattle.history.specs.Code.{editWords, byteAt, codedRule, codedLetters, codedEdit, codedEdits}
 use Rattle.history.proofs.Coded.{coded-rule-filled}
-use Rattle.history.specs.Replay.{turns, taken, replaying, through, throughBy, replayed, issuedFromEmpty, FromEmpty, Replayed}
+use Rattle.history.specs.Replay.{turns, taken, Replay, replaying, through, throughBy, replayed, issuedFromEmpty, FromEmpty, Replayed}
 
 -- the edit that the words say, by their kind
 module _ (pool ws : List ℕ) where
@@ -168,17 +168,6 @@ cleared-empty d e =
     (λ u. let l = leb-true imageSize (length d) u in rw u (whole-valid d l start start-fine outside-none, whole-ledger d l start start-fine outside-none))
     (λ u. let z : _≡_ {A = ℕ} 0 1 = cc (rw u at e) in absurd (omega arith))
 
--- memory that is refused is kept
-pub short-kept : (d code letters answers places img : List ℕ) (n p : ℕ) (a : Reply) → a ≡ declined n p → outcome a img ≡ cleared d
-    → Replayed d code letters answers places (replaying (declined n p) img answers places)
-unfolding replayed
-short-kept d code letters answers places img n p a q e = record {
-  whole =
-      ap (λ (x : Reply). throughBy x (taken code letters answers places) img answers places) (sym q)
-      ∙ ap (λ (o : Edited). throughBy (o .reply) (taken code letters answers places) (o .image) answers places) e;
-  claim = λ u. let z : _≡_ {A = ℕ} 0 1 = cc in absurd (omega arith);
-}
-
 -- the claim holds of the edits es, wherever they come from
 pub from-empty : (es : List Edit) → ((k : ℕ) → k < length es → FilledEdit (getD es k (Drop 0))) → (d answers places : List ℕ) → cleared d .reply ≡ accepted
     → FromEmpty es d answers places (through es (cleared d .image) answers places)
@@ -197,6 +186,33 @@ from-empty es w d answers places a =
       apart = rw n (λ i j u v e. omega (arith, issued-rise es start i j u v));
     }
 
+-- a replay that is accepted was not refused at the start
+cleared-by : (a : Reply) (es : List Edit) (d answers places : List ℕ) → throughBy a es d answers places .reply ≡ accepted → a ≡ accepted
+cleared-by accepted es d answers places u = u
+cleared-by (declined n p) es d answers places u = u
+
+-- what is replayed makes the claim
+pub as-replayed : (d code letters answers places : List ℕ) (r : Replay) → r ≡ replayed d code letters answers places → Replayed d code letters answers places r
+unfolding replayed
+as-replayed d code letters answers places r e =
+    let es : List Edit = taken code letters answers places in
+    record {
+      whole = e;
+      claim = λ u.
+          let a : cleared d .reply ≡ accepted = cleared-by (cleared d .reply) es (cleared d .image) answers places (sym (ap (λ (x : Replay). x .reply) e) ∙ u) in
+          let w : r ≡ through es (cleared d .image) answers places = e ∙ ap (λ (x : Reply). throughBy x es (cleared d .image) answers places) a in
+          rw w (from-empty es (coded-filled (turns (length code) (length answers) (length places)) letters code) d answers places a);
+    }
+
+-- memory that is refused is kept
+pub short-kept : (d code letters answers places img : List ℕ) (n p : ℕ) (a : Reply) → a ≡ declined n p → outcome a img ≡ cleared d
+    → Replayed d code letters answers places (replaying (declined n p) img answers places)
+unfolding replayed
+short-kept d code letters answers places img n p a q e =
+    as-replayed d code letters answers places _
+    (ap (λ (x : Reply). throughBy x (taken code letters answers places) img answers places) (sym q)
+    ∙ ap (λ (o : Edited). throughBy (o .reply) (taken code letters answers places) (o .image) answers places) e)
+
 -- memory that is cleared, and the edits that are taken
 pub long-enough : (d code letters answers places img : List ℕ) (a : Reply) → a ≡ accepted → outcome a img ≡ cleared d
     → (n : ℕ) → n ≡ turns (length code) (length answers) (length places) → (img′ answers′ places′ : List ℕ)
@@ -206,9 +222,7 @@ unfolding replayed
 long-enough d code letters answers places img a q c n t img′ answers′ places′ e =
     let y : cleared d .reply ≡ accepted = sym (ap (λ (o : Edited). o .reply) c) ∙ q in
     let i : img ≡ cleared d .image = ap (λ (o : Edited). o .image) c in
-    let w : replaying accepted img′ answers′ places′ ≡ through (taken code letters answers places) (cleared d .image) answers places =
-    e ∙ ap₂ (λ (k : ℕ) (x : List ℕ). through (codedEdits k letters code) x answers places) t i in
-    record {
-      whole = w ∙ ap (λ (x : Reply). throughBy x (taken code letters answers places) (cleared d .image) answers places) (sym y);
-      claim = λ u. rw w (from-empty (taken code letters answers places) (coded-filled (turns (length code) (length answers) (length places)) letters code) d answers places y);
-    }
+    as-replayed d code letters answers places _
+    (e
+    ∙ (ap₂ (λ (k : ℕ) (x : List ℕ). through (codedEdits k letters code) x answers places) t i
+    ∙ ap (λ (x : Reply). throughBy x (taken code letters answers places) (cleared d .image) answers places) (sym y)))
