@@ -37,7 +37,7 @@ pub fn state_count(words: &[u16], at: usize) -> usize
 }
 
 // The lent tables with their state counts as read from the words. Whether they are usable is the walk's to say, with 16 and 22.
-pub fn compile<'a>(words: &'a [u16], sets: &'a [u64]) -> Compiled<'a>
+fn compile<'a>(words: &'a [u16], sets: &'a [u64]) -> Compiled<'a>
     ensures { λ r. ⌜ r ≡ compiledOf (words .entry) (sets .entry) ⌝ }
 {
     let left_states = state_count(words, tables::LEFT_COUNT);
@@ -77,7 +77,7 @@ pub fn speak<'a>(
 }
 
 // Plain parameters only: the words are compiled, and the sound name that is not on the list is sent through, under the same conditions.
-pub fn speak_words<'a>(
+fn speak_words<'a>(
     words: &'a [u16],
     sets: &'a [u64],
     image: &[u8],

@@ -19,8 +19,8 @@ use Rattle.image.specs.Image.{ledgerOf, valid, entriesOf, literalsOf}
 use Rattle.history.specs.Replay.{Replay, FromEmpty, Replayed}
 use Rattle.history.proofs.EveryList.{replay-accepted}
 use Rattle.fitting.specs.Fitting.{Str}
-use Rattle.speech.specs.Speech.{Outcome, speaks, declines, phonesOf, numbersOf, delivered, plainOutcome, plainSaid}
-use Rattle.speech.proofs.ListedNames.{sayingListed, listed-said}
+use Rattle.speech.specs.Speech.{Outcome, speaks, declines, phonesOf, numbersOf, delivered, sayingListed, plainOutcome, plainSaid}
+use Rattle.speech.proofs.ListedNames.{listed-said}
 use Rattle.tables.specs.Words.{editsIn, wordsFor, setsFor, Built, built}
 use Rattle.tables.specs.Walk.{Walked, walkSaid}
 use Rattle.tables.proofs.Theorem.{table-theorem, steps-theorem, steps-whole}

@@ -14,13 +14,9 @@ use Rattle.rules.specs.Shape.{Entry}
 use Rattle.image.specs.Image.{entriesOf, valid, entryAt, countOf, classesOf}
 use Rattle.image.proofs.Entries.{entry-shaped, entries-length}
 use Rattle.fitting.specs.Fitting.{Str, fitsBy}
-use Rattle.fitting.specs.Reading.{Application, apply, chosen, nothing, unusable, past, passing, firstRule, firstFit}
+use Rattle.fitting.specs.Reading.{Application, apply, chosen, nothing, unusable, past, Targets, passing, firstRule, firstFit}
 use Rattle.fitting.specs.declared.Fit.the-variants.{Rule, Nothing}
 use Rattle.fitting.specs.Search.{FitAt}
-
--- each rule of the list has a target
-abbrev pub Targets : List Entry → Type 0
-Targets l = (p : ℕ) → p < length l → 0 < length (getD l p noEntry .rule .target)
 
 pub valid-targets : (d : List ℕ) → valid d ≡ true → Targets (entriesOf d)
 valid-targets d ok p h = entry-shaped d ok p (omega (arith, entries-length d)) .target-least

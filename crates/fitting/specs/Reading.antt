@@ -1,13 +1,14 @@
 -- Reading a word: document 01, "Letters, rules, fitting", last bullet; document 02, requests 4 and 5. The choice at a reached letter is a parameter,
 -- since the walk reads in the same way and chooses through its tables.
 -- Assumes nothing.
-use Prim.Native.Nat.{ℕ, zero, suc, _+_}
+use Prim.Native.Nat.{ℕ, zero, suc, _+_, _<_}
 use mathlib.Core.Bool.{Bool, cond}
 use mathlib.Core.List.{List, [], _∷_, _++_}
 use lib.Dec.{ltb}
-use lib.ListN.{length}
+use lib.ListN.{length, getD}
 use Rattle.rules.specs.Shape.{Entry}
 use Rattle.classes.specs.Classes.{Classes}
+use Rattle.image.specs.State.{noEntry}
 use Rattle.fitting.specs.Fitting.{Str, frame, fitsBy, fits}
 
 -- what a rule gives where it is applied, whatever its contexts are, and how many rules fit there
@@ -59,6 +60,10 @@ onward (chosen a) i go = cons (applied a) (go (past i a))
 onward nothing i go = uncovered i
 onward unusable i go = badTables
 
+-- each rule of the list has a target
+abbrev pub Targets : List Entry → Type 0
+Targets l = (p : ℕ) → p < length l → 0 < length (getD l p noEntry .rule .target)
+
 -- Reading from i to n, with at most k rules applied; n are enough, since targets are not empty.
 abbrev pub readFrom : (ℕ → Choice) → ℕ → ℕ → ℕ → Reading
 readFrom choose n zero i = finished []
@@ -86,7 +91,7 @@ firstFit k rules f i = firstOf (λ r. fitsBy k (r .rule) f i) rules
 unfoldable pub plain : Classes → List Entry → Str → Reading
 plain k rules w = readFrom (firstFit k rules (frame w)) (length w) (length w) 1
 
--- ---- the same with literal rules (plain-literals, proofs/Expansion.antt)
+-- ---- the same with literal rules (plain-literals, crate reading)
 
 abbrev pub firstLiteral : List Entry → Str → ℕ → Choice
 firstLiteral rules f i = firstOf (λ r. fits (r .rule) f i) rules

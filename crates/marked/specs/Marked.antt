@@ -58,7 +58,7 @@ pub data Result : Type 0 where
 
 pub data Answer : Type 0 where
   said : Result → Result → ℕ → Answer
-  counted : ℕ → ℕ → List Str → Answer
+  numbered : ℕ → ℕ → List Str → Answer
   state : ℕ → Answer
   held : List ℕ → Answer
 
@@ -74,7 +74,7 @@ byTables name = judgedFor noList name (walkThrough compiled 0 literalRules name)
 
 abbrev pub answer : Question → Answer
 answer (spoken name) = said (resultOf (byRules name)) (resultOf (byTables name)) (stepsOf (byTables name))
-answer strings = counted (compiled .«left-states») (compiled .«right-states») (states (map rightPattern literalRules))
+answer strings = numbered (compiled .«left-states») (compiled .«right-states») (states (map rightPattern literalRules))
 answer (step q c) = state (rightOf compiled .next q c)
 answer (firstWords qs) = held (map (λ q. getD (compiled .sets) (rightSets (compiled .«left-states») + setSize * q) 0) qs)
 
@@ -112,7 +112,7 @@ answers =
     ∷ both (phones (0x69 ∷ []) (4 ∷ 3 ∷ []) 2) 8
     ∷ both (phones (0x6e ∷ []) (1 ∷ 6 ∷ []) 1) 6
     ∷ both (phones (0x6b ∷ 0x6b ∷ 0x6e ∷ []) (2 ∷ 2 ∷ 6 ∷ []) 0) 8
-    ∷ counted 2 8 ([] ∷ (0x0e ∷ []) ∷ (0x0e ∷ 0x0b ∷ []) ∷ (0x0b ∷ []) ∷ (0 ∷ []) ∷ (0 ∷ 0x05 ∷ []) ∷ (0x05 ∷ []) ∷ (0x05 ∷ 0x05 ∷ []) ∷ [])
+    ∷ numbered 2 8 ([] ∷ (0x0e ∷ []) ∷ (0x0e ∷ 0x0b ∷ []) ∷ (0x0b ∷ []) ∷ (0 ∷ []) ∷ (0 ∷ 0x05 ∷ []) ∷ (0x05 ∷ []) ∷ (0x05 ∷ 0x05 ∷ []) ∷ [])
     ∷ state 7
     ∷ held (3 ∷ 20 ∷ 24 ∷ [])
     ∷ []

@@ -84,7 +84,7 @@ pub record Sized (m : Memory) : Type 0 where
   pub left : length (m .left) ≡ frameSize
   pub right : length (m .right) ≡ frameSize
 
--- whether the passes of a word lead to no state out of range, where the lengths fit; and their steps
+-- whether the passes of a word lead to no state out of range, where the tables are `fit`: of the right lengths, with the ruleset's edit count; and their steps
 abbrev pub passable : List ℕ → ℕ → ℕ → Bool → Str → Bool
 passable ws l r fit w = fit && walkUsable (leftRowsOf ws l) (rightRowsOf ws l r) (frame w) (length w)
 
@@ -115,7 +115,7 @@ pub record WordPassed (ws : List ℕ) (l r : ℕ) (fit : Bool) (list : List ℕ)
   pub steps : getD (m′ .found) b 0 ≡ 0 → p .usable ≡ true → p .steps ≡ stepsOn ws l r w
   pub states : getD (m′ .found) b 0 ≡ 0 → p .usable ≡ true → Remembered ws l r w b m′
 
--- what is known of the word w after b bytes when all passes are done: its part, or that the lengths fit, and its states
+-- what is known of the word w after b bytes when all passes are done: its part, or that the tables are fit, and its states
 pub record Known (ws : List ℕ) (l r : ℕ) (fit : Bool) (list : List ℕ) (w : Str) (b : ℕ) (m : Memory) : Type 0 where
   pub part : FoundFor list w (getD (m .found) b 0)
   pub fits : getD (m .found) b 0 ≡ 0 → fit ≡ true

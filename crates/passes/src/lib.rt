@@ -119,7 +119,8 @@ fn run_passes(
     )
 }
 
-// The passes of one word, where the list gives no part for it; that part, or 0, goes to `found`. Where the lengths do not fit, no word can pass.
+// The passes of one word, where the list gives no part for it; that part, or 0, goes to `found`. Where the tables are not `fit`,
+// of other lengths or another edit count, no word can pass.
 fn run_word(
     words: &[u16],
     left_states: usize,

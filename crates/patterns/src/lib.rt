@@ -1,4 +1,4 @@
-// The patterns of one side of a ruleset's tables, laid for the row filler (document 01, "The tables"): those of the literal rules, the left ones
+// The patterns of one side of a ruleset's tables, laid for the row filler (document 01, "The tables"): those of the literal rules, the right ones
 // from their end.
 ghost use mathlib.Core.Path.{_≡_};
 ghost use Prim.Native.Nat.{_+_, _/_, _≤_, _<_};

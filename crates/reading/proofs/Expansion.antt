@@ -24,10 +24,9 @@ use Rattle.classes.proofs.Grid.{any-map, any-and, any-or, any-none, any-count, 
 use Rattle.image.specs.Image.{valid, entriesOf, classesOf, literalsOf}
 use Rattle.image.proofs.Literals.{classes-proper, literals-shaped}
 use Rattle.fitting.specs.Fitting.{Str, frame, same, starts, ends, fits, sameBy, startsBy, endsBy, fitsBy}
-use Rattle.fitting.specs.Reading.{Application, apply, Choice, chosen, readFrom, firstRule, passing, firstFit, firstLiteral, plain, plainLiteral, Reading}
+use Rattle.fitting.specs.Reading.{Application, apply, Choice, chosen, Targets, readFrom, firstRule, passing, firstFit, firstLiteral, plain, plainLiteral, Reading}
 use Rattle.speech.specs.Words.{wordsIn, readWords}
 use Rattle.speech.specs.Speech.{plainWords, literalWords}
-use Rattle.fitting.proofs.Search.{Targets}
 use Rattle.fitting.proofs.Strings.{starts-append, starts-long, starts-same, ends-long, ends-same}
 
 -- ---- one of the choices of a string is, starts or ends a given string

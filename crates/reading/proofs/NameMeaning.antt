@@ -10,21 +10,17 @@ use native.Mathlib.Omega.{arith}
 use Rattle.rules.specs.Shape.{Entry}
 use Rattle.classes.specs.Classes.{Classes}
 use Rattle.fitting.specs.Fitting.{Str}
-use Rattle.fitting.specs.Reading.{Piece, listed, Reading, finished, uncovered, plain}
+use Rattle.fitting.specs.Reading.{Piece, listed, Reading, finished, uncovered, Targets, plain}
 use Rattle.speech.specs.Words.{Word, inName, phonesOr, readWord, followed, readWords}
 use Rattle.reading.specs.Meaning.{Uncovered, piecesOf, SaidWord, fromList, byRules, SaidWords, none, next, UncoveredIn, here, later}
-use Rattle.fitting.proofs.Search.{Targets}
+use Rattle.reading.specs.Endings.{WordsEnding, finish, stop}
 use Rattle.reading.proofs.WordReading.{listed-word}
 use Rattle.reading.proofs.Meaning.{Ending, ended, stuck, plain-ends, reads-finished, is-uncovered}
 
--- what a word, and what words come to, with the meaning of each
+-- what a word comes to, with its meaning
 data WordEnding (k : Classes) (rules : List Entry) (m : Str → Str) (w : Word) : Type 0 where
   said : (xs : List Piece) → SaidWord k rules m w xs → readWord m (plain k rules) w ≡ finished xs → WordEnding k rules m w
   unsaid : (i : ℕ) → m (w .letters) ≡ [] → Uncovered k rules (w .letters) i → readWord m (plain k rules) w ≡ uncovered (w .before + i) → WordEnding k rules m w
-
-pub data WordsEnding (k : Classes) (rules : List Entry) (m : Str → Str) (ws : List Word) : Type 0 where
-  finish : (xs : List Piece) → SaidWords k rules m ws xs → readWords m (plain k rules) ws ≡ finished xs → WordsEnding k rules m ws
-  stop : (i : ℕ) → UncoveredIn k rules m ws i → readWords m (plain k rules) ws ≡ uncovered i → WordsEnding k rules m ws
 
 module _ (k : Classes) (rules : List Entry) (m : Str → Str) (targets : Targets rules) where
   read-by : (w : Word) → m (w .letters) ≡ [] → (r : Reading) → plain k rules (w .letters) ≡ r → readWord m (plain k rules) w ≡ inName (w .before) r

@@ -15,21 +15,14 @@ use Rattle.exceptions.specs.Judging.{Listing}
 use Rattle.classes.specs.Classes.{Classes}
 use Rattle.image.specs.Image.{valid, entriesOf, classesOf}
 use Rattle.fitting.specs.Fitting.{Str}
-use Rattle.fitting.specs.Reading.{Piece, listed, Reading}
+use Rattle.fitting.specs.Reading.{Piece, listed, Reading, Targets}
 use Rattle.speech.specs.Words.{wordsIn}
 use Rattle.speech.specs.Speech.{Outcome, speaks, declines, atOnce, stepsOf, answered, Following, saidOf, Unlisted, phonesOf, numbersOf, spoken, refused, saying, delivered, plainWords, plainOutcome, plainSaid}
 use Rattle.reading.specs.Meaning.{UncoveredIn}
+use Rattle.reading.specs.Endings.{WordsEnding, finish, stop, WantsRule}
 use Rattle.speech.proofs.Call.{call-unlisted, CallCase, refuses, lists, follows, call-case}
-use Rattle.fitting.proofs.Search.{Targets, valid-targets}
-use Rattle.reading.proofs.NameMeaning.{WordsEnding, finish, stop, words-end, uncovered-stops}
-
--- reading for want of a rule ends at i: the call is not refused before it reads, the name is not on the list, and no rule covers the letter at i of
--- its words
-pub record WantsRule (image : List ℕ) (l : Listing) (name : Str) (i : ℕ) : Type 0 where
-  pub is-valid : valid image ≡ true
-  pub is-sound : SoundName name
-  pub unlisted : Unlisted l name
-  pub bare : UncoveredIn (classesOf image) (entriesOf image) (saidOf l) (wordsIn name) i
+use Rattle.fitting.proofs.Search.{valid-targets}
+use Rattle.reading.proofs.NameMeaning.{words-end, uncovered-stops}
 
 -- what is said of a sound name that is not on the list, with a valid ruleset
 pub plain-delivered : (image : List ℕ) (l : Listing) (name : Str) (phones numbers : List ℕ) → valid image ≡ true → SoundName name → Unlisted l name

@@ -140,7 +140,7 @@ fn read_listed(
 }
 
 // The plain reading of a name, for a caller that knows the image to be a ruleset and the list to be one.
-pub fn read_known(
+fn read_known(
     image: &[u8],
     list: &[u32],
     name: &[u8],

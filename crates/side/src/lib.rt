@@ -14,7 +14,6 @@ ghost use Rattle.side.specs.Steps.{cell, run, part, Inside, Symbols, Des
 ghost use Rattle.tables.specs.States.{states};
 ghost use Rattle.side.specs.Filled.{Level, Owned, Raised, sideRows, sideSets};
 
-// The most symbols that a pattern has.
 // ---- rows
 
 // A new state's row has no child.

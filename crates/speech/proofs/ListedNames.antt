@@ -3,24 +3,17 @@
 use Prim.Native.Nat.{ℕ}
 use mathlib.Core.Path.{_≡_, ap, _∙_}
 use mathlib.Core.List.{List, [], _∷_, append-nil}
-use mathlib.Core.Bool.{true, cond}
+use mathlib.Core.Bool.{true}
 use native.Mathlib.Omega.{arith}
 use borrow.Author.Tests.{le-leb}
-use lib.Dec.{leb}
 use lib.ListN.{length}
-use Rattle.rules.specs.Memory.{over}
 use Rattle.rules.specs.Names.{SoundName}
 use Rattle.exceptions.specs.Judging.{Listing}
 use Rattle.image.specs.Image.{valid, entriesOf, classesOf}
 use Rattle.fitting.specs.Fitting.{Str}
 use Rattle.fitting.specs.Reading.{listed}
-use Rattle.speech.specs.Speech.{Outcome, speaks, answered, ListedAs, spoken, refused, Said as Told, saying, delivered, plainWords, plainSaid}
+use Rattle.speech.specs.Speech.{Outcome, speaks, answered, ListedAs, delivered, sayingListed, plainWords, plainSaid}
 use Rattle.speech.proofs.Call.{call-listed}
-
--- the phones p at the front of the lent bytes, no number and no contested letter, or 4 with the phones needed
-abbrev pub sayingListed : Str → List ℕ → List ℕ → Told
-sayingListed p phones numbers =
-    cond (leb (length p) (length phones)) (saying (spoken (length p) 0 0) (over p phones) numbers) (saying (refused 4 (length p)) phones numbers)
 
 pub listed-delivered : (p : Str) (phones numbers : List ℕ) → delivered (speaks (listed p ∷ []) 0) phones numbers ≡ sayingListed p phones numbers
 listed-delivered p phones numbers = rw (append-nil p, le-leb 0 (length numbers) (omega arith))

@@ -138,6 +138,12 @@ delivered (speaks xs steps) phones numbers =
     (saying (refused 5 (length (numbersOf xs))) phones numbers))
     (saying (refused 4 (length (phonesOf xs))) phones numbers)
 
+-- so is a listed name said: the phones p at the front of the lent bytes, no number and no contested letter, or 4 with the phones needed
+-- (listed-delivered, proofs/ListedNames.antt)
+abbrev pub sayingListed : Str → List ℕ → List ℕ → Said
+sayingListed p phones numbers =
+    cond (leb (length p) (length phones)) (saying (spoken (length p) 0 0) (over p phones) numbers) (saying (refused 4 (length p)) phones numbers)
+
 -- the plain reading of a name's words, with the list m
 abbrev pub plainWords : Classes → List Entry → Str → (Str → Str) → Reading
 plainWords k rules name m = readWords m (plain k rules) (wordsIn name)

@@ -19,10 +19,9 @@ use Rattle.image.proofs.Literals.{total-is}
 use Rattle.literals.specs.Places.{literalEntry}
 use Rattle.literals.proofs.Places.{literal-applied}
 use Rattle.fitting.specs.Fitting.{Str, fits}
-use Rattle.fitting.specs.Reading.{Application, apply, Choice, chosen, nothing, unusable, past}
+use Rattle.fitting.specs.Reading.{Application, apply, Choice, chosen, nothing, unusable, past, Targets}
 use Rattle.speech.specs.Places.{partOf, applyAt, ReadBy}
 use Rattle.speech.specs.declared.Reached.the-variants.{Rules, Uncovered, BadTables}
-use Rattle.fitting.proofs.Search.{Targets}
 use Rattle.reading.proofs.Expansion.{literals-targets}
 use Rattle.reading.proofs.Loop.{Going, going-begin}
 use Rattle.reading.proofs.Plain.{going-part, read-none, read-unusable, read-end}

@@ -42,7 +42,7 @@ fn steps_with(reached: Reached, steps: usize) -> usize
     }
 }
 
-// The set word with which the right sets begin; where the lengths do not fit, no set is looked at.
+// The set word with which the right sets begin; where lengths or edit count do not fit, no set is looked at.
 fn right_base(fit: bool, left_states: usize) -> usize
     requires { ⌜ (fit ≡ true → rightSets «left_states» < 18446744073709551616) ⌝ }
     ensures { λ r. ⌜ r ≡ cond fit (rightSets «left_states») 0 ⌝ }
