@@ -1,7 +1,7 @@
 -- Tables that were built before edits: the edit count only rises, so after an accepted addition, drop or move they carry another one; without one, a
 -- build would write the same words.
 -- Assumes nothing.
-use Prim.Native.Nat.{ℕ, _+_, _<_, _≤_}
+use Prim.Native.Nat.{ℕ, _+_, _<_}
 use mathlib.Core.Path.{_≡_, refl, sym, ap, _∙_}
 use mathlib.Core.Bool.{true}
 use mathlib.Core.List.{List}

@@ -1,7 +1,7 @@
 -- Demand 3 of document 01 over the list of edits itself: for every list of edits, the tables built after it and every name, with whatever memory and
 -- exceptions list are lent. `EndToEnd` says it of the edits that a lent code says; here the code is the list's own.
 -- Assumes nothing.
-use Prim.Native.Nat.{ℕ, _≤_, _<_}
+use Prim.Native.Nat.{_≤_, _<_}
 use mathlib.Core.Path.{_≡_}
 use mathlib.Core.List.{List}
 use lib.ListN.{length}

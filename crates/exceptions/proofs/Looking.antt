@@ -9,12 +9,14 @@ use lib.ListN.{length, getD, take, drop, List·getD-append}
 use lib.Seq.{length-take-le, take-length, ext-getD, getD-append-add, getD-drop, getD-take, paste, length-paste}
 use native.Mathlib.Nat.{add-assoc}
 use borrow.Author.Tests.{le-leb, lt-leb}
+use Rattle.rules.specs.Limits.{maxListedPhones}
 use Rattle.rules.specs.Memory.{over}
 use Rattle.rules.proofs.Memory.{over-length}
 use Rattle.automaton.specs.Automaton.{Str, Rows, rowsOf, phonesAt, Laid, endState, look, Letters, Sound}
 use Rattle.automaton.proofs.Tests.{byLess}
 use Rattle.states.specs.States.{Written, EndAsks}
 use Rattle.packing.specs.Packing.{unpack, byteOf, said, StateAsks}
+use Rattle.packing.proofs.StatePhones.{upTo-long}
 use Rattle.phone_strings.specs.Packed.{Packed}
 use Rattle.phone_strings.specs.Groups.{byteFrom, HoldsPhones}
 use Rattle.exceptions.specs.Layout.{listSize, wordsOf, startOf, phonesFor, phonesEnding}
@@ -208,6 +210,11 @@ empty-unsaid ws l = ap unpack (l .lettered)
 pub says-empty : (list : List ℕ) → KnownList list → saysOf list [] ≡ []
 says-empty list k =
     byLess (length list) listSize (λ i. says-none list i []) (λ i. let h = k (omega arith) in says-list list h [] ∙ empty-unsaid (wordsOf list) (list-facts list h))
+
+-- no name has more phones
+pub phones-most : (ws : List ℕ) (w : Str) → length (phonesFor ws w) ≤ maxListedPhones
+unfolding phonesFor unpack
+phones-most ws w = upTo-long 64 (byteOf (look (rowsOf ws) (startOf ws) w))
 
 -- what a state found in the words of a lent list says
 pub ends-list : (list : List ℕ) → isList list ≡ true → (w : Str) (r : Ending) → EndsIn (take 35886 list) w r → EndsInList list w r
