@@ -1,20 +1,32 @@
 -- Where literal rule j of a rule fits, part by part: its target, then its right context, then its left context with what is left of j.
 -- Assumes nothing.
-use Prim.Native.Nat.{ℕ, _+_, _/_, _≤_}
+use Prim.Native.Nat.{ℕ, _+_, _-_, _/_, _≤_}
 use mathlib.Core.Path.{_≡_, sym, ap, ap₂, _∙_}
+use mathlib.Core.List.{[], _∷_}
 use mathlib.Core.Bool.{Bool, true, false, _&&_}
 use native.Mathlib.Omega.{arith}
-use lib.ListN.{length, take, drop, length-drop}
+use lib.ListN.{length, take, drop, length-drop, drop-of-length-le}
 use lib.Seq.{drop-drop}
 use Rattle.rules.specs.Shape.{Production}
 use Rattle.classes.specs.Classes.{Classes}
 use Rattle.classes.specs.Expansion.{size}
 use Rattle.classes.specs.Ordinal.{choiceAt, literalAt}
 use Rattle.classes.specs.declared.Rest.the-variants.{Differs, Next}
-use Rattle.fitting.specs.Fitting.{Str, starts, ends, fits}
-use Rattle.fitting.proofs.Strings.{and-turn, starts-append, starts-most}
+use Rattle.classes.proofs.Ordinal.{choice-none}
+use Rattle.fitting.specs.Fitting.{Str, same, starts, ends, fits}
+use Rattle.fitting.proofs.Strings.{and-turn, starts-append, starts-most, ends-same}
 use Rattle.literals.specs.Matching.{started, ruleWith}
 use Rattle.literals.proofs.Matching.{started-no, started-yes, started-rest}
+
+-- a context without symbols is met everywhere
+module _ (k : Classes) (j : ℕ) (w : Str) where
+  starts-without : (s : Str) → length s ≡ 0 → starts (choiceAt k s j) w ≡ true
+  starts-without [] e = ap (λ (x : Str). starts x w) (choice-none k j)
+  starts-without (x ∷ s) e = absurd (omega arith)
+
+  ends-without : (s : Str) → length s ≡ 0 → ends (choiceAt k s j) w ≡ true
+  ends-without [] e = ap (λ (x : Str). ends x w) (choice-none k j) ∙ (ends-same [] w (omega arith) ∙ ap (same []) (drop-of-length-le w {i = length w - 0} (omega arith)))
+  ends-without (x ∷ s) e = absurd (omega arith)
 
 module _ (k : Classes) (left target right : Str) (j : ℕ) (f : Str) (i : ℕ) where
   abbrev rule : Production
@@ -45,3 +57,11 @@ module _ (k : Classes) (left target right : Str) (j : ℕ) (f : Str) (i : ℕ) w
     by-left q e b g =
         g ∙ (ap (λ (n : ℕ). ends (choiceAt k left n) (take i f)) (sym (started-rest k right rest j q e))
         ∙ sym (parts ∙ ap₂ (λ (x y : Bool). x && (y && ends (rule .left) (take i f))) yes (started-yes k right rest j q e)))
+
+    -- a rule without contexts fits where its target does
+    pub no-contexts : length left + length right ≡ 0 → true ≡ fits rule f i
+    no-contexts e =
+        let l : length left ≡ 0 = omega arith in
+        let r : length right ≡ 0 = omega arith in
+        sym (parts ∙ (ap (λ (b : Bool). b && (starts (rule .right) rest && ends (rule .left) (take i f))) yes
+        ∙ ap₂ _&&_ (starts-without k j rest right r) (ends-without k (j / size k right) (take i f) left l)))

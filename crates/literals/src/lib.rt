@@ -74,8 +74,8 @@ fn target_end(target: &[u8], frame: &[u8], i: usize) -> usize
     i + target.len()
 }
 
-// Where the target of literal rule `j` of a rule ends if it fits at `i`, else 0. The target is tested first: it decides soonest. What the right
-// context leaves of `j` is the left one's.
+// Where the target of literal rule `j` of a rule ends if it fits at `i`, else 0. The target is tested first: it decides soonest; of a rule
+// without contexts, which most letters take, it decides alone. What the right context leaves of `j` is the left one's.
 fn literal_end(
     masks: &[u8],
     left: &[u8],
@@ -91,6 +91,9 @@ fn literal_end(
     let end = target_end(target, frame, i);
     if end == 0 {
         return 0;
+    }
+    if left.len() + right.len() == 0 {
+        return end;
     }
     let rest = starts_choice(masks, right, j, frame, end);
     let Rest::Next(q) = rest else {
