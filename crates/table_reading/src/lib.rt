@@ -20,8 +20,13 @@ enum Found {
     Empty,
 }
 
-// The lowest set bit of the eight words in which the sets from `s` and from `t` on meet.
-fn lowest_place(sets: &[u64], s: usize, t: usize) -> Found
+// The most literal rules for which the first word that shares a place ends the search: their places lie in at most five words. The rules of real
+// rulesets lead to the same words again and again, which a processor guesses; among many rules drawn at random it guesses wrong, and to look at
+// all words is faster.
+const EARLY_EXIT_RULES: usize = 64 * 5;
+
+// The lowest set bit of the eight words in which the sets from `s` and from `t` on meet, word by word up to the first that has one.
+fn lowest_from(sets: &[u64], s: usize, t: usize) -> Found
     requires { ⌜ (s + setSize ≤ length (now sets)) × (t + setSize ≤ length (now sets)) ⌝ }
     ensures { λ r. ⌜ r ≡ foundOf (lowestShared (now (sets .entry)) s t) ⌝ }
 {
@@ -35,6 +40,39 @@ fn lowest_place(sets: &[u64], s: usize, t: usize) -> Found
         j += 1;
     }
     Found::Empty
+}
+
+// The same from the last word down, all words looked at: `k` is the lowest from `j` on that has a bit set.
+fn lowest_of_all(sets: &[u64], s: usize, t: usize) -> Found
+    requires { ⌜ (s + setSize ≤ length (now sets)) × (t + setSize ≤ length (now sets)) ⌝ }
+    ensures { λ r. ⌜ r ≡ foundOf (lowestShared (now (sets .entry)) s t) ⌝ }
+{
+    let mut k: usize = tables::SET;
+    let mut j: usize = tables::SET;
+    while 0 < j {
+        j -= 1;
+        let x = sets[s + j] & sets[t + j];
+        if u64::trailing_zeros(x) < 64 {
+            k = j;
+        }
+    }
+    if k < tables::SET {
+        let y = sets[s + k] & sets[t + k];
+        let z = u64::trailing_zeros(y) as usize;
+        return Found::Place(64 * k + z);
+    }
+    Found::Empty
+}
+
+// The lowest place that the sets from `s` and from `t` on share, of `total` literal rules.
+fn lowest_place(sets: &[u64], s: usize, t: usize, total: usize) -> Found
+    requires { ⌜ (s + setSize ≤ length (now sets)) × (t + setSize ≤ length (now sets)) ⌝ }
+    ensures { λ r. ⌜ r ≡ foundOf (lowestShared (now (sets .entry)) s t) ⌝ }
+{
+    if total <= EARLY_EXIT_RULES {
+        return lowest_from(sets, s, t);
+    }
+    lowest_of_all(sets, s, t)
 }
 
 // How many places a word of one set and a word of another share.
@@ -81,7 +119,7 @@ fn choose(
     requires { ⌜ (s + setSize ≤ length (now sets)) × (t + setSize ≤ length (now sets)) × (valid (now image) ≡ true) × (total ≡ totalOf (now image)) × (1 ≤ i) × (i < length (now frame)) ⌝ }
     ensures { λ r. ⌜ Chooses (now (image .entry)) (choiceBy (now (image .entry)) (now (sets .entry)) s t (now (frame .entry)) i) i r ⌝ }
 {
-    let found = lowest_place(sets, s, t);
+    let found = lowest_place(sets, s, t, total);
     let Found::Place(place) = found else {
         return Chosen::Nothing;
     };

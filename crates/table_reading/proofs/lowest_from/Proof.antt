@@ -1,4 +1,4 @@
--- `table_reading::lowest_place` meets its contract. The loop's invariant: the lowest shared place is the lowest from word j on.
+-- `table_reading::lowest_from` meets its contract. The loop's invariant: the lowest shared place is the lowest from word j on.
 -- Assumes nothing.
 use mathlib.Core.Path.{_≡_, refl, sym, ap, _∙_}
 use Prim.Native.Nat.{_-_, _≤_}
@@ -8,8 +8,8 @@ use lib.Count.{trailing-le}
 use Rattle.tables.specs.SetWords.{lowestFrom, meetWord}
 use Rattle.tables.proofs.SetWords.{from-found, from-next, from-end}
 use Rattle.table_reading.specs.Letters.{foundOf}
-use Rattle.table_reading.proofs.lowest_place.Statement.{statement}
-use Rattle.table_reading.proofs.lowest_place.Tie as tie
+use Rattle.table_reading.proofs.lowest_from.Statement.{statement}
+use Rattle.table_reading.proofs.lowest_from.Tie as tie
 
 abbrev Inv-loop : tie.InvT-loop
 Inv-loop sets s t j₀ j = (j ≤ 8) × (lowestFrom (meetWord sets s t) 0 8 ≡ lowestFrom (meetWord sets s t) j (8 - j))
@@ -70,8 +70,8 @@ returns-2 c =
     let a = meetWord (c .before .before .args .sets .now) (c .before .before .args .s) (c .before .before .args .t) in
     ap foundOf (sym (c .before .loop .inv .1 ∙ from-end a (c .before .loop .j) 8 (omega arith)))
 
-pub lowest-place-spec : {M : Type 1} → statement M
-lowest-place-spec =
+pub lowest-from-spec : {M : Type 1} → statement M
+lowest-from-spec =
     tie.close
     (tie.spec
     Inv-loop
