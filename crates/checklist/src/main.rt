@@ -10,26 +10,47 @@ mod ruleset;
 mod searches;
 mod speaking;
 
+use file_format::MAX_INPUT;
 use items::Item;
 use printing::print;
 use rules::Answer;
+use rules::Refusal;
 ghost use mathlib.Core.Path.{_≡_};
 ghost use mathlib.Core.Bool.{true};
+ghost use Rattle.rules.specs.Refusals.{replyOf, accepted};
 ghost use Rattle.image.specs.Image.{valid};
 
-// The rule file is read and its tables are built; if it is refused, that is the one line.
-fn is_prepared(file: &[u8], image: &mut [u8], words: &mut [u16], sets: &mut [u64]) -> bool
-    ensures { λ r. ⌜ (r ≡ true → valid (now (image .exit)) ≡ true) ⌝ }
+// The one line where rules.hex is refused.
+fn print_refused(x: Refusal) {
+    printing::print_verdict(false);
+    print(b"rules.hex: ");
+    editing::print_refusal(x);
+    print(b"\n");
+}
+
+// Whether a call was accepted; if not, its refusal is printed.
+fn judge(answer: Answer) -> bool
+    ensures { λ r. ⌜ (r ≡ true → replyOf answer ≡ accepted) ⌝ }
 {
-    let answer = loader::prepare(file, image, words, sets);
     if let Answer::Refused(x) = answer {
-        printing::print_verdict(false);
-        print(b"rules.hex: ");
-        editing::print_refusal(x);
-        print(b"\n");
+        print_refused(x);
         return false;
     }
     true
+}
+
+// The rule file is read, then its tables are built.
+fn is_prepared(file: &[u8], image: &mut [u8], words: &mut [u16], sets: &mut [u64]) -> bool
+    ensures { λ r. ⌜ (r ≡ true → valid (now (image .exit)) ≡ true) ⌝ }
+{
+    if MAX_INPUT < file.len() {
+        print_refused(Refusal::BadLine(MAX_INPUT));
+        return false;
+    }
+    if !judge(file::read_file(file, &mut *image)) {
+        return false;
+    }
+    judge(build::build(image, words, sets))
 }
 
 fn try_names<'a>(image: &[u8], words: &'a [u16], sets: &'a [u64])
@@ -60,7 +81,7 @@ fn run<'a>(
 }
 
 fn main() {
-    let mut buf = [0u8; loader::MAX_INPUT + 1];
+    let mut buf = [0u8; MAX_INPUT + 1];
     let mut out = [0u8; file_format::LONGEST_FILE];
     let mut image = [0u8; image::SIZE];
     let mut words = [0u16; tables::WORDS];

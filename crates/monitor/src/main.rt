@@ -131,7 +131,7 @@ fn main() {
     let mut piece = io::buffer();
     let mut line = [0u8; MAX_LINE + 1];
     let mut frame = [0u8; MAX_LINE / 2];
-    let mut file = [0u8; loader::MAX_INPUT + 1];
+    let mut file = [0u8; file_format::MAX_INPUT + 1];
     let mut image = [0u8; image::SIZE];
     let mut list = [0u32; exceptions::SIZE];
     exceptions::clear(&mut list);

@@ -1,5 +1,6 @@
 // The program `say`: the names on standard input, spoken by the rules of rules.hex (document 01, "The six rules"). All that it prints is
 // made by `transcript`; here bytes are read and written.
+use file_format::MAX_INPUT;
 use libc::STDIN_FILENO;
 use libc::STDOUT_FILENO;
 use rules::Answer;
@@ -8,6 +9,7 @@ ghost use mathlib.Core.Path.{_≡_};
 ghost use mathlib.Core.Bool.{true};
 ghost use Prim.Native.Nat.{_<_};
 ghost use lib.ListN.{length};
+ghost use Rattle.rules.specs.Refusals.{replyOf, accepted};
 ghost use Rattle.image.specs.Image.{valid};
 
 // A refusal's line.
@@ -41,12 +43,10 @@ fn say_lines<'a>(image: &[u8], words: &'a [u16], sets: &'a [u64], text: &[u8])
     }
 }
 
-// The rule file is made ready for names; if it is refused, its refusal is printed.
-fn load(buf: &mut [u8], image: &mut [u8], words: &mut [u16], sets: &mut [u64]) -> bool
-    ensures { λ r. ⌜ (r ≡ true → valid (now (image .exit)) ≡ true) ⌝ }
+// Whether a call was accepted; if not, its refusal is printed.
+fn judge(answer: Answer) -> bool
+    ensures { λ r. ⌜ (r ≡ true → replyOf answer ≡ accepted) ⌝ }
 {
-    let n = rules_hex::read(&mut *buf);
-    let answer = loader::prepare(&buf[..n], image, words, sets);
     if let Answer::Refused(x) = answer {
         print_refusal(x);
         return false;
@@ -54,13 +54,28 @@ fn load(buf: &mut [u8], image: &mut [u8], words: &mut [u16], sets: &mut [u64]) -
     true
 }
 
+// The rule file is read, then its tables are built.
+fn load(buf: &mut [u8], image: &mut [u8], words: &mut [u16], sets: &mut [u64]) -> bool
+    ensures { λ r. ⌜ (r ≡ true → valid (now (image .exit)) ≡ true) ⌝ }
+{
+    let n = rules_hex::read(&mut *buf);
+    if MAX_INPUT < n {
+        print_refusal(Refusal::BadLine(MAX_INPUT));
+        return false;
+    }
+    if !judge(file::read_file(&buf[..n], &mut *image)) {
+        return false;
+    }
+    judge(build::build(image, words, sets))
+}
+
 // The names on standard input.
 fn say_all<'a>(buf: &mut [u8], image: &[u8], words: &'a [u16], sets: &'a [u64])
     requires { ⌜ valid (now image) ≡ true ⌝ }
 {
     let n = io::read_full(STDIN_FILENO, &mut *buf);
-    if loader::MAX_INPUT < n {
-        print_refusal(Refusal::BadLine(loader::MAX_INPUT));
+    if MAX_INPUT < n {
+        print_refusal(Refusal::BadLine(MAX_INPUT));
         return;
     }
     say_lines(image, words, sets, &buf[..n]);
@@ -74,7 +89,7 @@ fn run<'a>(buf: &mut [u8], image: &mut [u8], words: &'a mut [u16], sets: &'a mut
 }
 
 fn main() {
-    let mut buf = [0u8; loader::MAX_INPUT + 1];
+    let mut buf = [0u8; MAX_INPUT + 1];
     let mut image = [0u8; image::SIZE];
     let mut words = [0u16; 32768];
     let mut sets = [0u64; 4096];
