@@ -1,5 +1,5 @@
 /*
- * A small host: it reads a rule file, builds the tables, sets a letter class, adds a rule that uses it, writes the file back, lists
+ * A small host: it asks the library for its version, reads a rule file, builds the tables, sets a letter class, adds a rule that uses it, writes the file back, lists
  * exceptions and speaks names, of one word or several, one at a time and many at once, with their contested letters. Since the
  * addition the tables are old: the first name that needs them is refused, and they are built again. Built and run by host/build, or
  * by hand:
@@ -243,6 +243,9 @@ int main(int argc, char **argv)
     static struct lot lot;
     if (argc < 2)
         stop("usage: example RULES.hex NAME..");
+    /* The header that was compiled and the library that is linked may be of different versions. */
+    if (!PIRROZKETA_VERSION_FITS(pirrozketa_version()))
+        stop("the library is not of the header's version");
     read_rules(argv[1]);
     build_tables();
     add_rule();

@@ -2,11 +2,11 @@
  * Pirrozketa: a ruleset that turns typed names into phones, and a list of names that follow no rule, in
  * memory that the host lends.
  *
- * ANSWERS. Every call but those that count (pirrozketa_count, pirrozketa_last, pirrozketa_edits, pirrozketa_list_names,
- * pirrozketa_list_states) answers with a code: PIRROZKETA_ACCEPTED,
+ * ANSWERS. Every call but pirrozketa_version and those that count (pirrozketa_count, pirrozketa_last, pirrozketa_edits,
+ * pirrozketa_list_names, pirrozketa_list_states) answers with a code: PIRROZKETA_ACCEPTED,
  * which is 255, or the number of the refusal, which may be 0. So test it by PIRROZKETA_OK(code), never as a
  * truth value; compilers warn where it is not looked at. A refusal has a place, and leaves all lent memory
- * as it was (pirrozketa_speak_many writes its replies all the same). The numbers that a call gives through
+ * as it was (a refused name among many has its reply written). The numbers that a call gives through
  * pointers are written in every case. What lies past the bytes, phones, numbers or words that a call gives
  * keeps its contents.
  *
@@ -41,12 +41,14 @@
  * pirrozketa_read_name alike; else each of its words that is listed is said from it, and only the other words go
  * by the rules. What is listed gives no rule numbers and takes no steps; where that is all of the name, the tables
  * are not looked at. A listed name may have spaces. A host without exceptions lends an empty list. A change of the
- * list needs no build.
+ * list needs no build. Every call that is lent a list, pirrozketa_list_clear apart, judges all of it each time, and
+ * pirrozketa_speak_many once for its names; that takes longer the more is listed (docs/SPEED.md).
  *
  * CONTESTED. At each letter that reading reaches, the first rule that fits is applied. Where more than one fits, the
- * letter is contested. The calls that speak a name count its contested letters, for those who write rules: above 0, the
- * name leans on the order of the rules, and a rule that is moved may change its sound; at 0, the same rules in any order
- * give the same phones. What is said from the list reaches no letter and counts none. pirrozketa_read_name counts the
+ * letter is contested. The calls that speak a name count its contested letters, for those who write rules. Of a name that
+ * was spoken, a count above 0 means that it leans on the order of the rules, and a rule that is moved may change its sound;
+ * 0 means that the same rules in any order give the same phones. With a refusal the count is 0 as well and means nothing:
+ * in another order the name may be spoken. What is said from the list reaches no letter and counts none. pirrozketa_read_name counts the
  * rules that fit. pirrozketa_speak and pirrozketa_speak_many count by the tables: a letter is contested where the sets of
  * its two states share more than one place. With the tables of the ruleset as it is, that is where more than one rule
  * fits; with others it need not be, since every shared place counts, of a rule that does not fit and past the rules too.
@@ -73,7 +75,11 @@
 
 /*
  * The version of this interface. MAJOR rises where a host has to change: a call is withdrawn or means
- * something else. MINOR rises where something is added.
+ * something else. MINOR rises where something is added. pirrozketa_version tells the version of the library that is linked,
+ * which may be another than this header's; a host asks at its start:
+ *     if (!PIRROZKETA_VERSION_FITS(pirrozketa_version())) ..
+ * A library before 8.1 has no such call, and a host that asks does not link with it.
+ * 8.1 has pirrozketa_version. Nothing else changed.
  * 8.0 has contexts of at most 4 symbols, 6 before, and so other sizes. What a host has to change:
  *   - A rule to add has 20 bytes (24 before; so many are refusal 6 now): its target starts at 8 (10 before), its right context at 12
  *     (14), its phones at 16 (20). PIRROZKETA_TARGET_AT and the like are new, and so are names for the limits. A longer context is
@@ -97,11 +103,17 @@
  * the ruleset: call pirrozketa_read_file, look at its code, then pirrozketa_build.
  */
 #define PIRROZKETA_VERSION_MAJOR 8
-#define PIRROZKETA_VERSION_MINOR 0
+#define PIRROZKETA_VERSION_MINOR 1
+#define PIRROZKETA_VERSION (256 * PIRROZKETA_VERSION_MAJOR + PIRROZKETA_VERSION_MINOR)
 
-/* The library is compiled for x86-64, and its lengths are numbers of 8 bytes. */
-#if !defined(__x86_64__) && !defined(_M_X64)
-#error "the Pirrozketa library is for x86-64 only"
+/* Whether a library of that version has all that this header tells: the same MAJOR, and no lower MINOR. */
+#define PIRROZKETA_VERSION_FITS(version) \
+    ((version) / 256 == PIRROZKETA_VERSION_MAJOR && (version) % 256 >= PIRROZKETA_VERSION_MINOR)
+
+/* The library is compiled for x86-64 Linux, with the calling convention of System V, and its lengths are numbers of 8 bytes. This
+   header needs C11 or C++11; host/build compiles it as C11 and as C++17. */
+#if !defined(__x86_64__) || defined(_WIN32)
+#error "the Pirrozketa library is for x86-64 Linux, System V, only"
 #endif
 #ifdef __cplusplus
 static_assert(sizeof(size_t) == 8, "the Pirrozketa library has lengths of 8 bytes");
@@ -196,7 +208,8 @@ enum {
                                     /* 393,348: words of 16 bits, 4 and 64 for each state */
     PIRROZKETA_SETS = 8 * (PIRROZKETA_LEFT_STATES + PIRROZKETA_RIGHT_STATES),
                                     /* 49,168: set words of 64 bits, 8 for each state */
-    PIRROZKETA_PHONES = 2048,       /* phones that one name can give, by 32 listed words; by rules alone 256 */
+    PIRROZKETA_PHONES = 2048,       /* phones that one name can give, by 32 words of one letter, each listed with 64 phones; by
+                                       rules alone 256 */
     PIRROZKETA_NUMBERS = 64,        /* rules that one name can apply */
     PIRROZKETA_FILE = 15 + PIRROZKETA_CLASSES * (2 * (4 + PIRROZKETA_CLASS) + 1) + PIRROZKETA_RULES * (2 * (4 + PIRROZKETA_RULE) + 1),
                                     /* 27,439: bytes of the longest rule file: the head, then a line for each class and rule */
@@ -205,11 +218,16 @@ enum {
 
 /*
  * Stack: no call uses more than 32,768 bytes, to which host/build holds what host/stack.c measures with 512
- * rules, a name of several words, 64 bytes, and lists of long names. In bytes: clear, count, last, edits, list_clear
- * none to speak of; check 8,312; set_class 8,344; drop 8,408; move 8,440; add 8,504; read_file 8,864; write_file
+ * rules, a name of several words, 64 bytes, and lists of long names. In bytes: version, clear, count, last, edits,
+ * list_clear none to speak of; check 8,312; set_class 8,344; drop 8,408; move 8,440; add 8,504; read_file 8,864; write_file
  * 8,936; build 13,048; list_check 16,464; list_states 16,480; list_read_out 16,624; speak 16,736; speak_many
  * 16,752; read_name 17,168; list_names 24,688; list_remove 31,192; list_add 31,248.
  */
+
+/* ---- the version */
+
+/* That of the library that is linked: 256 * MAJOR + MINOR, as PIRROZKETA_VERSION is this header's. */
+uint16_t pirrozketa_version(void);
 
 /* ---- the ruleset: `image` is PIRROZKETA_IMAGE bytes or more. Tables built before an add, drop or move are old. */
 
@@ -286,6 +304,12 @@ uint8_t pirrozketa_write_file(const uint8_t *image, size_t image_len, uint8_t *o
  * Its layout is the library's own, and two lists that say the same may differ in their words: compare lists by
  * their read-out. States share endings, so that a change may need fewer or more of them: 19 can follow any change,
  * a removal too.
+ * To keep a list, on a card say, keep its words: a read-out can only be listed again name by name. They hold no addresses: copied
+ * anywhere, they are the same list. They are numbers in the machine's own byte order, here the low byte first. The first list[list[4199] + 1]
+ * words are enough, from 4,200 for the empty list to 30,296; lend PIRROZKETA_LIST words all the same, of which the others may hold
+ * anything. pirrozketa_list_check refuses what is no list, but words that were damaged may by chance be another list: keep a
+ * checksum of your own with them. Lists of all versions from 3.0 on are taken, and have the same layout; what 3.0 listed with
+ * letter 63 has a space there since 4.0.
  */
 
 /* Makes the memory, whatever it holds, the empty list. Refusal 17 where it is too short. */

@@ -25,6 +25,7 @@ static size_t place, given, applied, steps, contested, count, bytes, states, rep
 static uint8_t rule[PIRROZKETA_RULE] = { 0, 1, 0, PIRROZKETA_RULE_PHONES };
 
 static uint8_t nothing(void) { return PIRROZKETA_ACCEPTED; }
+static uint8_t version(void) { return pirrozketa_version() == PIRROZKETA_VERSION ? PIRROZKETA_ACCEPTED : 0; }
 static uint8_t clear(void) { return pirrozketa_clear(copy, sizeof copy); }
 static uint8_t check(void) { return pirrozketa_check(image, sizeof image); }
 static uint8_t count_rules(void) { return pirrozketa_count(image, sizeof image) == RULES ? PIRROZKETA_ACCEPTED : 0; }
@@ -85,8 +86,8 @@ static uint8_t set_class(void) { return pirrozketa_set_class(copy, sizeof copy, 
 
 /* In this order: `add` has room after `drop`, `read_file` reads what `write_file` wrote, `build_least` needs the counts. */
 static const struct { const char *name; uint8_t (*call)(void); } calls[] = {
-    { "clear", clear }, { "check", check }, { "count", count_rules }, { "last", last }, { "edits", edits }, { "drop", drop },
-    { "add", add }, { "move", move_rule }, { "set_class", set_class }, { "write_file", write_file }, { "read_file", read_file },
+    { "version", version }, { "clear", clear }, { "check", check }, { "count", count_rules }, { "last", last }, { "edits", edits },
+    { "drop", drop }, { "add", add }, { "move", move_rule }, { "set_class", set_class }, { "write_file", write_file }, { "read_file", read_file },
     { "build", build }, { "build, least", build_least }, { "list_check", list_check }, { "list_names", list_names },
     { "list_states", list_states }, { "list_add", list_add }, { "list_read_out", list_read_out },
     { "list_remove", list_remove }, { "list_full", list_full }, { "list_clear", list_clear }, { "read_name", read_name },

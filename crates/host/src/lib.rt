@@ -18,6 +18,21 @@ ghost use Rattle.host.specs.Codes.{checked, countIn, lastIn, editsIn, sp
 ghost use Rattle.file.specs.Loading.{loaded, filed};
 ghost use Rattle.host.specs.Files.{writtenCode, bytesOrPlace};
 ghost use Rattle.host.specs.Many.{manySaid};
+ghost use Rattle.host.specs.Version.{version};
+
+// ---- the version
+
+// Of this interface, as host/pirrozketa.h names it: a host whose header is newer than the library that it links learns so.
+const VERSION_MAJOR: u16 = 8;
+
+const VERSION_MINOR: u16 = 1;
+
+#[no_mangle]
+pub extern "C" fn pirrozketa_version() -> u16
+    ensures { λ r. ⌜ r ≡ version ⌝ }
+{
+    256 * VERSION_MAJOR + VERSION_MINOR
+}
 
 // ---- the ruleset
 

@@ -1,7 +1,8 @@
 //! The limits and sizes of host/pirrozketa.h, as a C compiler reads them and as its comments tell them, against the
-//! reference's own, which are made from the papers' limits without it.
+//! reference's own. Limits are the papers', and most sizes follow from them; how a ruleset and a list lie in memory no
+//! paper tells: there the reference has the library's layout. And the header's version against the library's.
 
-use crate::lent::header_size;
+use crate::lent::{header_size, version};
 use crate::random::Random;
 use crate::reference::classes::{CLASSES, MOST_LETTERS};
 use crate::reference::exceptions::{LIST, MOST_PHONES, READ_OUT};
@@ -49,6 +50,11 @@ pub fn header(tally: &mut Tally, _: &mut Random) {
         tally.equal(&format!("the comment on {name_text}"), told(&name_text), Some(size));
     }
     tally.equal("no such size", header_size(c"NONE"), usize::MAX);
+    tally.equal("the version linked", usize::from(version()), header_size(c"VERSION"));
+    let (major, minor) = (header_size(c"VERSION_MAJOR"), header_size(c"VERSION_MINOR"));
+    tally.equal("the header's version", header_size(c"VERSION"), 256 * major + minor);
+    let change = format!("\n * {major}.{minor} has ");
+    tally.check(TEXT.contains(&change), || format!("the header does not say what {major}.{minor} has"));
     layout(tally);
 }
 

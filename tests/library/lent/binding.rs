@@ -5,6 +5,7 @@ use std::ffi::c_char;
 extern "C" {
     /// Of tests/library/sizes.c.
     pub fn header_size(name: *const c_char) -> usize;
+    pub fn pirrozketa_version() -> u16;
     pub fn pirrozketa_clear(image: *mut u8, image_len: usize) -> u8;
     pub fn pirrozketa_check(image: *const u8, image_len: usize) -> u8;
     pub fn pirrozketa_count(image: *const u8, image_len: usize) -> u16;

@@ -35,6 +35,11 @@ pub fn header_size(name: &CStr) -> usize {
     unsafe { binding::header_size(name.as_ptr()) }
 }
 
+/// The version of the library that is linked.
+pub fn version() -> u16 {
+    unsafe { binding::pirrozketa_version() }
+}
+
 /// The codes that the header names with each call, in rising order.
 pub const NAMED: [(&str, &[u8]); 18] = [
     ("clear", &[0, 255]),
