@@ -79,7 +79,7 @@
  * which may be another than this header's; a host asks at its start:
  *     if (!PIRROZKETA_VERSION_FITS(pirrozketa_version())) ..
  * A library before 8.1 has no such call, and a host that asks does not link with it.
- * 8.1 has pirrozketa_version. Nothing else changed.
+ * 8.1 has pirrozketa_version.
  * 8.0 has contexts of at most 4 symbols, 6 before, and so other sizes. What a host has to change:
  *   - A rule to add has 20 bytes (24 before; so many are refusal 6 now): its target starts at 8 (10 before), its right context at 12
  *     (14), its phones at 16 (20). PIRROZKETA_TARGET_AT and the like are new, and so are names for the limits. A longer context is

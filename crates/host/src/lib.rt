@@ -22,11 +22,12 @@ ghost use Rattle.host.specs.Version.{version};
 
 // ---- the version
 
-// Of this interface, as host/pirrozketa.h names it: a host whose header is newer than the library that it links learns so.
+// Of this interface, as host/pirrozketa.h has it.
 const VERSION_MAJOR: u16 = 8;
 
 const VERSION_MINOR: u16 = 1;
 
+// The version of the library that is linked, which may be another than that of the host's header.
 #[no_mangle]
 pub extern "C" fn pirrozketa_version() -> u16
     ensures { λ r. ⌜ r ≡ version ⌝ }
