@@ -20,6 +20,9 @@ use reference::broken::{self, BREAKS};
 use std::process::ExitCode;
 use tally::Tally;
 
+/// So many rounds bring up every outcome of damage; fewer are rounds repeated.
+const ENOUGH: u64 = 200;
+
 struct Wish {
     count: u64,
     seed: u64,
@@ -39,6 +42,9 @@ fn main() -> ExitCode {
     // A reference that is wrong must be noticed by what it says, not by trials left out for it.
     if broken::whole() {
         tally.check_met(&lent::NAMED);
+        if wish.count >= ENOUGH {
+            tally.check_counted(&trials::damaged_lists::OUTCOMES);
+        }
     }
     tally.print_counts();
     println!("{} passed, {} failed", tally.passed, tally.failed);

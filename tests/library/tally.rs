@@ -50,6 +50,14 @@ impl Tally {
         *self.counts.entry(what).or_default() += 1;
     }
 
+    /// Each of these was tried.
+    pub fn check_counted(&mut self, tried: &[&'static str]) {
+        for what in tried {
+            let times = self.counts.get(what).copied().unwrap_or(0);
+            self.check(times > 0, || format!("no {what}"));
+        }
+    }
+
     pub fn print_counts(&self) {
         self.counts.iter().for_each(|(what, times)| println!("{what}: {times}"));
     }

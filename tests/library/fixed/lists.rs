@@ -116,31 +116,29 @@ fn refusals(tally: &mut Tally, random: &mut Random) {
     tally.equal("a read-out", out.contents(), &[3, 11, 14, 5, 1, 1, 4, 11, 14, 5, 5, 4, 11, 14, 5, 5]);
 }
 
-/// Every call on memory too short for a list: 17 comes next after 0.
+/// Memory too short for a list.
 fn no_list(tally: &mut Tally, random: &mut Random) {
     let six = Loaded::new(tally, SIX_RULES, SIX_WORDS, SIX_SETS, random);
-    let (name, names) = (Lent::new(&[0x40; 65], random), Lent::new(&[1, 5, 1, 5], random));
     for length in [0, 1, LIST - 1] {
-        let mut list = List::learned(tally, &six.list.words()[..length], random);
+        let mut list = List::lent(&six.list.words()[..length], random);
         tally.equal("too short a list", list.held().is_none(), true);
         calls::clear(tally, &mut list);
-        calls::check(tally, &list);
-        calls::add(tally, &mut list, &name, &name);
-        calls::remove(tally, &mut list, &name);
-        calls::read_out(tally, &list, &mut Lent::any(0, random));
-        let mut room = Room::any(256, 64, random);
-        lent::read_name(tally, &six.image, &list, &name, &mut room);
-        lent::speak(tally, &six.image, &list, &Compiled::any(0, 0, random), &name, &mut room);
-        lent::speak_many(
-            tally,
-            &six.image,
-            &list,
-            &six.compiled,
-            &names,
-            &mut room,
-            &mut Lent::any(10, random),
-        );
+        refused_by_all(tally, &six, &mut list, random);
     }
+}
+
+/// Every call but `list_clear` on memory that is no list: 17 comes next after 0.
+pub fn refused_by_all(tally: &mut Tally, six: &Loaded, list: &mut List, random: &mut Random) {
+    let (name, names) = (Lent::new(&[0x40; 65], random), Lent::new(&[1, 5, 1, 5], random));
+    calls::check(tally, list);
+    calls::add(tally, list, &name, &name);
+    calls::remove(tally, list, &name);
+    calls::read_out(tally, list, &mut Lent::any(0, random));
+    let mut room = Room::any(256, 64, random);
+    lent::read_name(tally, &six.image, list, &name, &mut room);
+    lent::speak(tally, &six.image, list, &Compiled::any(0, 0, random), &name, &mut room);
+    let mut replies = Lent::any(10, random);
+    lent::speak_many(tally, &six.image, list, &six.compiled, &names, &mut room, &mut replies);
 }
 
 /// A listed name by walk and plain reading: no rules, no steps, and of the later refusals only 4.

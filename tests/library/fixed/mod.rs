@@ -1,5 +1,6 @@
 //! Cases that stand in documents 01 and 02 or at the bounds they name.
 
+mod broken_lists;
 mod classes;
 mod contested;
 mod contexts;
@@ -24,13 +25,14 @@ type Case = fn(&mut Tally, &mut Random);
 
 pub fn fixed(tally: &mut Tally) {
     let random = &mut Random::new(1);
-    let cases: [(&str, Case); 12] = [
+    let cases: [(&str, Case); 13] = [
         ("the header's sizes", header::header),
         ("the paper's marks", paper::paper),
         ("the paper's refusals", refusals::refusals),
         ("the paper's ways to be wrong", wrong::wrong),
         ("extremes", extremes::extremes),
         ("exceptions lists", lists::lists),
+        ("exceptions lists in words", broken_lists::broken_lists),
         ("names of several words", words::words),
         ("contested letters", contested::contested),
         ("letter classes", classes::classes),

@@ -23,7 +23,7 @@ fn short(tally: &mut Tally, random: &mut Random) {
     let rule = Lent::new(&rule(&[]).0, random);
     let (good, bad) = (Lent::new(SIX_RULES, random), Lent::new(b"", random));
     let (name, names) = (Lent::new(&[0x40; 65], random), Lent::new(&[1, 5, 1, 5], random));
-    let no_list = List::learned(tally, &[], random);
+    let no_list = List::lent(&[], random);
     for (length, list) in [(0, &six.list), (7, &no_list), (8, &no_list), (IMAGE - 1, &six.list)] {
         let mut image = Lent::new(&six.image.contents()[..length], random);
         let mut room = Room::any(256, 64, random);

@@ -5,7 +5,8 @@ use super::binding::*;
 use super::memory::Lent;
 use super::{code_and_place, UNWRITTEN};
 use crate::random::Random;
-use crate::reference::exceptions::{Exceptions, LIST, READ_OUT};
+use crate::reference::exceptions::{Exceptions, LIST};
+use crate::reference::list_words::listed_in;
 use crate::reference::{refuse, Answer, ACCEPTED};
 use crate::tally::Tally;
 
@@ -29,25 +30,9 @@ impl List {
         List { memory: Lent::new(words, random), held: Some(held.clone()) }
     }
 
-    /// Any words. What they hold is what the library reads out of them; check, names and states must agree.
-    pub fn learned(tally: &mut Tally, words: &[u32], random: &mut Random) -> List {
-        let mut list = List { memory: Lent::new(words, random), held: None };
-        let mut nothing = Lent::any(0, random);
-        // Without room, 15 says how much is needed; an empty list needs none.
-        let (code, needed) = call_read_out(&list, &mut nothing);
-        tally.answer("list_read_out", code, [15, 17, ACCEPTED].contains(&code), true);
-        nothing.check(tally, "list_read_out's bytes");
-        if code != 17 {
-            let mut out = Lent::any(needed.min(2 * READ_OUT), random);
-            let (code, bytes) = call_read_out(&list, &mut out);
-            tally.answer("list_read_out", code, (code, bytes), (ACCEPTED, needed));
-            out.allow(out.len());
-            out.check(tally, "list_read_out's bytes");
-            list.held = Exceptions::told(out.contents());
-            tally.check(list.held.is_some(), || "a read-out that tells no list".to_string());
-        }
-        check(tally, &list);
-        list
+    /// Any words, with what the reference finds in them.
+    pub fn lent(words: &[u32], random: &mut Random) -> List {
+        List { memory: Lent::new(words, random), held: listed_in(words) }
     }
 
     pub fn held(&self) -> Option<&Exceptions> {
@@ -70,7 +55,8 @@ impl List {
         self.memory.check(tally, what);
     }
 
-    /// After an accepted change the layout is the library's own business; what lies past it is kept.
+    /// After an accepted change the numbers of states and the free words are the library's own business, so
+    /// that `check` judges the words; what lies past them is kept.
     fn changed(&mut self, code: u8) {
         if code == ACCEPTED {
             self.memory.allow(LIST.min(self.memory.len()));
@@ -87,7 +73,7 @@ pub fn clear(tally: &mut Tally, list: &mut List) {
     list.held = long_enough.then(Exceptions::default);
 }
 
-/// Check, with the numbers of names and states.
+/// Check, with the numbers of names and states; by their layout the words are the list that is held.
 pub fn check(tally: &mut Tally, list: &List) {
     let (code, names, states) = unsafe {
         (
@@ -101,6 +87,9 @@ pub fn check(tally: &mut Tally, list: &List) {
         None => (17, 0, 0),
     };
     tally.answer("list_check", code, (code, names as usize, states as usize), wanted);
+    tally.check(listed_in(list.words()).as_ref() == list.held(), || {
+        "the words are not laid as the list that they hold".to_string()
+    });
     list.check(tally, "list_check's list");
 }
 

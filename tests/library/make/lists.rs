@@ -86,7 +86,7 @@ pub fn phones(random: &mut Random) -> Vec<u8> {
 pub fn some_list(tally: &mut Tally, names: &[Vec<u8>], letters: &[u8], random: &mut Random) -> List {
     if random.one_in(30) {
         let words: Vec<u32> = (0..random.pick(&[0, 1, LIST - 1])).map(|_| random.next() as u32).collect();
-        return List::learned(tally, &words, random);
+        return List::lent(&words, random);
     }
     let mut list = List::empty(tally, random);
     for _ in 0..random.pick(&[0, 0, 1, 2, 4, 8]) {

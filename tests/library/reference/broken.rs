@@ -1,6 +1,6 @@
 //! Ways to make the reference wrong on purpose, to see that the trials notice: the paper's "Ways to be
-//! wrong that pass a short trial", two more, and ways to mistake the exceptions list, names of several words,
-//! contested letters, letter classes, the edit count and the limit of contexts.
+//! wrong that pass a short trial", two more, and ways to mistake the exceptions list and its memory, names of
+//! several words, contested letters, letter classes, the edit count and the limit of contexts.
 
 use std::sync::OnceLock;
 
@@ -130,9 +130,31 @@ pub enum Break {
     BoundaryUncounted,
     /// A context has one symbol less than it may have.
     ShortContexts,
+    /// Memory in which a free word is not 0 is no list.
+    FreeWords,
+    /// Memory that has all cells is a list, however short.
+    ShortList,
+    /// A successor that is not before its state does not matter.
+    LaterSuccessor,
+    /// Two states of a list may be alike.
+    AlikeStates,
+    /// A state may lead to no name.
+    DeadState,
+    /// A state need not be reached.
+    UnreachedState,
+    /// A name of no letters may be listed.
+    EmptyListed,
+    /// A listed name may have 65 letters.
+    LongListed,
+    /// The letter 00 may be listed.
+    LetterZero,
+    /// A listed name may have 65 phones or more.
+    LongPhones,
+    /// Listed phones may have 00 inside.
+    ZeroPhone,
 }
 
-pub const BREAKS: [(&str, Break); 62] = [
+pub const BREAKS: [(&str, Break); 73] = [
     ("early", Break::Early),
     ("longest", Break::Longest),
     ("inside", Break::Inside),
@@ -195,6 +217,17 @@ pub const BREAKS: [(&str, Break); 62] = [
     ("long-right-held", Break::LongRightHeld),
     ("boundary-uncounted", Break::BoundaryUncounted),
     ("short-contexts", Break::ShortContexts),
+    ("free-words", Break::FreeWords),
+    ("short-list", Break::ShortList),
+    ("later-successor", Break::LaterSuccessor),
+    ("alike-states", Break::AlikeStates),
+    ("dead-state", Break::DeadState),
+    ("unreached-state", Break::UnreachedState),
+    ("empty-listed", Break::EmptyListed),
+    ("long-listed", Break::LongListed),
+    ("letter-zero", Break::LetterZero),
+    ("long-phones", Break::LongPhones),
+    ("zero-phone", Break::ZeroPhone),
 ];
 
 static CHOSEN: OnceLock<Break> = OnceLock::new();

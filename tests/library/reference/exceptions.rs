@@ -1,8 +1,8 @@
 //! The exceptions list of document 02: names with their phones, and how many states the smallest acyclic
-//! automaton for them has. What stands in lent memory is the library's own business and not told here.
+//! automaton for them has. `list_words` tells how it stands in lent memory.
 
 use super::broken::{broken, Break};
-use super::reading::sound_name;
+use super::reading::{sound_name, MOST_LETTERS};
 use super::{refuse, Answer};
 use std::collections::{BTreeMap, HashMap};
 
@@ -12,7 +12,7 @@ pub const MOST_NAMES: usize = 1_000;
 pub const MOST_STATES: usize = 4_096;
 pub const MOST_PHONES: usize = 64;
 /// The longest read-out.
-pub const READ_OUT: usize = MOST_NAMES * (1 + 64 + 1 + MOST_PHONES);
+pub const READ_OUT: usize = MOST_NAMES * (1 + MOST_LETTERS + 1 + MOST_PHONES);
 
 /// A state as its successors and its phones make it: what has the same of both is the same state.
 type Known<'a> = HashMap<(Option<&'a [u8]>, Vec<(u8, usize)>), usize>;
@@ -84,21 +84,6 @@ impl Exceptions {
         }
         bytes
     }
-
-    /// What a read-out tells; None where it is none: out of order, cut off, beyond the limits.
-    pub fn told(mut bytes: &[u8]) -> Option<Exceptions> {
-        let mut list = Exceptions::default();
-        while !bytes.is_empty() {
-            let name = counted(&mut bytes)?;
-            let phones = counted(&mut bytes)?;
-            if list.phones.last_key_value().is_some_and(|(last, _)| last.as_slice() >= name) {
-                return None;
-            }
-            list.phones.insert(name.to_vec(), phones.to_vec());
-        }
-        let sound = list.phones.iter().all(|(name, phones)| sound_entry(name, phones).is_ok());
-        (sound && list.within()).then_some(list)
-    }
 }
 
 /// Refusals 2, 1, and 17 for no letters and for what is no phone string.
@@ -127,12 +112,4 @@ fn state<'a>(entries: &[(&'a [u8], &'a [u8])], depth: usize, known: &mut Known<'
     }
     let next = known.len();
     *known.entry((own, successors)).or_insert(next)
-}
-
-/// Takes the bytes that a length byte tells off the front.
-fn counted<'a>(bytes: &mut &'a [u8]) -> Option<&'a [u8]> {
-    let (length, rest) = bytes.split_first()?;
-    let taken = rest.get(..*length as usize)?;
-    *bytes = &rest[taken.len()..];
-    Some(taken)
 }

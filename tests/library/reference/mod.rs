@@ -8,6 +8,7 @@ pub mod classes;
 pub mod exceptions;
 pub mod file;
 pub mod image;
+pub mod list_words;
 pub mod many;
 pub mod reading;
 pub mod rule;

@@ -7,6 +7,9 @@ use super::rule::{is_letter, Rule, SPACE};
 use super::ruleset::Ruleset;
 use super::{refuse, Answer};
 
+/// Letters and spaces that a name has at most.
+pub const MOST_LETTERS: usize = 64;
+
 #[derive(Default, PartialEq, Debug)]
 pub struct Said {
     pub phones: Vec<u8>,
@@ -49,7 +52,7 @@ impl Said {
 
 /// Refusals 2 and 1, in this order.
 pub fn sound_name(name: &[u8]) -> Answer<()> {
-    if name.len() > 64 {
+    if name.len() > MOST_LETTERS {
         return refuse(2, 0);
     }
     match name.iter().position(|&byte| !is_letter(byte) && byte != SPACE) {

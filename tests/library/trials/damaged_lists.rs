@@ -1,5 +1,4 @@
-//! Memory of exceptions lists overwritten. No document says what stands in it, so the library itself says
-//! what it is then, and must stay with that.
+//! Memory of exceptions lists overwritten: by its layout the reference tells what it is then.
 
 use super::full_lists::{some_full, FULL};
 use super::lists::{few_letters, one_change, some_read_out, Speakers};
@@ -10,7 +9,11 @@ use crate::reference::broken::at_bounds;
 use crate::reference::exceptions::LIST;
 use crate::tally::Tally;
 
-/// A list's memory overwritten: it is a list then, the one that it reads out, or none; all calls agree.
+/// What an overwritten list came to. Each must come up: else 17 said too often or too seldom could pass.
+pub const OUTCOMES: [&str; 3] =
+    ["damaged lists refused", "damaged lists that are the same", "damaged lists that are others"];
+
+/// A list's memory overwritten: it is refused then, the same list or another.
 pub fn damaged(tally: &mut Tally, random: &mut Random) {
     let letters = few_letters(random);
     let speakers = Speakers::new(tally, &letters, random);
@@ -26,12 +29,14 @@ pub fn damaged(tally: &mut Tally, random: &mut Random) {
             _ => make::damaged(list.words(), &used, random),
         };
         let before = list.held().cloned();
-        list = List::learned(tally, &words, random);
+        list = List::lent(&words, random);
+        let [refused, same, other] = OUTCOMES;
         tally.count(match list.held() {
-            None => "damaged lists refused",
-            held if held == before.as_ref() => "damaged lists that are the same",
-            Some(_) => "damaged lists that are others",
+            None => refused,
+            held if held == before.as_ref() => same,
+            Some(_) => other,
         });
+        lists::check(tally, &list);
         if random.one_in(2) {
             speakers.speak(tally, &list, random);
         }
@@ -51,9 +56,9 @@ pub fn damaged(tally: &mut Tally, random: &mut Random) {
 /// A list of some names in memory that was zero, so that what it uses can be seen; seldom a full one.
 fn some_words(tally: &mut Tally, letters: &[u8], random: &mut Random) -> List {
     if at_bounds() && random.one_in(FULL) {
-        return some_full(random);
+        return some_full(tally, random);
     }
-    let mut list = List::learned(tally, &vec![0; LIST], random);
+    let mut list = List::lent(&vec![0; LIST], random);
     lists::clear(tally, &mut list);
     for _ in 0..random.pick(&[0, 1, 3, 10, 30]) {
         one_change(tally, &mut list, letters, random);

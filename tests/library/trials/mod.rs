@@ -1,7 +1,7 @@
 //! Random trials, one subject a file. A round tries every subject once.
 
 mod chain;
-mod damaged_lists;
+pub mod damaged_lists;
 mod edits;
 mod files;
 mod full_lists;
