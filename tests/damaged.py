@@ -3,9 +3,10 @@
 
     python3 tests/damaged.py target/bin/monitor --count 40 --seed 1
 
-No document says what the memory's units mean. So after each store the read-out decides: refused with 17, the memory is no list
-and every call that it is lent to must refuse it so; accepted, it must tell a list within the limits, and every answer from then on
-must be the one that the reference gives with that list. A failing conversation is made smaller before it is printed.
+After each store the read-out decides: refused with 17, the memory is no list and every call that it is lent to must refuse it so;
+accepted, it must tell a list within the limits, and every answer from then on must be the one that the reference gives with that list.
+Whether 17 is right of the units themselves, tests/library judges by their layout. A failing conversation is made smaller before it is
+printed. Each outcome of a store must come up: refused, the same list, another list.
 """
 
 import argparse
@@ -21,6 +22,10 @@ import compare
 import generate
 import lists
 import reference as ref
+
+
+REFUSED, SAME, OTHER = OUTCOMES = "refused", "the same list", "another list"
+ENOUGH = 30         # conversations that bring up every outcome; fewer are conversations repeated
 
 
 class Differs(Exception):
@@ -97,10 +102,10 @@ class Conversation:
 def outcome(before, after):
     """What a store did to the list that stood there."""
     if after is None:
-        return "refused"
+        return REFUSED
     if isinstance(before, ref.Exceptions) and before.phones == after.phones:
-        return "the same list"
-    return "another list"
+        return SAME
+    return OTHER
 
 
 def fails(command, limit, bodies):
@@ -132,9 +137,10 @@ def main():
             print(f"{seed - given.seed} passed, 1 failed")
             return 1
         learned += talk.learned
-    print("stores: " + ", ".join(f"{times} {what}" for what, times in sorted(learned.items())))
-    print(f"{given.count} passed, 0 failed")
-    return 0 if learned else 1
+    print("stores: " + ", ".join(f"{learned[what]} {what}" for what in OUTCOMES))
+    missed = [what for what in OUTCOMES if not learned[what]] if given.count >= ENOUGH else []
+    print(f"{given.count} passed, 0 failed" + "".join(f"; no store gave this: {what}" for what in missed))
+    return 1 if missed or not learned else 0
 
 
 if __name__ == "__main__":

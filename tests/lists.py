@@ -354,8 +354,18 @@ FIXED = {"orders": orders, "words": words, "1,000 names": thousand_names, "4,096
 
 # Memory stored over -----------------------------------------------------------------
 
+START, CELLS = 4_199, 4_200     # by the layout the unit that has the start's number, and the first cell
+
+
 def store(source):
-    """No layout is known here: mostly a unit near the start, often a small number."""
+    """Any unit, mostly one of the first, often a small number. Or where the layout has the start and the cells, and what may stand there:
+    a letter's successor, the phones of a name's end. So the memory is often another list afterwards."""
+    if source.chance(0.1):
+        return storing(START, source.upto(12))
+    if source.chance(0.5):
+        successor = (1 + source.upto(62)) << 24 | 1 + source.upto(source.pick([3, 30]))
+        phones = 0x40 << 24 | source.pick([0x61, 0x62, 0x6261, 0x636261])
+        return storing(CELLS + source.upto(source.pick([4, 60])), source.pick([successor, phones]))
     index = source.upto(source.pick([8, 40, 40, 400, 400, 4_000, LIST_UNITS - 1]))
     value = source.pick([0, 1, source.upto(63), source.upto(300), 1 << source.upto(31), source.upto(5_000), ALL, source.upto(ALL),
                          0x616161, 0x61, source.upto(63) << 24, source.upto(63) << 16])

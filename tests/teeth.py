@@ -26,6 +26,14 @@ READ = "    if not has_shape(rule) or"
 LIMIT = "MAX_CONTEXT = 4  "
 CUT = "rule._replace(left=rule.left[-MAX_CONTEXT:], right=rule.right[:MAX_CONTEXT])"
 
+LENT = "        return self.listed\n"
+
+
+def refused_if(test):
+    """The lent list is refused with 17 where the test holds of it."""
+    return f"        return None if self.listed is not None and {test} else self.listed\n"
+
+
 # (what, line of reference.py, what stands there instead, runs that must show it; "alone" is the copy's self-test)
 FAULTS = [
     ("stops before the last letter", "    framed, n, i = word.framed, len(word.letters), 1\n",
@@ -427,6 +435,16 @@ FAULTS = [
      "        if index + count >= LONGEST_READ_OUT:\n", "lists"),
     ("a name without phones cut short", "        if len(data) < length:\n", "        if len(data) <= length:\n", "lists"),
     ("35,885 units suffice", "        if self.units < LIST_UNITS:\n", "        if self.units < LIST_UNITS - 1:\n", "lists"),
+    # 17 of a list that is one.
+    ("17 of the empty list", LENT, refused_if("not self.listed.phones"), "monitor lists"),
+    ("17 of a listed name of 64 letters", LENT, refused_if("max(map(len, self.listed.phones), default=0) == MAX_NAME"), "lists"),
+    ("17 of a name with 64 phones", LENT,
+     refused_if("max(map(len, self.listed.phones.values()), default=0) == MAX_LISTED_PHONES"), "lists"),
+    ("17 of 1,000 names", LENT, refused_if("len(self.listed.phones) == MAX_LISTED"), "lists"),
+    ("17 of 4,096 states", LENT, refused_if("self.listed.states() == MAX_STATES"), "lists"),
+    ("17 of a list from which a name is gone", "        return self.list_changed(unlist_name(self.lent_list(), name))\n",
+     "        answer = self.list_changed(unlist_name(self.lent_list(), name))\n"
+     "        if not isinstance(answer, Refusal):\n            self.listed = None\n        return answer\n", "lists"),
     ("a clear that empties the list too", "        self.hold(EMPTY)\n        return frame_line",
      "        self.hold(EMPTY)\n        self.listed = Exceptions()\n        return frame_line", "monitor"),
 ]

@@ -8,13 +8,13 @@ use std::collections::{BTreeMap, HashSet};
 
 /// Words 0 to n + 1 tell where the cells of the states 0 to n begin, and where those of state n end.
 /// This word holds n, the number of the start, and the cells follow it.
-pub const START: usize = 4_199;
-pub const CELLS: usize = START + 1;
+const START: usize = 4_199;
+const CELLS: usize = START + 1;
 
 /// A cell is a place times 2 to the 24th, and what stands there: a successor at the places 01 to 3F, its
 /// letters; phones from place 40 on, three to a cell, the first in the lowest byte.
-pub const PHONES: u32 = 0x40;
-pub const PLACES: u32 = PHONES + 22;
+const PHONES: u32 = 0x40;
+const PLACES: u32 = PHONES + 22;
 
 #[derive(PartialEq, Eq, Hash)]
 struct State {
