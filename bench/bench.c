@@ -17,7 +17,8 @@ enum {
     LETTERS = 7,                            /* of each */
     LONG = WORDS * (LETTERS + 1) - 1,       /* bytes of a long name */
     LONG_NAMES = NAMES * 12 / LONG,         /* whose rule numbers have room where those of NAMES names have */
-    DRAWN = 6                               /* letters drawn for a context, from the time when that was the limit */
+    DRAWN = 6,                              /* letters drawn for a context, from the time when that was the limit */
+    ROOM = 16                               /* bytes of a name, its length among them, and rule numbers, for which there is room on the average */
 };
 
 _Static_assert((int)BASE_CONTEXT == PIRROZKETA_CONTEXT && (int)BASE_WORDS == PIRROZKETA_WORDS && (int)BASE_SETS == PIRROZKETA_SETS
@@ -29,8 +30,8 @@ static uint64_t sets[PIRROZKETA_SETS], base_sets[BASE_SETS];
 static uint32_t list[PIRROZKETA_LIST];
 static struct base_ruleset rs, again;
 static struct base_spoken spoken[NAMES];
-static uint8_t names[NAMES * 13], phones[NAMES * 64];
-static uint16_t numbers[NAMES * 12];
+static uint8_t names[NAMES * ROOM], phones[NAMES * 64];
+static uint16_t numbers[NAMES * ROOM];
 static size_t replies[NAMES * PIRROZKETA_REPLY], starts[NAMES], bytes, place, count;
 
 static double now(void)
@@ -212,9 +213,9 @@ static void word_rows(void)
     printf("| baseline | %.0f ns | %.0f ns | %.2f |\n", base_eight, base_one, base_eight / base_one);
 }
 
-/* ---- letter classes */
+/* ---- real rulesets, with letter classes and written out */
 
-/* A real ruleset with its tables, of the library and of the baseline. */
+/* A ruleset with its tables, of the library and of the baseline. */
 struct loaded {
     uint8_t image[PIRROZKETA_IMAGE];
     uint16_t words[PIRROZKETA_WORDS], base_words[BASE_WORDS];
@@ -244,12 +245,27 @@ static void load(struct loaded *loaded, const char *path)
     base_build(&loaded->base, loaded->base_words, loaded->base_sets);
 }
 
-/* NAMES names, those of the text again and again: a to z, the space, and the two letters of examples/basque.rules. */
-static size_t read_names(const char *path)
+/* NAMES names: those that fill `names` to `end`, all different, in order, again and again. */
+static size_t repeat_names(size_t end)
+{
+    size_t at = 0, from = 0;
+    for (int k = 0; k < NAMES; k++) {
+        size_t size = 1 + (size_t)names[from];
+        must(at + size <= sizeof names, "no room for the names");
+        memmove(names + at, names + from, size);
+        starts[k] = at;
+        at += size;
+        from = from + size < end ? from + size : 0;
+    }
+    return at;
+}
+
+/* The names of examples/basque.names: a to z, the space, and the two letters of examples/basque.rules. */
+static size_t basque_names(void)
 {
     static uint8_t text[1 << 16];
-    size_t end = read_whole(path, text, sizeof text), from = 0, at = 0;
-    for (int k = 0; k < NAMES;) {
+    size_t end = read_whole("examples/basque.names", text, sizeof text), from = 0, at = 0;
+    while (from < end) {
         size_t last = at;
         must(at + 1 + PIRROZKETA_NAME <= sizeof names, "no room for the names");
         for (; from < end && text[from] != ';' && text[from] != '\n'; from++) {
@@ -262,14 +278,13 @@ static size_t read_names(const char *path)
             last--;
         while (from < end && text[from] != '\n')
             from++;
-        from = from + 1 < end ? from + 1 : 0;
+        from++;
         if (last == at)
             continue;
         names[at] = (uint8_t)(last - at);
-        starts[k++] = at;
         at = last + 1;
     }
-    return at;
+    return repeat_names(at);
 }
 
 static void many_by(const struct loaded *by, size_t length) { speak_by(by->image, by->words, by->sets, names, length, NAMES); }
@@ -299,14 +314,19 @@ static double check_time(void)
     return check;
 }
 
-/* Names by a real ruleset with classes beside the same written out, by turns; then the check of the fullest rulesets. */
-static void class_rows(void)
+static void row(const char *what, double mine, double base)
+{
+    printf("| %s | %.0f ns | %.0f ns | %.2f |\n", what, mine, base, mine / base);
+}
+
+/* Names by a real ruleset with classes and by the same written out, through library and baseline, all four by turns. */
+static void real_rows(const char *language, const char *with_classes, const char *written_out, size_t length)
 {
     static uint8_t said[sizeof phones];
-    double by_class, by_rules, base_class, base_rules;
-    load(&classed, "examples/basque_classes.hex");
-    load(&written, "examples/basque.hex");
-    size_t length = read_names("examples/basque.names");
+    double by_class = 1e18, base_class = 1e18, by_rules = 1e18, base_rules = 1e18;
+    char what[80];
+    load(&classed, with_classes);
+    load(&written, written_out);
     many_by(&classed, length);
     base_many_by(&classed);
     compare(NAMES);
@@ -315,13 +335,34 @@ static void class_rows(void)
     base_many_by(&written);
     compare(NAMES);
     must(!memcmp(said, phones, sizeof said), "with classes and written out the phones differ");
-    PAIR(by_class, by_rules, NAMES, many_by(&classed, length), many_by(&written, length));
-    PAIR(base_class, base_rules, NAMES, base_many_by(&classed), base_many_by(&written));
-    printf("\n| a Basque name, many at once | %u rules with classes | the same written out, %u rules | ratio |\n|---|---|---|---|\n",
-           (unsigned)classed.base.count, (unsigned)written.base.count);
-    printf("| library | %.0f ns | %.0f ns | %.2f |\n", by_class, by_rules, by_class / by_rules);
-    printf("| baseline | %.0f ns | %.0f ns | %.2f |\n", base_class, base_rules, base_class / base_rules);
+    for (int round = 0; round < ROUNDS; round++) {
+        TIME(by_class, NAMES, many_by(&classed, length))
+        TIME(base_class, NAMES, base_many_by(&classed))
+        TIME(by_rules, NAMES, many_by(&written, length))
+        TIME(base_rules, NAMES, base_many_by(&written))
+    }
+    printf("\n| %s name, %.1f letters, many at once | library | baseline | ratio |\n|---|---|---|---|\n", language, (double)(length - NAMES) / NAMES);
+    snprintf(what, sizeof what, "%u rules with classes", (unsigned)classed.base.count);
+    row(what, by_class, base_class);
+    snprintf(what, sizeof what, "the same written out, %u rules", (unsigned)written.base.count);
+    row(what, by_rules, base_rules);
+    printf("| with classes to written out | %.2f | %.2f | |\n", by_class / by_rules, base_class / base_rules);
+}
 
+/* By rules and names that bench/italian.py has made in a folder. */
+static void italian_rows(const char *folder)
+{
+    char with_classes[1000], written_out[1000], of_names[1000];
+    snprintf(with_classes, sizeof with_classes, "%s/italian_classes.hex", folder);
+    snprintf(written_out, sizeof written_out, "%s/italian.hex", folder);
+    snprintf(of_names, sizeof of_names, "%s/italian.names", folder);
+    size_t length = repeat_names(read_whole(of_names, names, sizeof names));
+    real_rows("an Italian", with_classes, written_out, length);
+}
+
+/* The check of the fullest rulesets. */
+static void check_rows(void)
+{
     printf("\n| 512 literal rules | the check of the ruleset |\n|---|---|\n");
     rules(512, 0);
     printf("| 512 rules without classes | %.0f ns |\n", check_time());
@@ -391,16 +432,33 @@ static void list_rows(int n, size_t phone_count)
            looked / NAMES, looked / (double)(length - NAMES), judged, changed - judged, added - judged, text - judged);
 }
 
-static void row(const char *what, double mine, double base)
+static uint8_t said[PIRROZKETA_PHONES];
+static uint16_t by[PIRROZKETA_NUMBERS];
+static size_t given, applied, steps, contested;
+
+/* The names one by one, ruleset and list checked for each. */
+static void checked(void)
 {
-    printf("| %s | %.0f ns | %.0f ns | %.2f |\n", what, mine, base, mine / base);
+    for (int k = 0; k < NAMES; k++)
+        accept(pirrozketa_speak(image, sizeof image, list, PIRROZKETA_LIST, words, PIRROZKETA_WORDS, sets, PIRROZKETA_SETS,
+               names + starts[k] + 1, names[starts[k]], said, sizeof said, by, PIRROZKETA_NUMBERS, &given,
+               &applied, &steps, &contested), "a name is refused");
 }
 
-int main(void)
+/* One name with its checks, by the rules and names that stand. */
+static void checked_rows(int n)
 {
-    uint8_t said[PIRROZKETA_PHONES];
-    uint16_t by[PIRROZKETA_NUMBERS];
-    size_t given, applied, steps, contested;
+    double mine, base;
+    char what[80];
+    PAIR(mine, base, NAMES, checked(), base_many());
+    snprintf(what, sizeof what, "(b) one name, ruleset and empty list checked, %d rules", n);
+    row(what, mine, base);
+    printf("| (b) of which the check of the ruleset | %.0f ns | | |\n", check_time());
+}
+
+/* Given a folder with what bench/italian.py makes, Italian names too. */
+int main(int argc, char **argv)
+{
     double mine, base, check;
 
     accept(pirrozketa_list_clear(list, PIRROZKETA_LIST), "no empty list");
@@ -419,6 +477,7 @@ int main(void)
         many(length);
     PAIR(mine, base, NAMES, many(length), base_many());
     row("(a) a name, many at once, 320 rules", mine, base);
+    const double many_320 = mine, base_320 = base;
 
     PAIR(mine, base, 1, build(), base_build(&rs, base_words, base_sets));
     row("(c) build, 320 rules", mine, base);
@@ -439,15 +498,7 @@ int main(void)
     length = draw_names(512);
     build();
     base_build(&rs, base_words, base_sets);
-    PAIR(mine, base, NAMES,
-         for (int k = 0; k < NAMES; k++)
-             accept(pirrozketa_speak(image, sizeof image, list, PIRROZKETA_LIST, words, PIRROZKETA_WORDS, sets, PIRROZKETA_SETS,
-                    names + starts[k] + 1, names[starts[k]], said, sizeof said, by, PIRROZKETA_NUMBERS, &given,
-                    &applied, &steps, &contested), "a name is refused"),
-         base_many());
-    check = check_time();
-    row("(b) one name, checked, 512 rules", mine, base);
-    printf("| (b) of which the check of the ruleset | %.0f ns | | |\n", check);
+    checked_rows(512);
 
     rules(512, 1);
     char what[80];
@@ -459,8 +510,8 @@ int main(void)
          base_write(&rs, other));
     row("(f) write it", mine, base);
 
-    printf("\n| rules | a name, many at once | baseline | ratio |\n|---|---|---|---|\n");
     static const int sizes[] = { 16, 64, 256, 512 };
+    double grown[4], base_grown[4];
     for (int k = 0; k < 4; k++) {
         rules(sizes[k], 0);
         length = draw_names(sizes[k]);
@@ -469,10 +520,21 @@ int main(void)
         many(length);
         base_many();
         compare(NAMES);
-        snprintf(what, sizeof what, "%d", sizes[k]);
-        PAIR(mine, base, NAMES, many(length), base_many());
-        row(what, mine, base);
+        PAIR(grown[k], base_grown[k], NAMES, many(length), base_many());
+        if (k == 0)
+            checked_rows(sizes[k]);
     }
+    PAIR(mine, base, NAMES, for (int k = 0; k < NAMES; k++) check_list(), (void)0);
+    printf("| (b) the check of the empty list | %.1f ns | | |\n", mine);
+
+    printf("\n| rules | a name, many at once | baseline | ratio |\n|---|---|---|---|\n");
+    for (int k = 0; k < 4; k++) {
+        if (k == 3)
+            row("320, as (a)", many_320, base_320);
+        snprintf(what, sizeof what, "%d", sizes[k]);
+        row(what, grown[k], base_grown[k]);
+    }
+    printf("| growth, 16 to 512 | %.2f | %.2f | |\n", grown[3] / grown[0], base_grown[3] / base_grown[0]);
 
     printf("\n| the exceptions list | a listed name, many at once | judged (17) | a name replaced | a name of 64 letters added or removed | read out |\n");
     printf("|---|---|---|---|---|---|\n");
@@ -488,6 +550,9 @@ int main(void)
     base_build(&rs, base_words, base_sets);
     printf("\n| %d bytes a name, many at once, 320 rules | eight words | one word | ratio |\n|---|---|---|---|\n", LONG);
     word_rows();
-    class_rows();
+    real_rows("a Basque", "examples/basque_classes.hex", "examples/basque.hex", basque_names());
+    if (argc > 1)
+        italian_rows(argv[1]);
+    check_rows();
     return 0;
 }
