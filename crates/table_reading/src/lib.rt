@@ -42,7 +42,7 @@ fn lowest_from(sets: &[u64], s: usize, t: usize) -> Found
     Found::Empty
 }
 
-// The same from the last word down, all words looked at: `k` is the lowest from `j` on that has a bit set.
+// The same from the last word down, all words looked at: `k` is the lowest from `j` on that has a bit set, `tables::SET` where none has.
 fn lowest_of_all(sets: &[u64], s: usize, t: usize) -> Found
     requires { ⌜ (s + setSize ≤ length (now sets)) × (t + setSize ≤ length (now sets)) ⌝ }
     ensures { λ r. ⌜ r ≡ foundOf (lowestShared (now (sets .entry)) s t) ⌝ }
