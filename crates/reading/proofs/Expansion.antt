@@ -160,9 +160,8 @@ module _ (k : Classes) (proper : Proper k) where
   guarded-once false s w = omega (arith, count-none (choices k s))
 
   module _ (f : Str) (i : ℕ) where
-    -- of the literal rules of one rule, one fits where the rule fits, and else none
-    pub one-literal : (r : Production) → count (λ a. fits a f i) (literals k r) ≡ cond (fitsBy k r f i) 1 0
-    one-literal r =
+    literal-count : (r : Production) → count (λ a. fits a f i) (literals k r) ≡ cond (fitsBy k r f i) 1 0
+    literal-count r =
         let e = count-grid (within r) (λ a. fits a f i) (λ a. ends a (take i f)) (follows r f i) (fits-within r f i) (choices k (r .left)) (choices k (r .right)) in
         let m = mul-few (count (λ a. ends a (take i f)) (choices k (r .left))) (count (follows r f i) (choices k (r .right))) (ends-once (r .left) (take i f)) (guarded-once (starts (r .target) (drop i f)) (r .right) (drop (i + length (r .target)) f)) in
         one-pos (count (λ a. fits a f i) (literals k r)) (omega arith)
@@ -174,11 +173,15 @@ module _ (k : Classes) (proper : Proper k) where
     abbrev byClasses : Entry → Bool
     byClasses e = fitsBy k (e .rule) f i
 
-    -- ---- a list
-
     passing-count : (l : List Entry) → passing byLetters l ≡ count byLetters l
     passing-count [] = refl
     passing-count (e ∷ l) = ap (λ (n : ℕ). cond (byLetters e) 1 0 + n) (passing-count l)
+
+    -- of the literal rules of one rule, one fits where the rule fits, and else none
+    pub one-literal : (e : Entry) → passing (λ x. fits (x .rule) f i) (literalEntries k e) ≡ cond (fitsBy k (e .rule) f i) 1 0
+    one-literal e = passing-count (literalEntries k e) ∙ (count-map byLetters (under (e .number)) (literals k (e .rule)) ∙ literal-count (e .rule))
+
+    -- ---- a list
 
     -- as many literal rules of a list fit as rules
     pub passing-literals : (l : List Entry) → passing (λ e. fits (e .rule) f i) (expand k l) ≡ passing (λ e. fitsBy k (e .rule) f i) l
@@ -186,7 +189,7 @@ module _ (k : Classes) (proper : Proper k) where
     passing-literals (e ∷ l) =
         passing-count (literalEntries k e ++ expand k l)
         ∙ (count-append byLetters (literalEntries k e) (expand k l)
-        ∙ ap₂ _+_ (count-map byLetters (under (e .number)) (literals k (e .rule)) ∙ one-literal (e .rule)) (sym (passing-count (expand k l)) ∙ passing-literals l))
+        ∙ ap₂ _+_ (sym (passing-count (literalEntries k e)) ∙ one-literal e) (sym (passing-count (expand k l)) ∙ passing-literals l))
 
 -- each entry of a list gives the same where it is applied
 abbrev Alike : ℕ → Application → List Entry → Type 0
