@@ -9,6 +9,7 @@ Ends with a message at the first difference.
 import itertools
 import os
 import pty
+import re
 import shutil
 import subprocess
 import sys
@@ -19,6 +20,8 @@ ROOT = os.path.dirname(os.path.dirname(os.path.realpath(__file__)))
 sys.path.insert(0, os.path.join(ROOT, "tools"))
 
 import frames
+import programs
+import progress
 import reference as ref
 import ruletext
 
@@ -120,6 +123,11 @@ class Tools:
     def compare(self, what, got, wanted):
         if got != wanted:
             sys.exit(f"FAILED {what}\n   got {got!r}\nwanted {wanted!r}")
+        self.passed += 1
+
+    def fits(self, what, got, pattern):
+        if re.fullmatch(pattern, got) is None:
+            sys.exit(f"FAILED {what}\n   got {got!r}\nwanted {pattern}")
         self.passed += 1
 
 
@@ -404,6 +412,11 @@ def proving(folder):
     root, bin_folder = os.path.join(folder, "project"), os.path.join(folder, "bin")
     for part in ("tools", "examples"):
         shutil.copytree(os.path.join(ROOT, part), os.path.join(root, part))
+    shutil.copy(os.path.join(ROOT, "crates.txt"), root)
+    with open(os.path.join(root, "tools", "progress.py"), "r+", encoding="utf-8") as file:     # so that nothing waits long
+        text = file.read()
+        file.seek(0)
+        file.write(text.replace("TICK = 1 ", "TICK = 0.1 "))
     os.mkdir(bin_folder)
     tools = Tools(root, folder, bin_folder)
     built = os.path.join(root, "target", "bin", "say")
@@ -415,18 +428,78 @@ def proving(folder):
     status, _, _ = tools.run(["try", "--help"])
     tools.compare("help needs no proof", status, 0)
     write_rt(bin_folder, "echo 'note'; echo 'rt: refused'; exit 3")
-    tools.expect(["try", "knee"], 1, err=PROVING + "rt: refused\nnote\nrt: refused\ntry: `say` is not proved: rt check ended with 3\n")
+    tools.expect(["try", "knee"], 1, err=PROVING + "note\nrt: refused\ntry: `say` is not proved: rt check ended with 3\n")
     write_rt(bin_folder, "exit 0")
     tools.expect(["try", "knee"], 1, err=PROVING + f"try: `say` was proved before, but {built} is gone: "
                                                    f"remove {os.path.join(root, 'target')} and try again\n")
-    write_rt(bin_folder, f"test \"$*\" = 'check say' && mkdir -p target/bin && cp '{SAY}' target/bin/say && echo 'rt: say proved'")
+    # Some of the crates after a while, the others later: a line for the quarter passed, on standard error alone, and one at the end.
     tools.environment["PATH"] += os.pathsep + os.environ["PATH"]
-    tools.expect(["try", "knee"], 0, KNEE, PROVING + "rt: say proved\n")
+    crates = sorted(programs.crates_of("say") - {"say"})
+    some, most = len(crates) // 3, len(crates) + 1
+    told = [f"echo 'rt: {crate} proved (1 s)'; echo 'fn {crate}::f: proved'" for crate in crates]
+    said = f"mkdir -p target/bin; cp '{SAY}' target/bin/say; echo 'rt: say proved (2 s)'; echo 'rt: say ran'"
+    write_rt(bin_folder, "\n".join(["test \"$*\" = 'check say' || exit 3", "sleep 0.3", *told[:some], "sleep 1", *told[some:], said]))
+    took, left = r" crates proved in \d+ s", r"(, about \d+ s left)?"
+    between, last = rf"\d+ of {most}{took}{left}", f"{most} of {most}{took}"
+    status, out, err = tools.run(["try", "knee"])
+    tools.compare("what try prints", (status, out), (0, KNEE))
+    tools.fits("progress", err, re.escape(PROVING) + f"{some} of {most}{took}{left}\n({between}\n)*{last}\n")
     tools.expect(["try", "knee"], 0, KNEE)
-    write_rt(bin_folder, f"test \"$*\" = 'check monitor' && cp '{MONITOR}' target/bin/monitor && echo 'rt: monitor proved'")
-    tools.expect(["try", "--contested", "knee"], 0, KNEE_CONTESTED, PROVING.replace("say", "monitor") + "rt: monitor proved\n")
+    os.remove(built)
+    status, shown = tools.at_terminal(["try", "knee"], b"")
+    tools.compare("status at a terminal", status, 0)
+    tools.fits("progress at a terminal", shown,
+               re.escape(PROVING) + f"(\r{between} *)*\r{some} of {most}{took}{left} *(\r{between} *)*\r{last} *\n" + re.escape(KNEE))
+    # What was proved before counts as done. One crate fails: no more is told of the time, then all that rt said.
+    os.remove(built)
+    write_rt(bin_folder, "echo 'rt: rules proved (unchanged since it was last proved)'; echo 'rt: image NOT PROVED (exit 1, 2 s)'; sleep 0.5; exit 1")
+    failed = ("rt: rules proved (unchanged since it was last proved)\nrt: image NOT PROVED (exit 1, 2 s)\n"
+              "try: `say` is not proved: rt check ended with 1\n")
+    tools.expect(["try", "knee"], 1, err=PROVING + failed)
+    status, shown = tools.at_terminal(["try", "knee"], b"")
+    tools.fits("failure at a terminal", shown, re.escape(PROVING) + f"(\r1 of {most}{took} *)+\n" + re.escape(failed))
+    write_rt(bin_folder, f"test \"$*\" = 'check monitor' && cp '{MONITOR}' target/bin/monitor")
+    os.makedirs(os.path.dirname(built), exist_ok=True)
+    tools.expect(["try", "--contested", "knee"], 0, KNEE_CONTESTED, PROVING.replace("say", "monitor"))
     tools.expect(["try", "--contested", "knee"], 0, KNEE_CONTESTED)
     return tools.passed
+
+
+def time_left(tools):
+    """How long proving may still take, by what it took so far."""
+    now = [100]
+    crates = ["numbers", "rules", "image", "unheard_of"]
+    count = progress.Count(crates, lambda: now[0])
+    mean = sum(progress.SECONDS.values()) / len(progress.SECONDS)
+    weights = [progress.SECONDS[crate] for crate in crates[:3]] + [mean]
+    tools.compare("weights", [progress.weight(crate) for crate in crates], weights)
+
+    def heard(seconds, line, text):
+        now[0] += seconds
+        count.hear(line)
+        tools.compare(line, count.text(), text)
+
+    heard(7, "", "0 of 4 crates proved in 7 s")
+    heard(0, "rt: say proved (3 s)\n", "0 of 4 crates proved in 7 s")
+    heard(0, "fn rules::f: proved\n", "0 of 4 crates proved in 7 s")
+    heard(1, "rt: numbers proved (unchanged since it was last proved)\n", "1 of 4 crates proved in 8 s")
+    left = 40 * (weights[2] + mean) / weights[1]
+    heard(32, "rt: rules proved (30 s)\n", f"2 of 4 crates proved in 40 s, about {progress.roughly(left)} left")
+    heard(0, "rt: rules proved (30 s)\n", f"2 of 4 crates proved in 40 s, about {progress.roughly(left)} left")
+    heard(20, "rt: image NOT PROVED (exit 1, 2 s)\n", f"2 of 4 crates proved in 60 s, about {progress.roughly(left - 20)} left")
+    heard(1_000, "", "2 of 4 crates proved in 17 min 40 s")
+    heard(0, "rt: image proved (1 s)\n", f"3 of 4 crates proved in 17 min 40 s, about {progress.roughly(1_060 * mean / sum(weights[1:3]))} left")
+    heard(0, "rt: unheard_of proved (1 s)\n", "4 of 4 crates proved in 17 min 40 s")
+    for seconds, text in [(0.1, "10 s"), (10, "10 s"), (11, "20 s"), (89, "90 s"), (90, "2 min"), (149, "2 min"), (151, "3 min")]:
+        tools.compare(f"{seconds} s", progress.roughly(seconds), text)
+
+    tools.compare("without the toolchain's crates", programs.crates_of("rules_hex"), {"rules_hex"})
+    tools.compare("crates not in the file", programs.crates_of("nothing"), {"nothing"})
+    tools.compare("crates of crates", {"say", "rules", "numbers"} - programs.crates_of("say"), set())
+    needed = programs.crates_of("say") | programs.crates_of("monitor")
+    for what, crates in [("not measured", needed - progress.SECONDS.keys()), ("gone", progress.SECONDS.keys() - needed)]:
+        if crates:
+            print(f"tools/progress.py: {what}: {', '.join(sorted(crates))}")
 
 
 def write_rt(folder, script):
@@ -442,7 +515,7 @@ def main():
             with open(os.path.join(folder, name), "wb") as file:
                 file.write(data)
         tools = Tools(ROOT, folder)
-        for part in (names, rule_files, contested, rule_texts, readable_rules, monitor, typed_names, terminal):
+        for part in (names, rule_files, contested, rule_texts, readable_rules, monitor, typed_names, terminal, time_left):
             part(tools)
         print(f"tools: {tools.passed + proving(other)} passed")
 

@@ -6,8 +6,8 @@ import shlex
 import subprocess
 import sys
 import tempfile
-import threading
 
+import progress
 from inputs import Failure, Mistake
 
 ROOT = os.path.dirname(os.path.dirname(os.path.realpath(__file__)))
@@ -34,34 +34,34 @@ def command(text, name):
     return [os.path.abspath(part) if os.path.exists(part) else part for part in parts]
 
 
+def crates_of(name):
+    """The crates of this project that a program needs, itself among them, by crates.txt."""
+    with open(os.path.join(ROOT, "crates.txt"), encoding="utf-8") as file:
+        lines = [line.split("#")[0].partition(":") for line in file]
+    needs = {crate.strip(): rest.split() for crate, colon, rest in lines if colon}
+    found, waiting = {name}, [name]
+    while waiting:
+        more = set(needs.get(waiting.pop(), [])) & needs.keys() - found     # the others are the toolchain's
+        found |= more
+        waiting += more
+    return found
+
+
 def prove(name):
     """Proves and builds a program. What was proved before is not proved again, and nothing is said."""
-    told = threading.Event()
-
-    def tell():
-        told.set()
-        print(f"Proving and building `{name}` from its sources. This is done once and takes some minutes.",
-              file=sys.stderr, flush=True)
-
-    built_before = os.path.exists(built(name))
+    crates, patience = crates_of(name), PATIENCE if os.path.exists(built(name)) else 0
+    headline = f"Proving and building `{name}` from its sources. This is done once and takes some minutes."
     try:
         child = subprocess.Popen(["rt", "check", name], cwd=ROOT, stdin=subprocess.DEVNULL, stdout=subprocess.PIPE,
                                  stderr=subprocess.STDOUT, text=True, errors="backslashreplace")
     except FileNotFoundError:
         raise Mistake("`rt`, the Rattle toolchain, is not on the PATH; tools/speak.py needs none where "
                       f"{built(name)} was built before") from None
-    waited = threading.Timer(PATIENCE, tell)
-    if built_before:
-        waited.start()
-    else:
-        tell()
     lines = []
-    with child:
+    with child, progress.Progress(headline, crates, patience) as shown:
         for line in child.stdout:
             lines.append(line)
-            if told.is_set() and line.startswith("rt: "):       # a crate is done; the rest is the prover's detail
-                print(line, end="", file=sys.stderr, flush=True)
-    waited.cancel()
+            shown.count.hear(line)
     if child.returncode:
         sys.stderr.writelines(lines)
         raise Failure(f"`{name}` is not proved: rt check ended with {child.returncode}")

@@ -17,8 +17,8 @@
 their order. The first is applied; * marks the letters with more than one, where the name leans on that order.
 They are found in the rule file here, and held against what the program `monitor` says of the name.
 
-tools/try proves and builds `say` first, if that was not done (`monitor` with --contested); tools/speak.py
-takes it as it was built.
+tools/try proves and builds `say` first, if that was not done (`monitor` with --contested), and says on standard
+error how many crates are proved and about how long the others take; tools/speak.py takes it as it was built.
 Names come from the command line or a file or, where none are given, from standard input: one a line,
 ; starts a comment. At a terminal they are asked for; Ctrl-D ends. A refused name is an answered one.
 A space separates the words of a name; _ is one too, at an end. \\40 in a name stands for the byte 40.
