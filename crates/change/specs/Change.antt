@@ -43,8 +43,8 @@ abbrev pub afterChange : (Str → Str) → Change → (Str → Str)
 afterChange m (Add name p) = changed name p m
 afterChange m (Remove name) = changed name [] m
 
--- An automaton of k states that says m of each name. The states are the numbers 1 to k, the start counted; 0 is none. Any is meant, however it
--- is kept: it may have states that are alike, that are not reached or that lead to no name.
+-- An automaton of k states that says m of each name. The states are the numbers 1 to k, the start among them; 0 is none. How it is kept is left
+-- open, and it need not be the smallest.
 pub record Automaton (m : Str → Str) (k : ℕ) : Type 0 where
   -- the successor of a state under a letter, 0 where there is none
   pub next : ℕ → ℕ → ℕ
@@ -59,9 +59,11 @@ pub record Automaton (m : Str → Str) (k : ℕ) : Type 0 where
   pub none : phones 0 ≡ []
   pub says : (w : Str) → Letters w → phones (endState next start w) ≡ m w
 
--- The limits, of m alone: it has at most 1,000 names, and its smallest automaton at most 4,096 states, as one of so few says it. The smallest is
--- the one without states alike, not reached or leading to no name: a list has no more states than any automaton that says the same (`smallest`, proofs/Lists).
+-- The limits, of m alone: at most 1,000 names, and some automaton of at most 4,096 states says it. That is so just where the smallest one, in which
+-- no two states are alike and each is reached and leads to a name, has at most 4,096: a list has no more states than any automaton that says the
+-- same (`smallest`, proofs/Lists).
 pub record Within (m : Str → Str) : Type 0 where
+  -- a list says no longer names
   pub listed : length (names maxName m) ≤ maxListed
   pub states : ℕ
   pub few : states ≤ maxStates

@@ -1,4 +1,4 @@
--- Refusal 17 of a lent list in the words of document 02, request 1: what is refused otherwise. `isList` is true of just these (proofs/Worded).
+-- When lent memory passes 17, in the words of document 02, request 1. `isList` is true exactly then (proofs/Worded).
 -- Assumes nothing.
 use mathlib.Core.Path.{_≡_}
 use Prim.Native.Nat.{ℕ, _≤_, _<_}
@@ -26,8 +26,8 @@ pub record Minimal (ws : List ℕ) : Type 0 where
 pub record AsWorded (list : List ℕ) : Type 0 where
   -- no less memory than the layout needs
   pub memory : listSize ≤ length list
-  -- the layout: where the cells of the states lie, and how a state is written in them. A successor is a state with a lower number, so that none is
-  -- outside the list and there is no circle
+  -- the layout: where the cells of the states lie, and how a state is written in them. A successor has a lower number than its state, so that
+  -- none is outside the list and there is no circle
   pub offsets : Offsets (wordsOf list) (startOf (wordsOf list))
   pub cells : RowsGood (wordsOf list) (startOf (wordsOf list))
   -- names, letters and states within the limits
