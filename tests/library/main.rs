@@ -1,5 +1,6 @@
 //! Tries the static library from outside, through host/pirrozketa.h, against an implementation of documents
-//! 01 and 02 that was written from the papers alone. Run by tests/library/run.
+//! 01 and 02 that was written from the papers; the layout of lent memory, which they leave free, is that of the
+//! header and, of a list, of its specification. Run by tests/library/run.
 //!
 //!     --count N     rounds of random trials
 //!     --seed S      the first round's seed; round k has seed S + k, so each can be repeated alone

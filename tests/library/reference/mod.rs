@@ -1,5 +1,6 @@
-//! Document 01 and the landed requests of document 02 once more, from their text alone and in safe Rust: what
-//! the library's answers are held against. Plain before fast, so that it can be read beside the papers.
+//! Document 01 and the landed requests of document 02 once more, from their text and in safe Rust: what the
+//! library's answers are held against. Plain before fast, so that it can be read beside the papers. What they
+//! leave free is the library's: `image` has its ruleset's memory, `list_words` its list's.
 
 #![forbid(unsafe_code)]
 
