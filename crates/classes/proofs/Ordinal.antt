@@ -17,7 +17,7 @@ use Rattle.rules.proofs.Cases.{byBool}
 use Rattle.rules.specs.Shape.{Production, Entry}
 use Rattle.classes.specs.Classes.{Classes, letters}
 use Rattle.classes.specs.Expansion.{choices, size, within, literals, literalCount, under, literalEntries, expand, literalTotal}
-use Rattle.classes.specs.Ordinal.{choiceAt, literalAt, Origin, origin, originRun, origins}
+use Rattle.classes.specs.Ordinal.{choiceAt, literalAt, Origin, origin, originRun, origins, Literal}
 use Rattle.classes.proofs.Grid.{row-in, grid-at, get-map}
 use Rattle.classes.proofs.Counts.{length-choices, literals-long, entries-long, product-pos}
 
@@ -205,12 +205,6 @@ origin-from k none d q (e ∷ l) p h =
     (subst (λ (x : Entry). From k none q (e ∷ l) (getD (origins k (suc q) l) (p - literalCount k (e .rule)) d) x) (sym b)
     (from-later k none q e l (getD (origins k (suc q) l) (p - literalCount k (e .rule)) d) (getD (expand k l) (p - literalCount k (e .rule)) none)
     (origin-from k none d (suc q) l (p - literalCount k (e .rule)) (omega arith)))))
-
--- the literal rule at place p of an expansion is literal rule j of the numbered rule at q, where origin p is (q, j)
-pub record Literal (k : Classes) (none : Entry) (l : List Entry) (o : Origin) (x : Entry) : Type 0 where
-  pub inside : o .place < length l
-  pub below : o .ordinal < literalCount k (getD l (o .place) none .rule)
-  pub literal : x ≡ under (getD l (o .place) none .number) (literalAt k (getD l (o .place) none .rule) (o .ordinal))
 
 pub origin-literal : (k : Classes) (none : Entry) (d : Origin) (l : List Entry) (p : ℕ) → p < literalTotal k l
     → Literal k none l (getD (origins k 0 l) p d) (getD (expand k l) p none)

@@ -1,11 +1,12 @@
 -- Literal rules by their ordinals: literal rule j of a rule, and where the literal rules of a list come from.
 -- Assumes nothing.
-use Prim.Native.Nat.{ℕ, zero, suc, _/_, _%_}
+use Prim.Native.Nat.{ℕ, zero, suc, _/_, _%_, _<_}
+use mathlib.Core.Path.{_≡_}
 use mathlib.Core.List.{List, [], _∷_, _++_}
-use lib.ListN.{getD}
+use lib.ListN.{length, getD}
 use Rattle.rules.specs.Shape.{Production, Entry}
 use Rattle.classes.specs.Classes.{Classes}
-use Rattle.classes.specs.Expansion.{choices, size, within, literalCount}
+use Rattle.classes.specs.Expansion.{choices, size, within, literalCount, under}
 
 -- choice j of a string of symbols, counted round
 abbrev pub choiceAt : Classes → List ℕ → ℕ → List ℕ
@@ -32,3 +33,9 @@ originRun q j (suc n) = origin q j ∷ originRun q (suc j) n
 abbrev pub origins : Classes → ℕ → List Entry → List Origin
 origins k q [] = []
 origins k q (e ∷ l) = originRun q 0 (literalCount k (e .rule)) ++ origins k (suc q) l
+
+-- the literal rule at place p of an expansion is literal rule j of the numbered rule at q, where origin p is (q, j)
+pub record Literal (k : Classes) (none : Entry) (l : List Entry) (o : Origin) (x : Entry) : Type 0 where
+  pub inside : o .place < length l
+  pub below : o .ordinal < literalCount k (getD l (o .place) none .rule)
+  pub literal : x ≡ under (getD l (o .place) none .number) (literalAt k (getD l (o .place) none .rule) (o .ordinal))

@@ -25,7 +25,7 @@ use Rattle.file_format.specs.Layout.{numberedOf}
 use Rattle.file_format.specs.File.{Read, readRules, Defined, readDefined, readFile}
 use Rattle.file_format.specs.File.Read.{Accepted, Malformed, Broken}
 use Rattle.file.specs.Loading.{ledgerFor, verdict, described, stored, loaded, headAt, classesEnd, RulesFrom, withRules}
-use Rattle.file_format.proofs.Accepts.{Were, rules-were, after-ok, Written, accepted as accepted-was}
+use Rattle.file_format.proofs.Accepts.{Were, rules-were, after-ok, accepted as accepted-was}
 use Rattle.file.proofs.ClassReading.{after-within, after-rules}
 use Rattle.file.proofs.FirstLine.{no-decline, head-sound, head-ok, head-few, head-within, head-on}
 use Rattle.file.proofs.Slots.{rules-laid}

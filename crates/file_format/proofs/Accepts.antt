@@ -22,7 +22,7 @@ use Rattle.classes.specs.Masks.{classesShaped}
 use Rattle.image.specs.State.{Ruleset, entry, entries, distinct, allDefined, expandable, isRuleset}
 use Rattle.image.proofs.Entries.{shaped}
 use Rattle.file_format.specs.Layout.{frameType, headType, edition, headEdition, headCount, headLast, headFrameSize, ruleType, entryIn}
-use Rattle.file_format.specs.File.{wellFormed, headBody, ruleBody, headLine, classLines, ruleLines, encode, isHead, isRule, fine, ruleFits, ended, readRules, Defined, readDefined, afterClasses, readFile}
+use Rattle.file_format.specs.File.{wellFormed, headBody, ruleBody, headLine, classLines, ruleLines, encode, isHead, isRule, fine, ruleFits, ended, readRules, Defined, readDefined, afterClasses, readFile, Written}
 use Rattle.file_format.specs.File.Read.{Accepted, Malformed, Broken}
 use Rattle.file_format.proofs.Bodies.{no, both, in-range, rule-bytes, rule-back, rule-is, rule-was, head-bytes, head-is, head-was}
 use Rattle.file_format.proofs.Numbers.{fineAll, fine-is, fine-apart, apart-fine}
@@ -184,11 +184,6 @@ pub after-ok : (len last n : ℕ) (d : Defined) (b : Ruleset) → afterClasses l
 after-ok len last n d b e =
     byBool (d .ok) (λ t. (t, rw t at e))
     (λ t. let e′ : Broken (len - length (d .rest)) ≡ Accepted b = rw t at e in let z : _≡_ {A = ℕ} 0 1 = cc in absurd (omega arith))
-
-pub record Written (s : List ℕ) (b : Ruleset) : Type 0 where
-  pub was : s ≡ encode b
-  pub formed : wellFormed b ≡ true
-  pub only : OnlyClasses (b .classes)
 
 accepted-on : (s f rest : List ℕ) (b : Ruleset) (d : Defined) → soundLine s ≡ Good f rest → isHead f ≡ true → readDefined rest ≡ d
     → afterClasses (length s) (headLast f) (headCount f) d ≡ Accepted b

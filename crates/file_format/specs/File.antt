@@ -1,13 +1,14 @@
 -- The rule file of document 01, with the letter classes of document 02's request 5: its writing, and its reading with the refusals 13 and 14.
 -- Assumes nothing.
 use Prim.Native.Nat.{ℕ, zero, suc, _+_, _-_, _/_, _%_}
+use mathlib.Core.Path.{_≡_}
 use mathlib.Core.List.{List, [], _∷_, _++_}
 use mathlib.Core.Bool.{Bool, true, false, cond, not, _&&_}
 use lib.ListN.{length}
 use lib.Dec.{leb, eqb}
 use Rattle.rules.specs.Limits.{maxRules, maxNumber, firstClass, classCount}
 use Rattle.rules.specs.Shape.{Entry}
-use Rattle.classes.specs.Classes.{Classes, noClasses, isClass, classShape, defined}
+use Rattle.classes.specs.Classes.{Classes, noClasses, isClass, classShape, defined, OnlyClasses}
 use Rattle.classes.specs.Expansion.{literalCount, literalTotal}
 use Rattle.classes.specs.Setting.{withClass}
 use Rattle.image.specs.State.{Ruleset, entry, member, isRuleset}
@@ -154,3 +155,9 @@ unfoldable pub readFile : List ℕ → Read
 readFile s =
     onLine (soundLine s) (Malformed 0)
     (λ f rest. cond (isHead f) (afterClasses (length s) (headLast f) (headCount f) (readDefined rest)) (Broken 0))
+
+-- the file is the writing of a ruleset that a file can hold: those that are accepted (`accepts`, `accepted`)
+pub record Written (s : List ℕ) (b : Ruleset) : Type 0 where
+  pub was : s ≡ encode b
+  pub formed : wellFormed b ≡ true
+  pub only : OnlyClasses (b .classes)

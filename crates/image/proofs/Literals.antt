@@ -1,7 +1,7 @@
 -- The literal rules of a ruleset: how many there are, where each comes from, and their shape.
 -- Assumes nothing.
-use Prim.Native.Nat.{ℕ, zero, suc, _+_, _-_, _*_, _/_, _%_, _≤_, _<_}
-use mathlib.Core.Path.{_≡_, refl, sym, ap, ap₂, _∙_, subst}
+use Prim.Native.Nat.{ℕ, zero, suc, _-_, _/_, _%_, _≤_, _<_}
+use mathlib.Core.Path.{_≡_, sym, ap, _∙_, subst}
 use mathlib.Core.List.{List, [], _∷_}
 use mathlib.Core.Bool.{true}
 use native.Mathlib.Omega.{arith}
@@ -14,18 +14,19 @@ use Rattle.rules.proofs.Cases.{and-l, and-r, byBool}
 use Rattle.numbers.specs.Numbers.{eight}
 use Rattle.classes.specs.Classes.{Classes, isClass, letters, Proper, OnlyClasses}
 use Rattle.classes.specs.Masks.{maskStart, lettersIn, classesIn}
-use Rattle.classes.specs.Expansion.{size, literalCount, literalTotal, under, expand}
-use Rattle.classes.specs.Ordinal.{Origin, origin, origins, choiceAt, literalAt}
+use Rattle.classes.specs.Expansion.{size, literalCount, literalTotal}
+use Rattle.classes.specs.Ordinal.{origin, origins, choiceAt, literalAt}
 use Rattle.classes.proofs.Bytes.{outside-in, proper}
 use Rattle.classes.proofs.Letters.{letters-below}
 use Rattle.classes.proofs.Standing.{class-letters}
 use Rattle.classes.proofs.Counts.{literal-total, product-pos}
 use Rattle.classes.proofs.Ordinal.{length-origins, origin-literal, choice-symbol, choice-long}
 use Rattle.image.specs.State.{noEntry}
-use Rattle.image.specs.Image.{originSize, tableStart, totalOf, countOf, masksIn, entryAt, entriesOf, classesOf, literalsOf, originsOf, valid}
+use Rattle.image.specs.Literals.{LiteralAt}
+use Rattle.image.specs.Image.{totalOf, masksIn, entryAt, entriesOf, classesOf, literalsOf, originsOf, valid}
 use Rattle.image.proofs.Entries.{Shaped, entry-shaped, entries-length}
 use Rattle.image.proofs.Settling.{few-literals}
-use Rattle.image.proofs.Origins.{EntryOf, origin-at, tabled-total}
+use Rattle.image.proofs.Origins.{origin-at, tabled-total}
 use Rattle.image.proofs.Tests.{valid-sound, valid-tabled, sound-classes}
 
 pub literals-length : (d : List ℕ) → length (literalsOf d) ≡ literalTotal (classesOf d) (entriesOf d)
@@ -105,14 +106,7 @@ module _ (d : List ℕ) (ok : valid d ≡ true) where
   pub total-few : totalOf d ≤ maxRules
   total-few = omega (arith, total-is, literals-few)
 
-  -- the literal rule at a place, and where the table says that it comes from
-  pub record LiteralAt (p : ℕ) (o : Origin) : Type 0 where
-    pub inside : o .place < countOf d
-    pub below : o .ordinal < literalCount (classesOf d) (entryAt d (o .place) .rule)
-    pub literal : getD (literalsOf d) p noEntry ≡ under (entryAt d (o .place) .number) (literalAt (classesOf d) (entryAt d (o .place) .rule) (o .ordinal))
-    pub entry : EntryOf d (tableStart + originSize * p) o
-
-  pub literal-is : (p : ℕ) → p < totalOf d → LiteralAt p (getD (originsOf d) p (origin 0 0))
+  pub literal-is : (p : ℕ) → p < totalOf d → LiteralAt d p (getD (originsOf d) p (origin 0 0))
   unfolding literalsOf
   literal-is p h =
       let t : p < literalTotal (classesOf d) (entriesOf d) = omega (arith, tabled-total d (valid-tabled d ok)) in

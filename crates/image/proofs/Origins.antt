@@ -3,31 +3,30 @@
 --     unfit, crowded, misplaced, tested, finished      whether memory has the table of its rules, rule by rule
 --     begun, grown, closed                             the table laid rule by rule
 -- Assumes nothing.
-use Prim.Native.Nat.{ℕ, zero, suc, _+_, _-_, _*_, _/_, _%_, _≤_, _<_}
+use Prim.Native.Nat.{ℕ, zero, suc, _+_, _-_, _*_, _≤_, _<_}
 use mathlib.Core.Path.{_≡_, refl, sym, ap, ap₂, _∙_}
-use mathlib.Core.List.{List, [], _∷_, _++_, append-assoc}
-use mathlib.Core.Bool.{Bool, true, false, cond, _&&_}
+use mathlib.Core.List.{List, [], _∷_, _++_}
+use mathlib.Core.Bool.{Bool, true, false, _&&_}
 use native.Mathlib.Omega.{arith}
 use native.Mathlib.Numerals.{add-one}
 use borrow.Author.Tests.{le-leb, lt-leb, leb-false, eqb-true, eq-eqb, ne-eqb}
 use lib.Dec.{leb, eqb}
-use lib.ListN.{length, getD, take, drop, length-append, drop-of-length-le}
-use lib.Seq.{getD-drop, drop-drop, drop-cons, take-suc, take-all, drop-append-seam, drop-append-add, drop-at, take-append-le, length-take-le, append-snoc, getD-append-seam}
+use lib.ListN.{length, getD, drop, drop-of-length-le}
+use lib.Seq.{getD-drop, drop-drop, drop-cons}
 use Rattle.classes.proofs.Scan.{cap-exact}
 use Rattle.numbers.specs.Numbers.{two}
 use Rattle.rules.specs.Limits.{maxRules}
-use Rattle.rules.specs.Memory.{over, overAt}
 use Rattle.rules.specs.Shape.{Entry}
 use Rattle.rules.proofs.Cases.{and-l, and-r, byBool}
-use Rattle.rules.proofs.Memory.{over-length, over-snoc, over-part}
 use Rattle.classes.specs.Classes.{Classes, defined}
 use Rattle.classes.specs.Counting.{capped}
 use Rattle.classes.specs.Expansion.{literalCount, literalTotal}
 use Rattle.classes.specs.Ordinal.{Origin, origin, originRun, origins}
-use Rattle.classes.proofs.Counts.{defined-count, total-append}
-use Rattle.classes.proofs.Ordinal.{length-run, length-origins, origins-append}
+use Rattle.classes.proofs.Counts.{defined-count}
+use Rattle.classes.proofs.Ordinal.{length-run}
 use Rattle.image.specs.State.{noEntry, allDefined, expandable}
-use Rattle.image.specs.Image.{originSize, originsAt, originBytes, tableBytes, tableStart, totalStart, totalOf, classesOf, entriesOf, originsOf, tabled, settled}
+use Rattle.image.specs.Image.{originSize, originsAt, tableStart, totalOf, classesOf, entriesOf, originsOf, tabled}
+use Rattle.image.specs.Literals.{EntryOf}
 
 -- ---- an entry
 
@@ -35,10 +34,6 @@ two-drop : (n at : ℕ) (s : List ℕ) → two at (drop n s) ≡ two (n + at) s
 two-drop n at s =
     let e : n + (at + 1) ≡ n + at + 1 = omega arith in
     ap₂ (λ (a b : ℕ). 256 * a + b) (getD-drop n s at 0) (getD-drop n s (at + 1) 0 ∙ ap (λ (k : ℕ). getD s k 0) e)
-
-pub record EntryOf (s : List ℕ) (at : ℕ) (o : Origin) : Type 0 where
-  pub place : two at s ≡ o .place
-  pub ordinal : two (at + 2) s ≡ o .ordinal
 
 entry-on : (s : List ℕ) (at : ℕ) (o : Origin) → EntryOf (drop originSize s) at o → EntryOf s (originSize + at) o
 entry-on s at o e =

@@ -17,7 +17,8 @@ use Rattle.classes.proofs.Counts.{product-pos}
 use Rattle.classes.proofs.Ordinal.{choice-long}
 use Rattle.image.specs.Image.{valid, countOf, totalOf, classStart, masksIn, classesOf, entryAt, originsOf}
 use Rattle.image.proofs.Tests.{valid-long}
-use Rattle.image.proofs.Literals.{LiteralAt, literal-is}
+use Rattle.image.specs.Literals.{LiteralAt}
+use Rattle.image.proofs.Literals.{literal-is}
 use Rattle.fitting.specs.Fitting.{Str, starts, ends, fits}
 use Rattle.fitting.specs.Reading.{apply}
 use Rattle.literals.specs.Matching.{ruleWith, endOf}
@@ -28,7 +29,7 @@ module _ (d : List ℕ) (ok : valid d ≡ true) (p : ℕ) (h : p < totalOf d) wh
   abbrev from : Origin
   from = getD (originsOf d) p (origin 0 0)
 
-  literal : LiteralAt d ok p from
+  literal : LiteralAt d p from
   literal = literal-is d ok p h
 
   -- q and j are what the table has for it
