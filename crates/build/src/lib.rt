@@ -152,7 +152,7 @@ fn build_with(
 
 // Builds the tables of an image that is known to be a ruleset. The scratch arrays are made once: with the tree of a count they take 7.7 KB
 // of stack, of the 32 KB that a call may have.
-pub fn build_valid(image: &[u8], words: &mut [u16], sets: &mut [u64]) -> Answer
+fn build_valid(image: &[u8], words: &mut [u16], sets: &mut [u64]) -> Answer
     requires { ⌜ valid (now image) ≡ true ⌝ }
     ensures { λ r. ⌜ building (replyOf r) (now (words .exit)) (now (sets .exit)) ≡ builtFrom (editsOf (now (image .entry))) (literalsOf (now (image .entry))) (now (words .entry)) (now (sets .entry)) ⌝ }
 {
