@@ -7,7 +7,7 @@ FESTIVAL is the package's folder, /usr/share/festival where it is installed. Mad
 classes; italian.hex, the same written out; italian.names, NAMES names, each after a byte with its length. Exit status 3 where
 the package's files are not there. Nothing of the package is part of this project.
 
-The rules. The package reads a word by 40 rulesets in turn, each on what the one before gives: `italian` names the
+The rules. The package reads a word by 43 rulesets in turn, each on what the one before gives: `italian` names the
 letters, those called stress set accents, italian_grafo1 is the first that turns spelling into sounds (gl, gn, sc, c and g before
 e and i, qu). italian_grafo1 is taken, since it is whole within our limits: 64 rules, 314 with its sets written out, of
 contexts up to 3, targets up to 3 and phones up to 2. No rule is left out or cut; a package whose rules exceed a limit is refused.
@@ -92,8 +92,8 @@ def converted(sets, rules):
 def names_in(lexicon, letters):
     """NAMES of the lexicon's words, at equal distances."""
     words = dict.fromkeys(re.findall(r'^\("([^"]*)"', lexicon, re.M))
-    spelled = ([STRESSED.get(letter, letter) for letter in word] for word in words)
-    readable = [bytes(letters[symbol] for symbol in word) for word in spelled if 1 <= len(word) <= LONGEST and all(symbol in letters for symbol in word)]
+    spelled = ([STRESSED.get(letter, letter) for letter in word] for word in words if 1 <= len(word) <= LONGEST)
+    readable = [bytes(letters[symbol] for symbol in word) for word in spelled if all(symbol in letters for symbol in word)]
     return [readable[len(readable) * k // NAMES] for k in range(NAMES)]
 
 
