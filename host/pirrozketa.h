@@ -304,12 +304,12 @@ uint8_t pirrozketa_write_file(const uint8_t *image, size_t image_len, uint8_t *o
  * Its layout is the library's own, and two lists that say the same may differ in their words: compare lists by
  * their read-out. States share endings, so that a change may need fewer or more of them: 19 can follow any change,
  * a removal too.
- * To keep a list, on a card say, keep its words: a read-out can only be listed again name by name. They hold no addresses: copied
- * anywhere, they are the same list. They are numbers in the machine's own byte order, here the low byte first. The first list[list[4199] + 1]
- * words are enough, from 4,200 for the empty list to 30,296; lend PIRROZKETA_LIST words all the same, of which the others may hold
- * anything. pirrozketa_list_check refuses what is no list, but words that were damaged may by chance be another list: keep a
- * checksum of your own with them. Lists of all versions from 3.0 on are taken, and have the same layout; what 3.0 listed with
- * letter 63 has a space there since 4.0.
+ * To keep a list, on a card say, keep its words: a read-out can only be listed again name by name. They hold no addresses:
+ * copied anywhere, they are the same list. They are numbers in the machine's own byte order, here the low byte first. The first
+ * list[list[4199] + 1] words are enough, from 4,200 for the empty list to 30,296; lend PIRROZKETA_LIST words all the same, of
+ * which the others may hold anything. pirrozketa_list_check refuses what is no list, but words that were damaged may by chance
+ * be another list: keep a checksum of your own with them. Lists of all versions from 3.0 on are taken, and have the same
+ * layout; what 3.0 listed with letter 63 has a space there since 4.0.
  */
 
 /* Makes the memory, whatever it holds, the empty list. Refusal 17 where it is too short. */
