@@ -48,15 +48,18 @@ class Conversation:
             stop = threading.Timer(self.limit, self.child.kill)
             stop.start()
             try:
-                for body in bodies:
-                    self.sent.append(body)
-                    self.send(body)
-                return None
-            except Differs as differs:
-                return differs.args
+                return self.talk(bodies)
             finally:
                 stop.cancel()
                 self.child.kill()
+
+    def talk(self, bodies):
+        try:
+            for body in bodies:
+                self.sent.append(body)
+                self.send(body)
+        except Differs as differs:
+            return differs.args
 
     def ask(self, body, lines=1):
         try:
@@ -108,6 +111,10 @@ def outcome(before, after):
     return OTHER
 
 
+def missed(learned):
+    return [what for what in OUTCOMES if not learned[what]]
+
+
 def fails(command, limit, bodies):
     return Conversation(command, limit).run(bodies)
 
@@ -138,9 +145,9 @@ def main():
             return 1
         learned += talk.learned
     print("stores: " + ", ".join(f"{learned[what]} {what}" for what in OUTCOMES))
-    missed = [what for what in OUTCOMES if not learned[what]] if given.count >= ENOUGH else []
-    print(f"{given.count} passed, 0 failed" + "".join(f"; no store gave this: {what}" for what in missed))
-    return 1 if missed or not learned else 0
+    wanting = missed(learned) if given.count >= ENOUGH else []
+    print(f"{given.count} passed, 0 failed" + "".join(f"; no store gave this: {what}" for what in wanting))
+    return 1 if wanting or not learned else 0
 
 
 if __name__ == "__main__":

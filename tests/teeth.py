@@ -1,17 +1,20 @@
 #!/usr/bin/env python3
-"""Does the comparison bite? Each planted fault in a copy of reference.py must show in some run, or in the copy's own self-test where no
-program reaches it.
+"""Does the comparison bite? Each planted fault in a copy of reference.py must show in some run, in the copy's own self-test where no
+program reaches it, or in conversations with lists stored over.
 
     python3 tests/teeth.py [--count N] [--seed S]
 """
 
 import argparse
+import collections
 import contextlib
 import io
 import sys
 import types
 
+import damaged
 import generate
+import lists
 import reference as ref
 
 # Lines of reference.py that several faults are about.
@@ -27,6 +30,7 @@ LIMIT = "MAX_CONTEXT = 4  "
 CUT = "rule._replace(left=rule.left[-MAX_CONTEXT:], right=rule.right[:MAX_CONTEXT])"
 
 LENT = "        return self.listed\n"
+STORED = "        self.listed = UNKNOWN\n"
 
 
 def refused_if(test):
@@ -34,7 +38,8 @@ def refused_if(test):
     return f"        return None if self.listed is not None and {test} else self.listed\n"
 
 
-# (what, line of reference.py, what stands there instead, runs that must show it; "alone" is the copy's self-test)
+# (what, line of reference.py, what stands there instead, runs that must show it; "alone" is the copy's self-test, "damaged" are
+# conversations of damaged.py)
 FAULTS = [
     ("stops before the last letter", "    framed, n, i = word.framed, len(word.letters), 1\n",
      "    framed, n, i = word.framed, len(word.letters) - 1, 1\n", "monitor"),
@@ -445,6 +450,13 @@ FAULTS = [
     ("17 of a list from which a name is gone", "        return self.list_changed(unlist_name(self.lent_list(), name))\n",
      "        answer = self.list_changed(unlist_name(self.lent_list(), name))\n"
      "        if not isinstance(answer, Refusal):\n            self.listed = None\n        return answer\n", "lists"),
+    # Lists stored over: the copy has no units, so that it refuses them all, takes them all or contradicts itself.
+    ("every store refused", STORED, "        self.listed = None\n", "damaged"),
+    ("no store noticed", STORED, "", "damaged"),
+    ("what is stored over is emptied", STORED, "        self.listed = Exceptions()\n", "damaged"),
+    ("what is stored over refused every other time", STORED,
+     "        asked = []\n        self.lent_list = lambda: asked.append(1) or (None if len(asked) % 2 else self.listed)\n", "damaged"),
+    ("what is stored over refused when it is emptied too", STORED, "        self.lent_list = lambda: None\n", "damaged"),
     ("a clear that empties the list too", "        self.hold(EMPTY)\n        return frame_line",
      "        self.hold(EMPTY)\n        self.listed = Exceptions()\n        return frame_line", "monitor"),
 ]
@@ -469,6 +481,28 @@ def shown_alone(module):
     except Exception as error:
         return repr(error)
     return told.getvalue().removeprefix("FAILED ").partition(": got")[0] if failed else None
+
+
+class Overheard(damaged.Conversation):
+    """With a copy of the reference in place of a program."""
+
+    def __init__(self, module):
+        super().__init__(None, None)
+        self.copy = module.Monitor()
+
+    def ask(self, body, lines=1):
+        return self.copy.answer(ref.frame_line(body)[:-1])
+
+
+def shown_damaged(module, count):
+    """What differs, or an outcome of a store that never comes up; None otherwise."""
+    learned = collections.Counter()
+    for seed in range(1, count + 1):
+        talk = Overheard(module)
+        if talk.talk(lists.stores(generate.Source(f"damaged {seed}"), talk.held)):
+            return f"--seed {seed}"
+        learned += talk.learned
+    return ", ".join(f"not {what}" for what in damaged.missed(learned)) or None
 
 
 def shows(module, kind, run):
@@ -499,7 +533,12 @@ def main():
     for what, old, new, kinds in FAULTS:
         module = faulty(old, new)
         for kind in kinds.split():
-            which = shown_alone(module) if kind == "alone" else shown_by(module, kind, cases[kind])
+            if kind == "alone":
+                which = shown_alone(module)
+            elif kind == "damaged":
+                which = shown_damaged(module, damaged.ENOUGH)
+            else:
+                which = shown_by(module, kind, cases[kind])
             passed, failed = passed + (which is not None), failed + (which is None)
             print(f"{what}: " + (f"{kind}, {which}" if which is not None else f"NOT SHOWN by {kind}"), flush=True)
     print(f"{passed} passed, {failed} failed")
