@@ -22,7 +22,7 @@ use Rattle.frames.specs.Lines.{soundLine}
 use Rattle.file.specs.declared.heading.HeadLine.{HeadLine}
 use Rattle.file.specs.declared.defining.ClassesEnd.{ClassesEnd}
 use Rattle.file_format.specs.Layout.{numberedOf}
-use Rattle.file_format.specs.File.{Read, readRules, Defined, readDefined, readFile}
+use Rattle.file_format.specs.File.{Read, readRules, Defined, readDefined, readFile, Written}
 use Rattle.file_format.specs.File.Read.{Accepted, Malformed, Broken}
 use Rattle.file.specs.Loading.{ledgerFor, verdict, described, stored, loaded, headAt, classesEnd, RulesFrom, withRules}
 use Rattle.file_format.proofs.Accepts.{Were, rules-were, after-ok, accepted as accepted-was}
