@@ -1,2 +1,3 @@
 pub mod Choosing
+pub mod Halves
 pub mod WordsRead
