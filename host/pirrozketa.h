@@ -306,8 +306,8 @@ uint8_t pirrozketa_write_file(const uint8_t *image, size_t image_len, uint8_t *o
  * a removal too.
  * To keep a list, on a card say, keep its words: a read-out can only be listed again name by name. They hold no addresses:
  * copied anywhere, they are the same list. They are numbers in the machine's own byte order, here the low byte first. The first
- * list[list[4199] + 1] words are enough, from 4,200 for the empty list to 30,296; lend PIRROZKETA_LIST words all the same, of
- * which the others may hold anything. pirrozketa_list_check refuses what is no list, but words that were damaged may by chance
+ * list[list[4199] + 1] words are enough, 4,200 for the empty list and never over 30,296; lend PIRROZKETA_LIST words all the
+ * same, of which the others may hold anything. pirrozketa_list_check refuses what is no list, but words that were damaged may by chance
  * be another list: keep a checksum of your own with them. Lists of all versions from 3.0 on are taken, and have the same
  * layout; what 3.0 listed with letter 63 has a space there since 4.0.
  */
