@@ -1,6 +1,6 @@
 -- What is found at a reached letter by the sets of two states.
 -- Assumes nothing.
-use Prim.Native.Nat.{ℕ, _+_, _-_, _*_, _/_, _≤_, _<_}
+use Prim.Native.Nat.{ℕ, _+_, _-_, _*_, _≤_, _<_}
 use mathlib.Core.Path.{_≡_}
 use mathlib.Core.List.{List, [], _++_}
 use mathlib.Core.Option.{Option, none, some}
@@ -34,14 +34,6 @@ lowestShared ss s t = lowestFrom (meetWord ss s t) 0 setSize
 -- how many places they share
 abbrev pub countShared : List ℕ → ℕ → ℕ → ℕ
 countShared ss s t = onesFrom (meetWord ss s t) 0 setSize
-
--- words of half a set
-abbrev pub halfSize : ℕ
-halfSize = setSize / 2
-
--- how many places the words of half a set from set words s and t on share
-abbrev pub countHalf : List ℕ → ℕ → ℕ → ℕ
-countHalf ss s t = onesFrom (meetWord ss s t) 0 halfSize
 
 -- the choice at position i of the frame f by these two sets
 unfoldable pub choiceBy : List ℕ → List ℕ → ℕ → ℕ → List ℕ → ℕ → Choice

@@ -5,7 +5,6 @@ ghost use mathlib.Core.Bool.{true};
 ghost use Prim.Native.Nat.{_+_, _-_, _*_, _<_, _≤_};
 ghost use lib.Bits.{bitAnd};
 ghost use lib.Count.{onesIn};
-ghost use lib.Dec.{eqb};
 ghost use lib.ListN.{length, getD};
 ghost use Rattle.rules.specs.Limits.{maxRules};
 ghost use Rattle.rules.specs.Names.{SoundName};
@@ -13,7 +12,7 @@ ghost use Rattle.image.specs.Image.{totalOf, valid};
 ghost use Rattle.speech.specs.Words.{frameOf};
 ghost use Rattle.speech.specs.Places.{frameSize, ReadBy};
 ghost use Rattle.tables.specs.Words.{setSize};
-ghost use Rattle.table_reading.specs.Letters.{foundOf, lowestShared, halfSize, countHalf, countShared, choiceBy, Chooses, choicesBy, Bounded, suffix, between, WordRead, Held, NameRead};
+ghost use Rattle.table_reading.specs.Letters.{foundOf, lowestShared, countShared, choiceBy, Chooses, choicesBy, Bounded, suffix, between, WordRead, Held, NameRead};
 
 // The lowest place that two sets share.
 enum Found {
@@ -84,48 +83,18 @@ fn shared_in(sets: &[u64], a: usize, b: usize) -> usize
     u64::count_ones(sets[a] & sets[b]) as usize
 }
 
-// Words of half a set.
-const HALF: usize = tables::SET / 2;
-
-// How many places the words of half a set from `s` and from `t` on share.
-fn count_half(sets: &[u64], s: usize, t: usize) -> usize
-    requires { ⌜ (s + halfSize ≤ length (now sets)) × (t + halfSize ≤ length (now sets)) ⌝ }
-    ensures { λ r. ⌜ (r ≡ countHalf (now (sets .entry)) s t) × (r ≤ 64 * halfSize) ⌝ }
-{
-    let mut count: usize = 0;
-    let mut j: usize = 0;
-    while j < HALF {
-        count += shared_in(sets, s + j, t + j);
-        j += 1;
-    }
-    count
-}
-
-// Whether they share none.
-fn half_empty(sets: &[u64], s: usize, t: usize) -> bool
-    requires { ⌜ (s + halfSize ≤ length (now sets)) × (t + halfSize ≤ length (now sets)) ⌝ }
-    ensures { λ r. ⌜ r ≡ eqb (countHalf (now (sets .entry)) s t) 0 ⌝ }
-{
-    let mut any: u64 = 0;
-    let mut j: usize = 0;
-    while j < HALF {
-        any = any | (sets[s + j] & sets[t + j]);
-        j += 1;
-    }
-    any == 0
-}
-
-// How many places two sets share: those of the eight words in which the sets from `s` and from `t` on meet. The ones of the upper four are counted only
-// where there are some: 256 literal rules or fewer have none there.
+// How many places two sets share: those of the eight words in which the sets from `s` and from `t` on meet.
 fn count_shared(sets: &[u64], s: usize, t: usize) -> usize
     requires { ⌜ (s + setSize ≤ length (now sets)) × (t + setSize ≤ length (now sets)) ⌝ }
     ensures { λ r. ⌜ (r ≡ countShared (now (sets .entry)) s t) × (r ≤ maxRules) ⌝ }
 {
-    let low = count_half(sets, s, t);
-    if half_empty(sets, s + HALF, t + HALF) {
-        return low;
+    let mut count: usize = 0;
+    let mut j: usize = 0;
+    while j < tables::SET {
+        count += shared_in(sets, s + j, t + j);
+        j += 1;
     }
-    low + count_half(sets, s + HALF, t + HALF)
+    count
 }
 
 // What is found at a reached letter: the place of the numbered rule to apply, how many literal rules fit and where reading goes on; none; or tables

@@ -1,64 +1,65 @@
--- `table_reading::count_shared` meets its contract: the places of both halves, of which the upper may have none.
+-- `table_reading::count_shared` meets its contract. The loop's invariant: those counted and those from word j on are all.
 -- Assumes nothing.
-use mathlib.Core.Path.{sym, _∙_}
-use Prim.Native.Nat.{_+_}
+use Prim.Native.Nat.{_+_, _-_, _*_, _≤_}
+use mathlib.Core.Path.{_≡_}
 use native.Mathlib.Omega.{arith}
 use borrow.Author.Needs.{needs}
-use borrow.Author.Tests.{eqb-true}
-use Rattle.table_reading.specs.Letters.{halfSize, countHalf}
-use Rattle.table_reading.proofs.Halves.{both-halves}
+use Rattle.tables.specs.SetWords.{onesFrom, meetWord}
+use Rattle.tables.proofs.SetWords.{ones-next, ones-end}
 use Rattle.table_reading.proofs.count_shared.Statement.{statement}
 use Rattle.table_reading.proofs.count_shared.Tie as tie
 
-count-half-requires : tie.Need-count-half-requires
-count-half-requires c κs = search needs
+abbrev Inv-loop : tie.InvT-loop
+Inv-loop sets s t count₀ j₀ count j = (j ≤ 8) × (count ≤ 64 * j) × (count + onesFrom (meetWord sets s t) j (8 - j) ≡ onesFrom (meetWord sets s t) 0 8)
 
-add-half-empty : tie.Need-add-half-empty
-add-half-empty c = search needs
+abbrev μ-loop : tie.MeasureT-loop
+μ-loop sets s t count₀ j₀ count j = 8 - j
 
-add-half-empty-2 : tie.Need-add-half-empty-2
-add-half-empty-2 c = search needs
+loop-holds : tie.Need-loop-holds Inv-loop μ-loop
+loop-holds c = (omega arith, omega arith, omega arith)
 
-half-empty-requires : tie.Need-half-empty-requires
-half-empty-requires c κs = search needs
+add-shared-in : tie.Need-add-shared-in Inv-loop μ-loop
+add-shared-in c = search needs
 
-returns : tie.Need-returns
+add-shared-in-2 : tie.Need-add-shared-in-2 Inv-loop μ-loop
+add-shared-in-2 c = search needs
+
+shared-in-requires : tie.Need-shared-in-requires Inv-loop μ-loop
+shared-in-requires c κs = search needs
+
+add-count : tie.Need-add-count Inv-loop μ-loop
+add-count c = omega (arith, c .before .before .loop .inv .0, c .before .before .loop .inv .1, c .shared-in .ensures .1)
+
+add-j : tie.Need-add-j Inv-loop μ-loop
+add-j c = search needs
+
+loop-less : tie.Need-loop-less Inv-loop μ-loop
+loop-less c = search needs
+
+loop-again : tie.Need-loop-again Inv-loop μ-loop
+loop-again c =
+    let l = c .before .before .loop in
+    let r = c .shared-in .ensures in
+    (omega arith, omega (arith, r .1, l .inv .1), omega (arith, r .0, ones-next (meetWord (c .before .before .before .before .args .sets .now) (c .before .before .before .before .args .s) (c .before .before .before .before .args .t)) (l .j) 8 (omega arith), l .inv .2))
+
+returns : tie.Need-returns Inv-loop μ-loop
 returns c =
-    let st = c .before .before .before .before in
-    let low = c .before .before .count-half in
-    let none = eqb-true (countHalf (st .args .sets .now) (st .args .s + halfSize) (st .args .t + halfSize)) 0 (sym (c .before .half-empty .ensures) ∙ c .if1 .taken) in
-    (omega (arith, low .ensures .0, none, both-halves (st .args .sets .now) (st .args .s) (st .args .t)), omega (arith, low .ensures .1))
-
-add-count-half : tie.Need-add-count-half
-add-count-half c = search needs
-
-add-count-half-2 : tie.Need-add-count-half-2
-add-count-half-2 c = search needs
-
-count-half-requires-2 : tie.Need-count-half-requires-2
-count-half-requires-2 c κs = search needs
-
-add-result : tie.Need-add-result
-add-result c = search needs
-
-returns-2 : tie.Need-returns-2
-returns-2 c =
-    let st = c .before .before .before .before .before in
-    let low = c .before .before .before .count-half in
-    let high = c .count-half2 in
-    (omega (arith, low .ensures .0, high .ensures .0, both-halves (st .args .sets .now) (st .args .s) (st .args .t)), omega (arith, low .ensures .1, high .ensures .1))
+    let l = c .before .loop in
+    let e = ones-end (meetWord (c .before .before .before .args .sets .now) (c .before .before .before .args .s) (c .before .before .before .args .t)) (l .j) 8 (omega arith) in
+    (omega (arith, l .inv .2), omega (arith, l .inv .1, l .inv .0))
 
 pub count-shared-spec : {M : Type 1} → statement M
 count-shared-spec =
     tie.close
     (tie.spec
-    count-half-requires
-    add-half-empty
-    add-half-empty-2
-    half-empty-requires
-    returns
-    add-count-half
-    add-count-half-2
-    count-half-requires-2
-    add-result
-    returns-2)
+    Inv-loop
+    μ-loop
+    loop-holds
+    add-shared-in
+    add-shared-in-2
+    shared-in-requires
+    add-count
+    add-j
+    loop-less
+    loop-again
+    returns)
