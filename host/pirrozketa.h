@@ -219,8 +219,8 @@ enum {
 /*
  * Stack: no call uses more than 32,768 bytes, to which host/build holds what host/stack.c measures with 512
  * rules, a name of several words, 64 bytes, and lists of long names. In bytes: version, clear, count, last, edits,
- * list_clear none to speak of; check 8,312; set_class 8,344; drop 8,408; move 8,440; add 8,504; read_file 8,864; write_file
- * 8,936; build 13,048; list_check 16,464; list_states 16,480; list_read_out 16,624; speak 16,736; speak_many
+ * list_clear none to speak of; check 8,296; set_class 8,328; drop 8,328; move 8,392; add 8,488; read_file 8,888; write_file
+ * 8,920; build 13,032; list_check 16,464; list_states 16,480; list_read_out 16,624; speak 16,736; speak_many
  * 16,752; read_name 17,168; list_names 24,688; list_remove 31,192; list_add 31,248.
  */
 
