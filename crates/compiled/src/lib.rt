@@ -52,7 +52,7 @@ fn compile<'a>(words: &'a [u16], sets: &'a [u64]) -> Compiled<'a>
 
 // The thin entry: a sound name that is not on the list is sent through a compiled ruleset, which is taken apart for the covered walk. The
 // image is known valid, and the list one, or too few words for any.
-pub fn speak<'a>(
+fn speak<'a>(
     compiled: Compiled<'a>,
     image: &[u8],
     list: &[u32],
