@@ -2,19 +2,24 @@
 -- Assumes nothing.
 use Prim.Native.Nat.{ℕ, suc, _+_, _*_, _≤_, _<_}
 use mathlib.Core.Path.{_≡_}
-use mathlib.Core.Bool.{Bool, true, _&&_}
+use mathlib.Core.Bool.{Bool, true, false, _&&_}
 use mathlib.Core.List.{List, [], reverse}
 use lib.Dec.{ltb}
 use lib.ListN.{length, getD, take, drop}
+use Rattle.rules.specs.Limits.{maxNames}
 use Rattle.exceptions.specs.Judging.{saysOf}
 use Rattle.fitting.specs.Fitting.{Str, frame}
 use Rattle.speech.specs.Words.{wordsIn, unlisted, wordAt, Starts}
 use Rattle.speech.specs.Places.{frameSize, FoundFor}
 use Rattle.tables.specs.Tables.{Table}
 use Rattle.tables.specs.Words.{headWords, rowSize, rightRows, neededWords, tableAt}
-use Rattle.tables.specs.Walk.{Step as State, from, pass, allBelow, leftAt, rightAt, walkUsable, walkSteps, allWords, sumWords}
+use Rattle.tables.specs.Walk.{Step as State, from, pass, allBelow, leftAt, rightAt, walkUsable, allWords, countAfter, carried}
 use Rattle.passes.specs.declared.Step.{Step}
 use Rattle.passes.specs.declared.Pass.{Pass}
+
+-- more entries than any call looks up: for each name of a sheet, four times the longest frame
+abbrev pub maxSteps : ℕ
+maxSteps = (maxNames + 1) * (4 * frameSize)
 
 -- one entry is looked up: the next state, and the count raised by one
 pub record Stepped (words : List ℕ) (rows : ℕ) (s : Step) (c : ℕ) (r : Step) : Type 0 where
@@ -29,9 +34,9 @@ Symbols f = (k : ℕ) → k < length f → getD f k 0 < rowSize
 abbrev pub rowsAt : List ℕ → ℕ → ℕ → Table
 rowsAt words rows count = tableAt words [] rows 0 count
 
--- where the left pass stands at position i, and the right pass whose count goes on from k
-abbrev pub leftOn : Table → List ℕ → ℕ → State
-leftOn t f i = pass t (from 0) (take i f)
+-- where the left pass stands at position i, and the right pass, whose counts go on from k
+abbrev pub leftOn : Table → ℕ → List ℕ → ℕ → State
+leftOn t k f i = pass t (from k) (take i f)
 
 abbrev pub rightOn : Table → ℕ → List ℕ → ℕ → State
 rightOn t k f i = pass t (from k) (reverse (drop i f))
@@ -52,14 +57,14 @@ leftRowsOf ws l = rowsAt ws headWords l
 abbrev pub rightRowsOf : List ℕ → ℕ → ℕ → Table
 rightRowsOf ws l r = rowsAt ws (rightRows l) r
 
--- what the two passes over a frame of n letters give: whether no state is out of range, and if so the states and the count
-pub record Both (ws : List ℕ) (l r : ℕ) (f : List ℕ) (n : ℕ) (left right : List ℕ) (p : Pass) : Type 0 where
+-- what the two passes over a frame of n letters give, whose count goes on from `steps`: whether no state is out of range, and if so the states and the count
+pub record Both (ws : List ℕ) (l r : ℕ) (f : List ℕ) (n steps : ℕ) (left right : List ℕ) (p : Pass) : Type 0 where
   pub usable : p .usable ≡ walkUsable (leftRowsOf ws l) (rightRowsOf ws l r) f n
   pub lefts : p .usable ≡ true → (k : ℕ) → 1 ≤ k → k ≤ suc n → getD left k 0 ≡ leftAt (leftRowsOf ws l) (rightRowsOf ws l r) f n k .state
   pub rights : p .usable ≡ true → (k : ℕ) → 1 ≤ k → k ≤ suc n → getD right k 0 ≡ rightAt (leftRowsOf ws l) (rightRowsOf ws l r) f n k .state
   pub left-small : p .usable ≡ true → (k : ℕ) → 1 ≤ k → k ≤ suc n → getD left k 0 < l
   pub right-small : p .usable ≡ true → (k : ℕ) → 1 ≤ k → k ≤ suc n → getD right k 0 < r
-  pub looked : p .usable ≡ true → p .steps ≡ rightAt (leftRowsOf ws l) (rightRowsOf ws l r) f n 1 .steps
+  pub looked : p .usable ≡ true → p .steps ≡ rightOn (rightRowsOf ws l r) (leftOn (leftRowsOf ws l) steps f (suc n) .steps) f 1 .steps
 
 -- ---- the words of a name
 
@@ -84,12 +89,13 @@ pub record Sized (m : Memory) : Type 0 where
   pub left : length (m .left) ≡ frameSize
   pub right : length (m .right) ≡ frameSize
 
--- whether the passes of a word lead to no state out of range, where the tables are `fit`: of the right lengths, with the ruleset's edit count; and their steps
+-- whether the passes of a word lead to no state out of range, where the tables are `fit`: of the right lengths, with the ruleset's edit count
 abbrev pub passable : List ℕ → ℕ → ℕ → Bool → Str → Bool
 passable ws l r fit w = fit && walkUsable (leftRowsOf ws l) (rightRowsOf ws l r) (frame w) (length w)
 
-abbrev pub stepsOn : List ℕ → ℕ → ℕ → Str → ℕ
-stepsOn ws l r w = walkSteps (leftRowsOf ws l) (rightRowsOf ws l r) (frame w) (length w)
+-- the count after its passes, going on from k, where nothing is kept of other words
+abbrev pub countOn : List ℕ → ℕ → ℕ → ℕ → Str → ℕ
+countOn ws l r k w = countAfter (leftRowsOf ws l) (rightRowsOf ws l r) [] k w
 
 -- at letter k of the word w, which follows b bytes, stand the states of its passes
 pub record Remembered (ws : List ℕ) (l r : ℕ) (w : Str) (b : ℕ) (m : Memory) : Type 0 where
@@ -104,15 +110,15 @@ pub record KeptTo (b : ℕ) (m m′ : Memory) : Type 0 where
   pub left : (j : ℕ) → j < b → getD (m′ .left) j 0 ≡ getD (m .left) j 0
   pub right : (j : ℕ) → j < b → getD (m′ .right) j 0 ≡ getD (m .right) j 0
 
--- what the passes of the word after b bytes give
-pub record WordPassed (ws : List ℕ) (l r : ℕ) (fit : Bool) (list : List ℕ) (w : Str) (b : ℕ) (m m′ : Memory) (p : Pass) : Type 0 where
+-- what the passes of the word after b bytes give, whose count goes on from k
+pub record WordPassed (ws : List ℕ) (l r : ℕ) (fit : Bool) (list : List ℕ) (w : Str) (b k : ℕ) (m m′ : Memory) (p : Pass) : Type 0 where
   pub sized : Sized m′
   pub kept : KeptTo b m m′
   pub part : FoundFor list w (getD (m′ .found) b 0)
-  -- a listed word has none
-  pub listed : 0 < getD (m′ .found) b 0 → (p .usable ≡ true) × (p .steps ≡ 0)
+  -- a listed word takes no step
+  pub listed : 0 < getD (m′ .found) b 0 → (p .usable ≡ true) × (p .steps ≡ k)
   pub usable : getD (m′ .found) b 0 ≡ 0 → p .usable ≡ passable ws l r fit w
-  pub steps : getD (m′ .found) b 0 ≡ 0 → p .usable ≡ true → p .steps ≡ stepsOn ws l r w
+  pub steps : getD (m′ .found) b 0 ≡ 0 → p .usable ≡ true → p .steps ≡ countOn ws l r k w
   pub states : getD (m′ .found) b 0 ≡ 0 → p .usable ≡ true → Remembered ws l r w b m′
 
 -- what is known of the word w after b bytes when all passes are done: its part, or that the tables are fit, and its states
@@ -125,5 +131,5 @@ pub record Known (ws : List ℕ) (l r : ℕ) (fit : Bool) (list : List ℕ) (w :
 pub record AllPassed (ws : List ℕ) (l r : ℕ) (fit : Bool) (list : List ℕ) (name : Str) (m : Memory) (p : Pass) : Type 0 where
   pub sized : Sized m
   pub usable : p .usable ≡ allWords (passable ws l r fit) (unlisted (saysOf list) (wordsIn name))
-  pub steps : p .usable ≡ true → p .steps ≡ sumWords (stepsOn ws l r) (unlisted (saysOf list) (wordsIn name))
+  pub steps : p .usable ≡ true → p .steps ≡ carried (leftRowsOf ws l) (rightRowsOf ws l r) false [] 0 (unlisted (saysOf list) (wordsIn name))
   pub known : p .usable ≡ true → (b : ℕ) → b ≤ length name → Starts name b → Known ws l r fit list (wordAt name b) b m

@@ -6,7 +6,7 @@ ghost use lib.ListN.{length};
 ghost use Rattle.speech.specs.Words.{frameOf, wordAt, WordOf};
 ghost use Rattle.speech.specs.Places.{Unsaid, frameSize};
 ghost use Rattle.tables.specs.Words.{rowSize, neededWords};
-ghost use Rattle.passes.specs.Passes.{Stepped, Symbols, rowsAt, leftOn, rightOn, Passed, Both, Rows, memory, Sized, WordPassed, AllPassed};
+ghost use Rattle.passes.specs.Passes.{maxSteps, Stepped, Symbols, rowsAt, leftOn, rightOn, Passed, Both, Rows, memory, Sized, WordPassed, AllPassed};
 
 // A state, and how many entries have been looked up.
 pub struct Step {
@@ -15,8 +15,8 @@ pub struct Step {
 }
 
 // One entry is looked up: the next state, and the count raised by one. Nothing else in a walk reads an entry.
-fn look_up(words: &[u16], rows: usize, s: Step, c: u8) -> Step
-    requires { ⌜ (rows + (rowSize * s .state + c) < length (now words)) × (s .steps < 1000) ⌝ }
+pub fn look_up(words: &[u16], rows: usize, s: Step, c: u8) -> Step
+    requires { ⌜ (rows + (rowSize * s .state + c) < length (now words)) × (s .steps < maxSteps) ⌝ }
     ensures { λ r. ⌜ Stepped (now (words .entry)) rows s c r ⌝ }
 {
     let q = numbers::wide16(s.state);
@@ -33,12 +33,19 @@ pub struct Pass {
     pub steps: usize,
 }
 
-// The left pass reads all positions but the last; at i stands the state after position i - 1.
-fn left_pass(words: &[u16], rows: usize, count: usize, frame: &[u8], states: &mut [u16]) -> Pass
-    requires { ⌜ (rows + rowSize * count ≤ length (now words)) × (0 < count) × (2 ≤ length (now frame)) × (length (now frame) ≤ frameSize) × Symbols (now frame) × (length (now frame) ≤ length (now states)) ⌝ }
-    ensures { λ r. ⌜ Passed (leftOn (rowsAt (now (words .entry)) rows count) (now (frame .entry))) count (length (now (frame .entry)) - 1) (length (now (frame .entry)) - 1) frameSize (now (states .exit)) r ⌝ }
+// The left pass reads all positions but the last; at i stands the state after position i - 1. Its count goes on from `steps`.
+fn left_pass(
+    words: &[u16],
+    rows: usize,
+    count: usize,
+    frame: &[u8],
+    steps: usize,
+    states: &mut [u16],
+) -> Pass
+    requires { ⌜ (rows + rowSize * count ≤ length (now words)) × (0 < count) × (2 ≤ length (now frame)) × (length (now frame) ≤ frameSize) × (steps + frameSize ≤ maxSteps) × Symbols (now frame) × (length (now frame) ≤ length (now states)) ⌝ }
+    ensures { λ r. ⌜ Passed (leftOn (rowsAt (now (words .entry)) rows count) steps (now (frame .entry))) count (length (now (frame .entry)) - 1) (length (now (frame .entry)) - 1) (steps + frameSize) (now (states .exit)) r ⌝ }
 {
-    let mut at = Step { state: 0, steps: 0 };
+    let mut at = Step { state: 0, steps };
     let end = frame.len() - 1;
     let mut i: usize = 0;
     while i < end {
@@ -61,7 +68,7 @@ fn left_pass(words: &[u16], rows: usize, count: usize, frame: &[u8], states: &mu
 }
 
 // The right pass reads from the last position down to 1; at i stands the state after position i. Its count goes on from `steps`.
-fn right_pass(
+pub fn right_pass(
     words: &[u16],
     rows: usize,
     count: usize,
@@ -69,7 +76,7 @@ fn right_pass(
     steps: usize,
     states: &mut [u16],
 ) -> Pass
-    requires { ⌜ (rows + rowSize * count ≤ length (now words)) × (0 < count) × (2 ≤ length (now frame)) × (length (now frame) ≤ frameSize) × (steps ≤ frameSize) × Symbols (now frame) × (length (now frame) ≤ length (now states)) ⌝ }
+    requires { ⌜ (rows + rowSize * count ≤ length (now words)) × (0 < count) × (2 ≤ length (now frame)) × (length (now frame) ≤ frameSize) × (steps + frameSize ≤ maxSteps) × Symbols (now frame) × (length (now frame) ≤ length (now states)) ⌝ }
     ensures { λ r. ⌜ Passed (rightOn (rowsAt (now (words .entry)) rows count) steps (now (frame .entry))) count (length (now (frame .entry)) - 1) 1 (steps + frameSize) (now (states .exit)) r ⌝ }
 {
     let mut at = Step { state: 0, steps };
@@ -93,19 +100,20 @@ fn right_pass(
     }
 }
 
-// The left pass, then the right pass, whose count goes on from the left's.
+// The left pass, whose count goes on from `steps`, then the right pass, whose count goes on from the left's.
 fn run_passes(
     words: &[u16],
     left_states: usize,
     right_states: usize,
     frame: &[u8],
+    steps: usize,
     left: &mut [u16],
     right: &mut [u16],
 ) -> Pass
-    requires { ⌜ (0 < «left_states») × (0 < «right_states») × (neededWords «left_states» «right_states» ≤ length (now words)) × (2 ≤ length (now frame)) × (length (now frame) ≤ frameSize) × Symbols (now frame) × (length (now frame) ≤ length (now left)) × (length (now frame) ≤ length (now right)) ⌝ }
-    ensures { λ r. ⌜ Both (now (words .entry)) «left_states» «right_states» (now (frame .entry)) (length (now (frame .entry)) - 2) (now (left .exit)) (now (right .exit)) r ⌝ }
+    requires { ⌜ (0 < «left_states») × (0 < «right_states») × (neededWords «left_states» «right_states» ≤ length (now words)) × (2 ≤ length (now frame)) × (length (now frame) ≤ frameSize) × (steps + 2 * frameSize ≤ maxSteps) × Symbols (now frame) × (length (now frame) ≤ length (now left)) × (length (now frame) ≤ length (now right)) ⌝ }
+    ensures { λ r. ⌜ Both (now (words .entry)) «left_states» «right_states» (now (frame .entry)) (length (now (frame .entry)) - 2) steps (now (left .exit)) (now (right .exit)) r ⌝ }
 {
-    let first = left_pass(words, tables::HEAD, left_states, frame, left);
+    let first = left_pass(words, tables::HEAD, left_states, frame, steps, left);
     if !first.usable {
         return first;
     }
@@ -131,19 +139,20 @@ fn run_word(
     frame: &[u8],
     from: usize,
     end: usize,
+    steps: usize,
     found: &mut [u16],
     left: &mut [u16],
     right: &mut [u16],
 ) -> Pass
-    requires { ⌜ (fit ≡ true → Rows (length (now words)) «left_states» «right_states») × Unsaid (now list) (now name) × (now frame ≡ frameOf (now name)) × WordOf (now name) from end × Sized (memory (now found) (now left) (now right)) ⌝ }
-    ensures { λ r. ⌜ WordPassed (now (words .entry)) «left_states» «right_states» fit (now (list .entry)) (wordAt (now (name .entry)) from) from (memory (now (found .entry)) (now (left .entry)) (now (right .entry))) (memory (now (found .exit)) (now (left .exit)) (now (right .exit))) r ⌝ }
+    requires { ⌜ (fit ≡ true → Rows (length (now words)) «left_states» «right_states») × Unsaid (now list) (now name) × (now frame ≡ frameOf (now name)) × WordOf (now name) from end × (steps + 2 * frameSize ≤ maxSteps) × Sized (memory (now found) (now left) (now right)) ⌝ }
+    ensures { λ r. ⌜ WordPassed (now (words .entry)) «left_states» «right_states» fit (now (list .entry)) (wordAt (now (name .entry)) from) from steps (memory (now (found .entry)) (now (left .entry)) (now (right .entry))) (memory (now (found .exit)) (now (left .exit)) (now (right .exit))) r ⌝ }
 {
     let part = reading::words::find_word(list, name, from, end);
     found[from] = part;
     if part != 0 {
         return Pass {
             usable: true,
-            steps: 0,
+            steps,
         };
     }
     if !fit {
@@ -157,12 +166,13 @@ fn run_word(
         left_states,
         right_states,
         &frame[from..end + 1],
+        steps,
         &mut left[from..],
         &mut right[from..],
     )
 }
 
-// The passes of the words in turn, and the sum of their steps.
+// The passes of the words in turn; the count of each word goes on from the one before.
 pub fn run_words(
     words: &[u16],
     left_states: usize,
@@ -192,6 +202,7 @@ pub fn run_words(
             frame,
             from,
             end,
+            steps,
             &mut *found,
             &mut *left,
             &mut *right,
@@ -199,7 +210,7 @@ pub fn run_words(
         if !pass.usable {
             return pass;
         }
-        steps += pass.steps;
+        steps = pass.steps;
         from = end;
     }
     Pass {

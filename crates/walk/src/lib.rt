@@ -43,7 +43,7 @@ fn steps_with(reached: Reached, steps: usize) -> usize
 }
 
 // The set word with which the right sets begin; where lengths or edit count do not fit, no set is looked at.
-fn right_base(fit: bool, left_states: usize) -> usize
+pub fn right_base(fit: bool, left_states: usize) -> usize
     requires { ⌜ (fit ≡ true → rightSets «left_states» < 18446744073709551616) ⌝ }
     ensures { λ r. ⌜ r ≡ cond fit (rightSets «left_states») 0 ⌝ }
 {
@@ -165,7 +165,7 @@ fn walk_sound<'a>(
 }
 
 // 16 for lengths: whether words and set words are long enough for the state counts, of which none may be 0.
-fn lengths_fit<'a>(
+pub fn lengths_fit<'a>(
     words: &'a [u16],
     sets: &'a [u64],
     left_states: usize,
@@ -200,7 +200,7 @@ fn lengths_fit<'a>(
 }
 
 // 22, where the lengths fit: whether the words hold another edit count than the ruleset's.
-fn other_count(words: &[u16], long: bool, edits: u32) -> bool
+pub fn other_count(words: &[u16], long: bool, edits: u32) -> bool
     requires { ⌜ (long ≡ true → headWords ≤ length (now words)) ⌝ }
     ensures { λ r. ⌜ r ≡ (long && not (eqb (editsIn (now (words .entry))) edits)) ⌝ }
 {
@@ -213,7 +213,7 @@ fn other_count(words: &[u16], long: bool, edits: u32) -> bool
 }
 
 // Whether names can be sent through tables of these lengths with this count.
-fn can_pass(long: bool, stale: bool) -> bool
+pub fn can_pass(long: bool, stale: bool) -> bool
     ensures { λ r. ⌜ r ≡ (long && not stale) ⌝ }
 {
     if stale {

@@ -1,0 +1,57 @@
+-- How far the judging of a sheet has come, and what is kept of its names.
+-- Assumes nothing.
+use Prim.Native.Nat.{ℕ, _+_, _-_, _*_, _≤_, _<_}
+use mathlib.Core.Path.{_≡_}
+use mathlib.Core.Bool.{Bool, true}
+use mathlib.Core.List.{List, [], _∷_, _++_}
+use lib.ListN.{length, getD, take, drop, set}
+use Rattle.rules.specs.Refusals.{accepted, declined}
+use Rattle.exceptions.specs.Judging.{saysOf}
+use Rattle.fitting.specs.Fitting.{Str}
+use Rattle.speech.specs.Speech.{Outcome}
+use Rattle.speech.specs.Places.{frameSize}
+use Rattle.prefix_tree.specs.Tree.{firstOf, stateOf}
+use Rattle.sheet_passes.specs.Passing.{rightSteps}
+use Rattle.sheet_name.specs.Judging.{outcomeOf, Kept, NameJudged}
+use Rattle.sheet_judging.specs.Sheet.{namesIn, sheetWords, prefixesOf, firstRefusal}
+use Rattle.sheet_judging.specs.declared.Judging.{Judging}
+
+-- the parts that are kept of name j
+abbrev pub partsOf : List ℕ → ℕ → List ℕ
+partsOf parts j = take frameSize (drop (frameSize * j) parts)
+
+-- name i of the sheet, that starts after the length byte at `at`
+abbrev pub nameAt : List ℕ → ℕ → Str
+nameAt sheet at = take (getD sheet at 0) (drop (at + 1) sheet)
+
+-- the root of the tree, which has no child and state 0
+pub record Root (t : List ℕ) : Type 0 where
+  pub childless : firstOf t 0 ≡ 0
+  pub state-is : stateOf t 0 ≡ 0
+
+module _ (words sets : List ℕ) (l r : ℕ) (fit : Bool) (image list sheet : List ℕ) where
+  -- one name more
+  pub record NextJudged (t ends parts : List ℕ) (p : Judging) (t′ ends′ parts′ : List ℕ) (p′ : Judging) : Type 0 where
+    pub end : ℕ
+    pub at-next : p′ .at ≡ p .at + 1 + getD sheet (p .at) 0
+    pub count-next : p′ .count ≡ p .count + 1
+    pub ends-now : ends′ ≡ set ends (p .count) end
+    pub parts-sized : length parts′ ≡ length parts
+    pub parts-before : (j : ℕ) → j < p .count → partsOf parts′ j ≡ partsOf parts j
+    pub judged : NameJudged words sets l r fit image list (nameAt sheet (p .at)) t (p .nodes) (p .steps) t′ (partsOf parts′ (p .count))
+        (record { refusal = p′ .refusal; nodes = p′ .nodes; steps = p′ .steps; end = end })
+
+  abbrev pub out : Str → Outcome
+  out = outcomeOf words sets l r image list
+
+  -- what judging all names gives
+  pub record SheetJudged (k : ℕ) (t ends parts t′ ends′ parts′ : List ℕ) (p : Judging) : Type 0 where
+    pub sized : length t′ ≡ length t
+    pub ends-sized : length ends′ ≡ length ends
+    pub parts-sized : length parts′ ≡ length parts
+    pub refused : 0 < p .refusal → firstRefusal out (namesIn k sheet) ≡ declined (p .refusal) 0
+    pub goes : p .refusal ≡ 0 → firstRefusal out (namesIn k sheet) ≡ accepted
+    -- the count is that of the different non-empty prefixes, and of the right passes
+    pub steps-are : p .refusal ≡ 0
+        → p .steps ≡ (length (prefixesOf (sheetWords (saysOf list) (namesIn k sheet))) - 1) + rightSteps (sheetWords (saysOf list) (namesIn k sheet))
+    pub kept : p .refusal ≡ 0 → (j : ℕ) → j < length (namesIn k sheet) → Kept image list (getD (namesIn k sheet) j []) (getD ends′ j 0) (partsOf parts′ j) (out (getD (namesIn k sheet) j []))
