@@ -9,43 +9,48 @@ use mathlib.Core.Option.{none, some}
 use lib.Dec.{leb, eqb}
 use lib.ListN.{length, getD, take}
 use Rattle.rules.specs.Memory.{over}
-use Rattle.rules.specs.Refusals.{Reply, accepted, declined}
+use Rattle.rules.specs.Limits.{maxName, maxNames}
+use Rattle.rules.specs.Refusals.{Reply, accepted, declined, replyOf}
 use Rattle.exceptions.specs.Judging.{Listing}
 use Rattle.image.specs.Image.{valid, editsOf, literalsOf}
 use Rattle.fitting.specs.Fitting.{Str}
 use Rattle.speech.specs.Speech.{Outcome, judgedCall}
 use Rattle.speech.specs.Places.{frameSize}
-use Rattle.tables.specs.Words.{compiledFrom}
-use Rattle.tables.specs.Walk.{walkThrough}
+use Rattle.tables.specs.Words.{Compiled, compiledFrom}
+use Rattle.tables.specs.Walk.{sharedSteps, walkThrough}
 use Rattle.prefix_tree.specs.Tree.{nodeSize}
-use Rattle.sheet_passes.specs.Passing.{rightSteps}
 use Rattle.sheet_judging.specs.Sheet.{maxNames, namesIn, soundSheet, sheetWords, prefixesOf, firstRefusal}
 use Rattle.sheet_answers.specs.Many.{replySize, Lot, each}
 use Rattle.sheet_answers.specs.Answers.{saidBy}
 use Rattle.sheet.specs.declared.SheetAnswer.{SheetAnswer}
 
 pub record SheetSaid : Type 0 where
-  pub answer : SheetAnswer
+  pub reply : Reply
+  pub steps : ℕ
+  pub names : ℕ
   pub replies : List ℕ
   pub phones : List ℕ
   pub numbers : List ℕ
 
 abbrev pub sheetSaid : SheetAnswer → List ℕ → List ℕ → List ℕ → SheetSaid
-sheetSaid a replies phones numbers = record { answer = a; replies = replies; phones = phones; numbers = numbers }
+sheetSaid a replies phones numbers = record { reply = replyOf (a .answer); steps = a .steps; names = a .names; replies = replies; phones = phones; numbers = numbers }
 
 -- a refusal of the sheet: nothing is written, and it has no steps
 abbrev pub refusedSheet : ℕ → ℕ → List ℕ → List ℕ → List ℕ → SheetSaid
-refusedSheet n p = sheetSaid (record { code = n; place = p; steps = 0; count = 0 })
+refusedSheet n p replies phones numbers = record { reply = declined n p; steps = 0; names = 0; replies = replies; phones = phones; numbers = numbers }
 
--- the one count: the different non-empty prefixes of # followed by each word, and the steps of the right passes
-unfoldable pub sheetSteps : (Str → Str) → List Str → ℕ
-sheetSteps m names = (length (prefixesOf (sheetWords m names)) - 1) + rightSteps (sheetWords m names)
-
--- the names in turn, each as f says that it comes to, in the lent memory that is left
-abbrev pub answeredSheet : (Str → Outcome) → (Str → Str) → List Str → List ℕ → List ℕ → List ℕ → SheetSaid
-answeredSheet f m names replies phones numbers =
-    sheetSaid (record { code = 255; place = 0; steps = sheetSteps m names; count = each (saidBy f) names phones numbers .count })
-    (over (each (saidBy f) names phones numbers .replies) replies) (each (saidBy f) names phones numbers .phones) (each (saidBy f) names phones numbers .numbers)
+-- The names in turn, each as f says that it comes to, in the lent memory that is left. The sheet's one count is the one that the step function carried
+-- through the words of all names that go through the tables.
+abbrev pub answeredSheet : Compiled → (Str → Outcome) → (Str → Str) → List Str → List ℕ → List ℕ → List ℕ → SheetSaid
+answeredSheet c f m names replies phones numbers =
+    record {
+      reply = accepted;
+      steps = sharedSteps c (sheetWords m names);
+      names = each (saidBy f) names phones numbers .count;
+      replies = over (each (saidBy f) names phones numbers .replies) replies;
+      phones = each (saidBy f) names phones numbers .phones;
+      numbers = each (saidBy f) names phones numbers .numbers;
+    }
 
 -- what is not accepted is refused; else it is what follows
 abbrev pub orElse : Reply → SheetSaid → List ℕ → List ℕ → List ℕ → SheetSaid
@@ -53,12 +58,12 @@ orElse accepted x replies phones numbers = x
 orElse (declined n p) x replies phones numbers = refusedSheet n p replies phones numbers
 
 -- the first 16 or 22 that a name alone would get refuses the sheet
-abbrev pub judgedSheet : (Str → Outcome) → (Str → Str) → List Str → List ℕ → List ℕ → List ℕ → SheetSaid
-judgedSheet f m names replies phones numbers = orElse (firstRefusal f names) (answeredSheet f m names replies phones numbers) replies phones numbers
+abbrev pub judgedSheet : Compiled → (Str → Outcome) → (Str → Str) → List Str → List ℕ → List ℕ → List ℕ → SheetSaid
+judgedSheet c f m names replies phones numbers = orElse (firstRefusal f names) (answeredSheet c f m names replies phones numbers) replies phones numbers
 
 -- what a name comes to alone, before the lent memory is looked at
-abbrev pub alone : List ℕ → Listing → List ℕ → List ℕ → Str → Outcome
-alone image l words sets name = judgedCall image l name (walkThrough (compiledFrom words sets) (editsOf image) (literalsOf image) name)
+abbrev pub alone : Compiled → List ℕ → Listing → Str → Outcome
+alone c image l name = judgedCall image l name (walkThrough c (editsOf image) (literalsOf image) name)
 
 -- ---- memory to work in: zero words, which are zero again afterwards
 
@@ -77,12 +82,16 @@ pub record Cleared (s s′ : List ℕ) : Type 0 where
   pub sized : length s′ ≡ length s
   pub zero-now : AllZero s′
 
--- four words of 16 bits for each byte of the sheet, and 8 more; 66 words of 32 bits and a reply of five numbers for each name
-abbrev pub treeSize : List ℕ → ℕ
-treeSize sheet = nodeSize * (length sheet + 2)
+-- bytes of a sheet for which nodes and parts are needed: no name of more than maxName bytes has words
+abbrev pub workRoom : List ℕ → ℕ
+workRoom sheet = cond (leb (length sheet) (maxNames * (maxName + 1))) (length sheet) (maxNames * (maxName + 1))
 
-abbrev pub partsSize : List Str → ℕ
-partsSize names = frameSize * length names
+-- words for the tree and for the kept parts, and numbers for the replies
+abbrev pub treeSize : List ℕ → ℕ
+treeSize sheet = nodeSize * (workRoom sheet + 2)
+
+abbrev pub keptSize : List ℕ → ℕ
+keptSize sheet = workRoom sheet
 
 abbrev pub repliesSize : List Str → ℕ
 repliesSize names = replySize * length names
@@ -96,19 +105,24 @@ withList (some m) bad x = x m
 
 -- 11, 12 and 15 for too little memory to work in and too few replies
 abbrev pub withMemory : List ℕ → List Str → List ℕ → List ℕ → SheetSaid → List ℕ → List ℕ → List ℕ → SheetSaid
-withMemory sheet names tree parts x replies phones numbers =
+withMemory sheet names tree kept x replies phones numbers =
     cond (zeros (treeSize sheet) tree)
-    (cond (zeros (partsSize names) parts)
+    (cond (zeros (keptSize sheet) kept)
     (cond (leb (repliesSize names) (length replies)) x (refusedSheet 15 (repliesSize names) replies phones numbers))
-    (refusedSheet 12 (partsSize names) replies phones numbers))
+    (refusedSheet 12 (keptSize sheet) replies phones numbers))
     (refusedSheet 11 (treeSize sheet) replies phones numbers)
 
--- 24 before all else; 0; 17; the memory; then the first 16 or 22 that a name alone would get; else each name has its answer
-unfoldable pub spokenSheet : List ℕ → Listing → List ℕ → List ℕ → List ℕ → List ℕ → List ℕ → List ℕ → List ℕ → List ℕ → SheetSaid
-spokenSheet image l words sets sheet tree parts replies phones numbers =
+-- A sheet through a compiled ruleset: 24 before all else; 0; 17; the memory; then the first 16 or 22 that a name alone would get; else each name has
+-- its answer.
+unfoldable pub sheetThrough : Compiled → List ℕ → Listing → List ℕ → List ℕ → List ℕ → List ℕ → List ℕ → List ℕ → SheetSaid
+sheetThrough c image l sheet tree kept replies phones numbers =
     cond (soundSheet maxNames sheet)
     (cond (valid image)
     (withList l (refusedSheet 17 0 replies phones numbers)
-    (λ m. withMemory sheet (namesIn maxNames sheet) tree parts (judgedSheet (alone image l words sets) m (namesIn maxNames sheet) replies phones numbers) replies phones numbers))
+    (λ m. withMemory sheet (namesIn maxNames sheet) tree kept (judgedSheet c (alone c image l) m (namesIn maxNames sheet) replies phones numbers) replies phones numbers))
     (refusedSheet 0 0 replies phones numbers))
     (refusedSheet 24 0 replies phones numbers)
+
+-- and through the one that the lent words and set words are
+abbrev pub spokenSheet : List ℕ → Listing → List ℕ → List ℕ → List ℕ → List ℕ → List ℕ → List ℕ → List ℕ → List ℕ → SheetSaid
+spokenSheet image l words sets = sheetThrough (compiledFrom words sets) image l

@@ -13,10 +13,12 @@ ghost use Rattle.sheet_passes.specs.Passing.{HoldsSome};
 ghost use Rattle.sheet_judging.specs.Sheet.{maxNames, hasNext};
 ghost use Rattle.sheet_judging.specs.Kept.{Root, NextJudged, SheetJudged};
 
-// How far the judging has come: the place in the sheet, the names judged, the nodes of the tree, the entries looked up, and the refusal of the sheet, or 0.
+// How far the judging has come: the place in the sheet, the names judged, the parts kept, the nodes of the tree, the entries looked up, and the refusal of
+// the sheet, or 0.
 pub struct Judging {
     pub at: usize,
     pub count: usize,
+    pub kept: usize,
     pub nodes: usize,
     pub steps: usize,
     pub refusal: u8,
