@@ -1,5 +1,5 @@
--- A whole sheetSaid in one go: document 02, request 8. What a call that answers a sheet gives: its code with a place, the one count, how many names
--- were answered, their replies, and the lent phones and numbers after it.
+-- A whole transect in one go: document 02, request 8. What a call that answers a sheet gives: whether it is refused, the one count, how many names were
+-- answered, their replies, and the lent phones and numbers after it.
 -- Assumes nothing.
 use Prim.Native.Nat.{ℕ, _+_, _-_, _*_}
 use mathlib.Core.Path.{_≡_}
@@ -15,11 +15,10 @@ use Rattle.exceptions.specs.Judging.{Listing}
 use Rattle.image.specs.Image.{valid, editsOf, literalsOf}
 use Rattle.fitting.specs.Fitting.{Str}
 use Rattle.speech.specs.Speech.{Outcome, judgedCall}
-use Rattle.speech.specs.Places.{frameSize}
 use Rattle.tables.specs.Words.{Compiled, compiledFrom}
 use Rattle.tables.specs.Walk.{sharedSteps, walkThrough}
 use Rattle.prefix_tree.specs.Tree.{nodeSize}
-use Rattle.sheet_judging.specs.Sheet.{maxNames, namesIn, soundSheet, sheetWords, prefixesOf, firstRefusal}
+use Rattle.sheet_judging.specs.Sheet.{namesIn, soundSheet, sheetWords, firstRefusal}
 use Rattle.sheet_answers.specs.Many.{replySize, Lot, each}
 use Rattle.sheet_answers.specs.Answers.{saidBy}
 use Rattle.sheet.specs.declared.SheetAnswer.{SheetAnswer}

@@ -14,10 +14,6 @@ use Rattle.tables.specs.States.{states}
 use Rattle.sheet_passes.specs.Passing.{hashed}
 use Rattle.sheet_name.specs.Judging.{tableWords, sheetRefusal}
 
--- names of a sheet
-abbrev pub maxNames : ℕ
-maxNames = 256
-
 -- the names in the bytes, each after a byte that says its length: at most k of them, and only whole ones
 abbrev pub namesIn : ℕ → List ℕ → List Str
 namesIn zero s = []
