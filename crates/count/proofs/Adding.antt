@@ -11,8 +11,7 @@ use lib.ListN.{length, take, length-append}
 use lib.Seq.{take-suc, take-all, length-take-le}
 use Rattle.rules.proofs.Cases.{byBool}
 use Rattle.fitting.specs.Fitting.{Str, starts}
-use Rattle.tables.specs.States.{states, member, numberOne}
-use Rattle.tables.proofs.Trie.{startsAny}
+use Rattle.tables.specs.States.{states, member, numberOne, startsAny}
 use Rattle.tables.proofs.Truth.{contra}
 use Rattle.side.proofs.Prefixes.{starts-take, take-starts}
 use Rattle.side.proofs.Inserting.{upto, upto-zero, upto-next}

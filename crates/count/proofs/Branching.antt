@@ -13,8 +13,8 @@ use lib.Seq.{getD-at, take-suc, length-take-le}
 use borrow.Author.Tests.{eqb-false}
 use Rattle.rules.proofs.Cases.{byBool}
 use Rattle.fitting.specs.Fitting.{Str, starts}
+use Rattle.tables.specs.States.{startsAny}
 use Rattle.tables.specs.Words.{rowSize}
-use Rattle.tables.proofs.Trie.{startsAny}
 use Rattle.tables.proofs.Truth.{clash, contra, true-eq}
 use Rattle.side.proofs.Prefixes.{take-starts}
 use Rattle.count.specs.Chains.{Attached}

@@ -9,9 +9,8 @@ use lib.ListN.{length, getD, take, set, replicate, length-replicate}
 use lib.Seq.{take-all}
 use Rattle.side.proofs.Writing.{zeros}
 use Rattle.fitting.specs.Fitting.{Str}
-use Rattle.tables.specs.States.{states}
+use Rattle.tables.specs.States.{states, startsAny}
 use Rattle.tables.specs.Words.{rowSize}
-use Rattle.tables.proofs.Trie.{startsAny}
 use Rattle.tables.proofs.Truth.{clash}
 use Rattle.rules.specs.Limits.{maxPattern}
 use Rattle.side.specs.Patterns.{patternAt, patternsOf, Patterns, stateCount}

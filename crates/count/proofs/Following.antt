@@ -11,9 +11,8 @@ use lib.ListN.{length, getD, take, drop}
 use lib.Seq.{drop-cons, take-suc, length-take-le}
 use Rattle.rules.proofs.Cases.{byBool}
 use Rattle.fitting.specs.Fitting.{Str, starts}
-use Rattle.tables.specs.States.{states, numbered}
+use Rattle.tables.specs.States.{states, numbered, startsAny}
 use Rattle.tables.specs.Words.{rowSize}
-use Rattle.tables.proofs.Trie.{startsAny}
 use Rattle.rules.specs.Limits.{maxPattern}
 use Rattle.side.specs.Patterns.{patternAt, patternsOf, Patterns}
 use Rattle.side.proofs.Inserting.{patterns-length, patterns-less, pattern-length, pattern-symbol, symbol-small}

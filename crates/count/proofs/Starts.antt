@@ -10,8 +10,7 @@ use lib.ListN.{length, getD, take}
 use borrow.Author.Tests.{eq-eqb}
 use Rattle.rules.proofs.Cases.{byBool}
 use Rattle.fitting.specs.Fitting.{Str, starts}
-use Rattle.tables.specs.States.{states, numbered}
-use Rattle.tables.proofs.Trie.{startsAny}
+use Rattle.tables.specs.States.{states, numbered, startsAny}
 use Rattle.tables.proofs.Truth.{clash, true-eq, and-left, and-right, or-left-false, or-right-false}
 use Rattle.tables.proofs.Numbering.{numbered-is}
 use Rattle.side.proofs.Prefixes.{starts-take}

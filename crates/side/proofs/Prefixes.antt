@@ -12,8 +12,7 @@ use lib.ListN.{length, getD, take, drop, length-take, take-append-drop}
 use lib.Seq.{take-suc, getD-take}
 use Rattle.rules.proofs.Cases.{byBool}
 use Rattle.fitting.specs.Fitting.{Str, same, starts}
-use Rattle.tables.specs.States.{member, index, numberAll, prefixes, allPrefixes, states}
-use Rattle.tables.proofs.Trie.{startsAny}
+use Rattle.tables.specs.States.{member, index, numberAll, prefixes, allPrefixes, states, startsAny}
 use Rattle.tables.proofs.Truth.{clash, true-eq, eq-true, and-left, and-right}
 use Rattle.tables.proofs.Suffix.{same-refl}
 use Rattle.tables.proofs.Numbering.{member-all, getD-index, index-lt, index-all, index-getD, numbered-is, distinct-states}
