@@ -38,10 +38,10 @@ not-below f k (suc n) a b e = go (decLe k n) (λ y. not-below f k n a y e)
 
 -- ---- a pass reads one symbol more
 
-left-next : (t : Table) (f : List ℕ) (i : ℕ) → i < length f → leftOn t f (i + 1) ≡ step t (leftOn t f i) (getD f i 0)
-left-next t f i h =
-    ap (pass t (from 0)) (ap (λ (n : ℕ). take n f) (add-one i) ∙ take-suc f i 0 h)
-    ∙ pass-append t (from 0) (take i f) (getD f i 0 ∷ [])
+left-next : (t : Table) (k : ℕ) (f : List ℕ) (i : ℕ) → i < length f → leftOn t k f (i + 1) ≡ step t (leftOn t k f i) (getD f i 0)
+left-next t k f i h =
+    ap (pass t (from k)) (ap (λ (n : ℕ). take n f) (add-one i) ∙ take-suc f i 0 h)
+    ∙ pass-append t (from k) (take i f) (getD f i 0 ∷ [])
 
 right-next : (t : Table) (k : ℕ) (f : List ℕ) (i : ℕ) → 0 < i → i ≤ length f → rightOn t k f (i - 1) ≡ step t (rightOn t k f i) (getD f (i - 1) 0)
 right-next t k f i p h =
@@ -125,47 +125,46 @@ module _ (at : ℕ → State) (count : ℕ) where
 
 -- ---- the two passes
 
-module _ (words : List ℕ) (rows count : ℕ) (f : List ℕ) where
-  pub left-begin : (states : List ℕ) → 0 < count → Passing (leftOn (rowsAt words rows count) f) count 1 0 (length states) states (record { state = 0; steps = 0 }) 0
+module _ (words : List ℕ) (rows count : ℕ) (f : List ℕ) (k : ℕ) where
+  pub left-begin : (states : List ℕ) → 0 < count → Passing (leftOn (rowsAt words rows count) k f) count 1 0 (length states) states (record { state = 0; steps = k }) 0
   left-begin states h =
       record {
         here = refl;
         looked = refl;
         below = h;
         room = refl;
-        all = λ k a b. absurd (omega arith);
-        small = λ k a b. absurd (omega arith);
+        all = λ j a b. absurd (omega arith);
+        small = λ j a b. absurd (omega arith);
       }
 
-  module _ (s : Step) (i : ℕ) (here : s .state ≡ leftOn (rowsAt words rows count) f i .state) (looked : s .steps ≡ leftOn (rowsAt words rows count) f i .steps)
+  module _ (s : Step) (i : ℕ) (here : s .state ≡ leftOn (rowsAt words rows count) k f i .state) (looked : s .steps ≡ leftOn (rowsAt words rows count) k f i .steps)
       (h : i < length f) (r : Step) (e : Stepped words rows s (getD f i 0) r) where
-    pub left-state : r .state ≡ leftOn (rowsAt words rows count) f (i + 1) .state
+    pub left-state : r .state ≡ leftOn (rowsAt words rows count) k f (i + 1) .state
     left-state =
         e .next ∙ ap (λ (q : ℕ). getD words (rows + (rowSize * q + getD f i 0)) 0) here
-        ∙ sym (ap (λ (x : State). x .state) (left-next (rowsAt words rows count) f i h))
+        ∙ sym (ap (λ (x : State). x .state) (left-next (rowsAt words rows count) k f i h))
 
-    pub left-steps : r .steps ≡ leftOn (rowsAt words rows count) f (i + 1) .steps
-    left-steps = e .more ∙ add-one (s .steps) ∙ ap suc looked ∙ sym (ap (λ (x : State). x .steps) (left-next (rowsAt words rows count) f i h))
+    pub left-steps : r .steps ≡ leftOn (rowsAt words rows count) k f (i + 1) .steps
+    left-steps = e .more ∙ add-one (s .steps) ∙ ap suc looked ∙ sym (ap (λ (x : State). x .steps) (left-next (rowsAt words rows count) k f i h))
 
-  module _ (k : ℕ) where
-    pub right-start : (states : List ℕ) → 0 < count → 0 < length f
-        → Passing (rightOn (rowsAt words rows count) k f) count (length f) (length f - 1) (length states) states (record { state = 0; steps = k }) (length f)
-    right-start states h l =
-        record {
-          here = sym (ap (λ (x : State). x .state) (right-begin (rowsAt words rows count) k f));
-          looked = sym (ap (λ (x : State). x .steps) (right-begin (rowsAt words rows count) k f));
-          below = h;
-          room = refl;
-          all = λ j a b. absurd (omega arith);
-          small = λ j a b. absurd (omega arith);
-        }
+  pub right-start : (states : List ℕ) → 0 < count → 0 < length f
+      → Passing (rightOn (rowsAt words rows count) k f) count (length f) (length f - 1) (length states) states (record { state = 0; steps = k }) (length f)
+  right-start states h l =
+      record {
+        here = sym (ap (λ (x : State). x .state) (right-begin (rowsAt words rows count) k f));
+        looked = sym (ap (λ (x : State). x .steps) (right-begin (rowsAt words rows count) k f));
+        below = h;
+        room = refl;
+        all = λ j a b. absurd (omega arith);
+        small = λ j a b. absurd (omega arith);
+      }
 
-    module _ (s : Step) (i : ℕ) (here : s .state ≡ rightOn (rowsAt words rows count) k f i .state) (looked : s .steps ≡ rightOn (rowsAt words rows count) k f i .steps)
-        (p : 0 < i) (h : i ≤ length f) (r : Step) (e : Stepped words rows s (getD f (i - 1) 0) r) where
-      pub right-state : r .state ≡ rightOn (rowsAt words rows count) k f (i - 1) .state
-      right-state =
-          e .next ∙ ap (λ (q : ℕ). getD words (rows + (rowSize * q + getD f (i - 1) 0)) 0) here
-          ∙ sym (ap (λ (x : State). x .state) (right-next (rowsAt words rows count) k f i p h))
+  module _ (s : Step) (i : ℕ) (here : s .state ≡ rightOn (rowsAt words rows count) k f i .state) (looked : s .steps ≡ rightOn (rowsAt words rows count) k f i .steps)
+      (p : 0 < i) (h : i ≤ length f) (r : Step) (e : Stepped words rows s (getD f (i - 1) 0) r) where
+    pub right-state : r .state ≡ rightOn (rowsAt words rows count) k f (i - 1) .state
+    right-state =
+        e .next ∙ ap (λ (q : ℕ). getD words (rows + (rowSize * q + getD f (i - 1) 0)) 0) here
+        ∙ sym (ap (λ (x : State). x .state) (right-next (rowsAt words rows count) k f i p h))
 
-      pub right-steps : r .steps ≡ rightOn (rowsAt words rows count) k f (i - 1) .steps
-      right-steps = e .more ∙ add-one (s .steps) ∙ ap suc looked ∙ sym (ap (λ (x : State). x .steps) (right-next (rowsAt words rows count) k f i p h))
+    pub right-steps : r .steps ≡ rightOn (rowsAt words rows count) k f (i - 1) .steps
+    right-steps = e .more ∙ add-one (s .steps) ∙ ap suc looked ∙ sym (ap (λ (x : State). x .steps) (right-next (rowsAt words rows count) k f i p h))

@@ -3,7 +3,6 @@
 use Prim.Native.Nat.{ℕ, suc, _+_, _-_, _*_, _≤_, _<_}
 use native.Mathlib.Omega.{arith}
 use native.Mathlib.Decide.{decLe}
-use native.Mathlib.Nat.{add-assoc, add-zero, zero-add}
 use mathlib.Core.Path.{_≡_, refl, sym, ap, _∙_, subst}
 use mathlib.Core.Bool.{Bool, true, false, _&&_}
 use mathlib.Core.List.{List, [], _∷_, _++_}
@@ -18,12 +17,13 @@ use Rattle.speech.specs.Places.{frameSize, FoundFor}
 use Rattle.fitting.proofs.Strings.{frame-long}
 use Rattle.reading.proofs.NameWords.{words-begin, words-step, words-past, end-most, starts-first, starts-next, no-start, word-long, frame-length, frame-symbols}
 use Rattle.reading.proofs.WordReading.{part-long}
-use Rattle.tables.specs.Walk.{walkUsable, allWords, sumWords}
+use Rattle.tables.specs.Walk.{walkUsable, allWords, countAfter, carried}
 use Rattle.tables.proofs.Truth.{clash}
-use Rattle.tables.proofs.Steps.{walk-steps}
+use Rattle.tables.proofs.Steps.{count-after}
 use Rattle.tables.specs.Words.{rowSize}
-use Rattle.passes.specs.Passes.{Symbols, leftRowsOf, rightRowsOf, Both, Memory, memory, Sized, passable, stepsOn, KeptTo, WordPassed, Known, AllPassed}
+use Rattle.passes.specs.Passes.{Symbols, leftRowsOf, rightRowsOf, Both, Memory, memory, Sized, passable, countOn, KeptTo, WordPassed, Known, AllPassed}
 use Rattle.passes.specs.declared.Pass.{Pass}
+use Rattle.passes.proofs.Both.{count-is}
 
 -- ---- one word
 
@@ -38,7 +38,7 @@ module _ (b : ℕ) (xs ys zs : List ℕ) (is : zs ≡ take b xs ++ ys) (h : b �
   laid-before j u =
       ap (λ (l : List ℕ). getD l j 0) is ∙ (List·getD-append (take b xs) ys 0 j (omega (arith, length-take-le b xs h)) ∙ getD-take b xs j 0 u)
 
-module _ (ws : List ℕ) (l r : ℕ) (fit : Bool) (list : List ℕ) (w : Str) (b : ℕ) (found left right : List ℕ) (part : ℕ) (found-for : FoundFor list w part)
+module _ (ws : List ℕ) (l r : ℕ) (fit : Bool) (list : List ℕ) (w : Str) (b k : ℕ) (found left right : List ℕ) (part : ℕ) (found-for : FoundFor list w part)
     (sized : Sized (memory found left right)) (inside : b < frameSize) where
   abbrev found′ : List ℕ
   found′ = set found b part
@@ -59,7 +59,7 @@ module _ (ws : List ℕ) (l r : ℕ) (fit : Bool) (list : List ℕ) (w : Str) (b
   same-kept = record { found = found-kept; left = λ j h. refl; right = λ j h. refl }
 
   -- said from the list
-  pub word-listed : 0 < part → WordPassed ws l r fit list w b (memory found left right) same (record { usable = true; steps = 0 })
+  pub word-listed : 0 < part → WordPassed ws l r fit list w b k (memory found left right) same (record { usable = true; steps = k })
   word-listed h = record {
     sized = same-sized;
     kept = same-kept;
@@ -72,7 +72,7 @@ module _ (ws : List ℕ) (l r : ℕ) (fit : Bool) (list : List ℕ) (w : Str) (b
 
   module _ (none : part ≡ 0) where
     -- the lengths do not fit
-    pub word-unfit : fit ≡ false → WordPassed ws l r fit list w b (memory found left right) same (record { usable = false; steps = 0 })
+    pub word-unfit : fit ≡ false → WordPassed ws l r fit list w b k (memory found left right) same (record { usable = false; steps = 0 })
     word-unfit e = record {
       sized = same-sized;
       kept = same-kept;
@@ -85,12 +85,12 @@ module _ (ws : List ℕ) (l r : ℕ) (fit : Bool) (list : List ℕ) (w : Str) (b
 
     -- both passes over its frame, with the states laid from b on
     pub word-passes : fit ≡ true → (f : Str) → f ≡ frame w → (left₂ right₂ left′ right′ : List ℕ) → left′ ≡ take b left ++ left₂ → right′ ≡ take b right ++ right₂
-        → length left′ ≡ length left → length right′ ≡ length right → (p : Pass) → Both ws l r f (length f - 2) left₂ right₂ p
-        → WordPassed ws l r fit list w b (memory found left right) (memory found′ left′ right′) p
+        → length left′ ≡ length left → length right′ ≡ length right → (p : Pass) → Both ws l r f (length f - 2) k left₂ right₂ p
+        → WordPassed ws l r fit list w b k (memory found left right) (memory found′ left′ right′) p
     word-passes e f is left₂ right₂ left′ right′ x y a c p q =
         let n : length (frame w) - 2 ≡ length w = omega (arith, frame-long w) in
-        let z : Both ws l r (frame w) (length w) left₂ right₂ p =
-        subst (λ (k : ℕ). Both ws l r (frame w) k left₂ right₂ p) n (subst (λ (g : Str). Both ws l r g (length g - 2) left₂ right₂ p) is q) in
+        let z : Both ws l r (frame w) (length w) k left₂ right₂ p =
+        subst (λ (n : ℕ). Both ws l r (frame w) n k left₂ right₂ p) n (subst (λ (g : Str). Both ws l r g (length g - 2) k left₂ right₂ p) is q) in
         let hl : b ≤ length left = omega (arith, sized .left) in
         let hr : b ≤ length right = omega (arith, sized .right) in
         record {
@@ -99,12 +99,12 @@ module _ (ws : List ℕ) (l r : ℕ) (fit : Bool) (list : List ℕ) (w : Str) (b
           part = subst (FoundFor list w) (sym here) found-for;
           listed = λ u. absurd (omega (arith, here));
           usable = λ u. z .usable ∙ sym (ap (λ (t : Bool). t && walkUsable (leftRowsOf ws l) (rightRowsOf ws l r) (frame w) (length w)) e);
-          steps = λ u v. z .looked v;
+          steps = λ u v. z .looked v ∙ count-is (leftRowsOf ws l) (rightRowsOf ws l r) k w;
           states = λ u v. record {
-            lefts = λ k low high. laid-at b left left₂ left′ x hl k ∙ z .lefts v k low (omega arith);
-            rights = λ k low high. laid-at b right right₂ right′ y hr k ∙ z .rights v k low (omega arith);
-            left-small = λ k low high. subst (λ (s : ℕ). s < l) (sym (laid-at b left left₂ left′ x hl k)) (z .left-small v k low (omega arith));
-            right-small = λ k low high. subst (λ (s : ℕ). s < r) (sym (laid-at b right right₂ right′ y hr k)) (z .right-small v k low (omega arith));
+            lefts = λ i low high. laid-at b left left₂ left′ x hl i ∙ z .lefts v i low (omega arith);
+            rights = λ i low high. laid-at b right right₂ right′ y hr i ∙ z .rights v i low (omega arith);
+            left-small = λ i low high. subst (λ (s : ℕ). s < l) (sym (laid-at b left left₂ left′ x hl i)) (z .left-small v i low (omega arith));
+            right-small = λ i low high. subst (λ (s : ℕ). s < r) (sym (laid-at b right right₂ right′ y hr i)) (z .right-small v i low (omega arith));
           };
         }
 
@@ -149,17 +149,18 @@ module _ (ws : List ℕ) (l r : ℕ) (fit : Bool) (list : List ℕ) (name : Str)
   abbrev passing : List Word → Bool
   passing vs = allWords (passable ws l r fit) (unlisted (saysOf list) vs)
 
-  abbrev taken : List Word → ℕ
-  taken vs = sumWords (stepsOn ws l r) (unlisted (saysOf list) vs)
+  -- the count after the passes of words, going on from k
+  abbrev counted : ℕ → List Word → ℕ
+  counted k vs = carried (leftRowsOf ws l) (rightRowsOf ws l r) false [] k (unlisted (saysOf list) vs)
 
   -- what the loop knows at b with so many steps taken
   pub record PassedTo (m : Memory) (steps b : ℕ) : Type 0 where
     pub sized : Sized m
     pub started : b ≤ length name → Starts name b
     pub near : b ≤ suc (length name)
-    pub few : steps ≤ 1000 * b
+    pub few : steps ≤ 2 * b
     pub usable : passing (wordsIn name) ≡ passing (wordsFrom name b)
-    pub steps-are : taken (wordsIn name) ≡ steps + taken (wordsFrom name b)
+    pub steps-are : counted 0 (wordsIn name) ≡ counted steps (wordsFrom name b)
     pub ended : (j : ℕ) → j < b → Starts name j → endAt name j ≤ b
     pub known : (j : ℕ) → j < b → Starts name j → Known ws l r fit list (wordAt name j) j m
 
@@ -170,7 +171,7 @@ module _ (ws : List ℕ) (l r : ℕ) (fit : Bool) (list : List ℕ) (name : Str)
     near = omega arith;
     few = omega arith;
     usable = ap passing (sym (words-begin name));
-    steps-are = ap taken (sym (words-begin name)) ∙ sym (zero-add (taken (wordsFrom name 0)));
+    steps-are = ap (counted 0) (sym (words-begin name));
     ended = λ j h. absurd (omega arith);
     known = λ j h. absurd (omega arith);
   }
@@ -186,7 +187,7 @@ module _ (ws : List ℕ) (l r : ℕ) (fit : Bool) (list : List ℕ) (name : Str)
       first : wordsFrom name b ≡ word b w ∷ wordsFrom name e
       first = words-step name b h ∙ ap (λ (x : ℕ). word b w ∷ wordsFrom name x) (sym is)
 
-      module _ (m′ : Memory) (p : Pass) (o : WordPassed ws l r fit list w b m m′ p) where
+      module _ (m′ : Memory) (p : Pass) (o : WordPassed ws l r fit list w b steps m m′ p) where
         absent : getD (m′ .found) b 0 ≡ 0 → unlisted (saysOf list) (wordsFrom name b) ≡ word b w ∷ unlisted (saysOf list) (wordsFrom name e)
         absent z = ap (unlisted (saysOf list)) first ∙ unlisted-in (saysOf list) (word b w) (wordsFrom name e) (o .part .none z)
 
@@ -203,20 +204,17 @@ module _ (ws : List ℕ) (l r : ℕ) (fit : Bool) (list : List ℕ) (name : Str)
               ap (allWords (passable ws l r fit)) (absent z) ∙ ap (λ (t : Bool). t && passing (wordsFrom name e)) (word-good z)
           on-usable (no y) = ap (allWords (passable ws l r fit)) (present (omega arith))
 
-          on-steps : Dec (getD (m′ .found) b 0 ≤ 0) → taken (wordsFrom name b) ≡ p .steps + taken (wordsFrom name e)
+          on-steps : Dec (getD (m′ .found) b 0 ≤ 0) → counted steps (wordsFrom name b) ≡ counted (p .steps) (wordsFrom name e)
           on-steps (yes y) =
               let z : getD (m′ .found) b 0 ≡ 0 = omega arith in
-              ap (sumWords (stepsOn ws l r)) (absent z) ∙ ap (λ (k : ℕ). k + taken (wordsFrom name e)) (sym (o .steps z good))
+              ap (carried (leftRowsOf ws l) (rightRowsOf ws l r) false [] steps) (absent z) ∙ ap (λ (k : ℕ). counted k (wordsFrom name e)) (sym (o .steps z good))
           on-steps (no y) =
               let z : 0 < getD (m′ .found) b 0 = omega arith in
-              ap (sumWords (stepsOn ws l r)) (present z) ∙ (sym (zero-add (taken (wordsFrom name e))) ∙ sym (ap (λ (k : ℕ). k + taken (wordsFrom name e)) (o .listed z .1)))
+              ap (carried (leftRowsOf ws l) (rightRowsOf ws l r) false [] steps) (present z) ∙ ap (λ (k : ℕ). counted k (wordsFrom name e)) (sym (o .listed z .1))
 
-          pub pass-few : Dec (getD (m′ .found) b 0 ≤ 0) → p .steps ≤ 2 * length w + 2
-          pass-few (yes y) = let z : getD (m′ .found) b 0 ≡ 0 = omega arith in omega (arith, o .steps z good, walk-steps (leftRowsOf ws l) (rightRowsOf ws l r) w)
+          pass-few : Dec (getD (m′ .found) b 0 ≤ 0) → p .steps ≤ steps + (2 * length w + 2)
+          pass-few (yes y) = let z : getD (m′ .found) b 0 ≡ 0 = omega arith in omega (arith, o .steps z good, count-after (leftRowsOf ws l) (rightRowsOf ws l r) steps w)
           pass-few (no y) = omega (arith, o .listed (omega arith) .1)
-
-          pub pass-small : p .steps ≤ 1000
-          pass-small = omega (arith, pass-few (decLe (getD (m′ .found) b 0) 0), word-long name b h, sound .short)
 
           word-known : Known ws l r fit list w b m′
           word-known = record { part = o .part; fits = λ z. and-l fit _ (word-good z); states = λ z. o .states z good }
@@ -229,15 +227,14 @@ module _ (ws : List ℕ) (l r : ℕ) (fit : Bool) (list : List ℕ) (name : Str)
               go (yes y) (yes z) = at (omega arith)
               go (yes y) (no z) = absurd (no-start name b j h (omega arith) (omega arith) sound t)
 
-          pub passed-next : PassedTo m′ (steps + p .steps) e
+          pub passed-next : PassedTo m′ (p .steps) e
           passed-next = record {
             sized = o .sized;
             started = λ u. subst (Starts name) (sym is) (starts-next name b h (rw (sym is) u));
             near = omega (arith, end-most name b h);
-            few = omega (arith, s .few, pass-small);
+            few = omega (arith, s .few, pass-few (decLe (getD (m′ .found) b 0) 0));
             usable = s .usable ∙ on-usable (decLe (getD (m′ .found) b 0) 0);
-            steps-are = s .steps-are
-                ∙ (ap (λ (k : ℕ). steps + k) (on-steps (decLe (getD (m′ .found) b 0) 0)) ∙ sym (add-assoc steps (p .steps) (taken (wordsFrom name e))));
+            steps-are = s .steps-are ∙ on-steps (decLe (getD (m′ .found) b 0) 0);
             ended = λ j u t. by-place j u t (endAt name j ≤ e) (λ v. omega (arith, s .ended j v t)) (λ v. let z : endAt name j ≡ endAt name b = ap (endAt name) v in omega arith);
             known = λ j u t. by-place j u t (Known ws l r fit list (wordAt name j) j m′)
                 (λ v. known-kept ws l r fit list (wordAt name j) j b m m′ (o .kept) (s .ended j v t) (s .known j v t))
@@ -264,6 +261,6 @@ module _ (ws : List ℕ) (l r : ℕ) (fit : Bool) (list : List ℕ) (name : Str)
     passed-end h = record {
       sized = s .sized;
       usable = sym (s .usable ∙ ap passing (words-past name b h));
-      steps = λ u. sym (s .steps-are ∙ (ap (λ (vs : List Word). steps + taken vs) (words-past name b h) ∙ add-zero steps));
+      steps = λ u. sym (s .steps-are ∙ ap (counted steps) (words-past name b h));
       known = λ u j v t. s .known j (omega arith) t;
     }

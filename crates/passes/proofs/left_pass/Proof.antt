@@ -11,10 +11,10 @@ use Rattle.passes.proofs.left_pass.Statement.{statement}
 use Rattle.passes.proofs.left_pass.Tie as tie
 
 abbrev Inv-loop : tie.InvT-loop
-Inv-loop words rows count frame states₀ at₀ end i₀ states at i = (i ≤ end) × (at .steps ≡ i) × Passing (leftOn (rowsAt words rows count) frame) count 1 i (length states₀) states at i
+Inv-loop words rows count frame steps states₀ at₀ end i₀ states at i = (i ≤ end) × (at .steps ≡ steps + i) × Passing (leftOn (rowsAt words rows count) steps frame) count 1 i (length states₀) states at i
 
 abbrev μ-loop : tie.MeasureT-loop
-μ-loop words rows count frame states₀ at₀ end i₀ states at i = end - i
+μ-loop words rows count frame steps states₀ at₀ end i₀ states at i = end - i
 
 sub-end : tie.Need-sub-end Inv-loop μ-loop
 sub-end c = omega arith
@@ -22,16 +22,16 @@ sub-end c = omega arith
 loop-holds : tie.Need-loop-holds Inv-loop μ-loop
 loop-holds c =
     let a = c .before .before .before .args in
-    (omega arith, refl, left-begin (a .words .now) (a .rows) (a .count) (a .frame .now) (a .states .now) (omega arith))
+    (omega arith, omega arith, left-begin (a .words .now) (a .rows) (a .count) (a .frame .now) (a .steps) (a .states .now) (omega arith))
 
 shared-slice-read-look-up : tie.Need-shared-slice-read-look-up Inv-loop μ-loop
 shared-slice-read-look-up c = omega arith
 
 look-up-requires : tie.Need-look-up-requires Inv-loop μ-loop
 look-up-requires c κs =
-    let l = c .before .before .before .before .before .before .pre .4 (c .before .before .loop .i) (omega arith) in
+    let l = c .before .before .before .before .before .before .pre .5 (c .before .before .loop .i) (omega arith) in
     let b = c .before .before .loop .inv .2 .below in
-    (omega arith, omega arith)
+    (omega arith, omega (arith, c .before .before .loop .inv .1))
 
 wide16-requires : tie.Need-wide16-requires Inv-loop μ-loop
 wide16-requires c κs = tt
@@ -46,8 +46,8 @@ returns c =
     let r = c .before .before .look-up in
     let p = k .inv .2 in
     let b : a .count ≤ r .result .state = omega (arith, c .before .wide16 .ensures .0) in
-    stop (leftOn (rowsAt (a .words .now) (a .rows) (a .count)) (a .frame .now)) (a .count) _ _ _ (k .i + 1) (r .result .state)
-    (left-state (a .words .now) (a .rows) (a .count) (a .frame .now) (k .at) (k .i) (p .here) (p .looked) (omega arith) (r .result) (r .ensures))
+    stop (leftOn (rowsAt (a .words .now) (a .rows) (a .count)) (a .steps) (a .frame .now)) (a .count) _ _ _ (k .i + 1) (r .result .state)
+    (left-state (a .words .now) (a .rows) (a .count) (a .frame .now) (a .steps) (k .at) (k .i) (p .here) (p .looked) (omega arith) (r .result) (r .ensures))
     (omega arith) (omega arith) b _ _ refl
 
 add-i : tie.Need-add-i Inv-loop μ-loop
@@ -70,10 +70,10 @@ loop-again c =
     let p = k .inv .2 in
     let b : r .result .state < a .count = omega (arith, c .before .wide16 .ensures .0) in (
       omega arith,
-      omega (arith, r .ensures .more),
-      go-on (leftOn (rowsAt (a .words .now) (a .rows) (a .count)) (a .frame .now)) (a .count) p 1 (k .i + 1) (r .result) (k .i + 1)
-          (left-state (a .words .now) (a .rows) (a .count) (a .frame .now) (k .at) (k .i) (p .here) (p .looked) (omega arith) (r .result) (r .ensures))
-          (left-steps (a .words .now) (a .rows) (a .count) (a .frame .now) (k .at) (k .i) (p .here) (p .looked) (omega arith) (r .result) (r .ensures))
+      omega (arith, r .ensures .more, k .inv .1),
+      go-on (leftOn (rowsAt (a .words .now) (a .rows) (a .count)) (a .steps) (a .frame .now)) (a .count) p 1 (k .i + 1) (r .result) (k .i + 1)
+          (left-state (a .words .now) (a .rows) (a .count) (a .frame .now) (a .steps) (k .at) (k .i) (p .here) (p .looked) (omega arith) (r .result) (r .ensures))
+          (left-steps (a .words .now) (a .rows) (a .count) (a .frame .now) (a .steps) (k .at) (k .i) (p .here) (p .looked) (omega arith) (r .result) (r .ensures))
           b (omega arith) (λ j l m d. (omega arith, omega arith)),
     )
 
@@ -84,7 +84,7 @@ returns-2 : tie.Need-returns-2 Inv-loop μ-loop
 returns-2 c =
     let a = c .before .before .before .before .before .args in
     let k = c .before .loop in
-    finished (leftOn (rowsAt (a .words .now) (a .rows) (a .count)) (a .frame .now)) (a .count) (length (a .frame .now) - 1) (length (a .frame .now) - 1) frameSize
+    finished (leftOn (rowsAt (a .words .now) (a .rows) (a .count)) (a .steps) (a .frame .now)) (a .count) (length (a .frame .now) - 1) (length (a .frame .now) - 1) (a .steps + frameSize)
     (k .inv .2) (omega arith) (omega arith) (omega arith) (omega (arith, k .inv .1)) _ refl refl
 
 pub left-pass-spec : {M : Type 1} → statement M

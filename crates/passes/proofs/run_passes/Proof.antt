@@ -20,13 +20,15 @@ left-pass-requires : tie.Need-left-pass-requires
 left-pass-requires c κs = search needs
 
 same-length : tie.Need-same-length
-same-length c = c .before .before .before .before .left-pass .kept .1 .1 .1 .1 .0
+same-length c = c .before .before .before .before .left-pass .kept .1 .1 .1 .1 .1 .0
 
 returns : tie.Need-returns
 returns c =
-    let a = c .before .before .before .before .before .before .before .before .before .before .args in
-    both-bad (a .words .now) (a .left-states) (a .right-states) (a .frame .now) (length (a .frame .now) - 2) (c .before .before .before .before .left-pass .last .1 .1 .1 .1 .0) (a .right .now) (c .before .before .before .before .left-pass .result)
-    (subst (λ (n : ℕ). Passed (leftOn (rowsAt (a .words .now) headWords (a .left-states)) (a .frame .now)) (a .left-states) n n frameSize (c .before .before .before .before .left-pass .last .1 .1 .1 .1 .0) (c .before .before .before .before .left-pass .result)) (shorter (length (a .frame .now)) (c .before .before .before .before .before .before .before .before .before .before .pre .3)) (c .before .before .before .before .left-pass .ensures))
+    let st = c .before .before .before .before .before .before .before .before .before .before in
+    let a = st .args in
+    let one = c .before .before .before .before .left-pass in
+    both-bad (a .words .now) (a .left-states) (a .right-states) (a .frame .now) (length (a .frame .now) - 2) (a .steps) (one .last .1 .1 .1 .1 .1 .0) (a .right .now) (one .result)
+    (subst (λ (n : ℕ). Passed (leftOn (rowsAt (a .words .now) headWords (a .left-states)) (a .steps) (a .frame .now)) (a .left-states) n n (a .steps + frameSize) (one .last .1 .1 .1 .1 .1 .0) (one .result)) (shorter (length (a .frame .now)) (st .pre .3)) (one .ensures))
     (not-true _ (c .if1 .taken))
 
 mul-right-pass : tie.Need-mul-right-pass
@@ -38,24 +40,25 @@ add-right-pass c = search needs
 right-pass-requires : tie.Need-right-pass-requires
 right-pass-requires c κs =
     let p = c .before .before .before .before .before .before .before .before .before .before .before .pre in
-    (omega arith, p .1, p .3, p .4, omega (arith, c .before .before .before .before .before .left-pass .ensures .few (not-false _ (c .before .if1 .left))), p .5, p .7)
+    (omega arith, p .1, p .3, p .4, omega (arith, p .5, c .before .before .before .before .before .left-pass .ensures .few (not-false _ (c .before .if1 .left))), p .6, p .8)
 
 same-length-2 : tie.Need-same-length-2
-same-length-2 c = c .before .before .before .before .before .before .before .before .left-pass .kept .1 .1 .1 .1 .0
+same-length-2 c = c .before .before .before .before .before .before .before .before .left-pass .kept .1 .1 .1 .1 .1 .0
 
 same-length-3 : tie.Need-same-length-3
 same-length-3 c = c .before .before .right-pass .kept .1 .1 .1 .1 .1 .0
 
 returns-2 : tie.Need-returns-2
 returns-2 c =
-    let a = c .before .before .before .before .before .before .before .before .before .before .before .before .before .before .args in
+    let st = c .before .before .before .before .before .before .before .before .before .before .before .before .before .before in
+    let a = st .args in
     let one = c .before .before .before .before .before .before .before .before .left-pass in
     let two = c .before .before .right-pass in
-    both-good (a .words .now) (a .left-states) (a .right-states) (a .frame .now) (length (a .frame .now) - 2) (one .last .1 .1 .1 .1 .0) (two .last .1 .1 .1 .1 .1 .0) (one .result)
-    (subst (λ (n : ℕ). Passed (leftOn (rowsAt (a .words .now) headWords (a .left-states)) (a .frame .now)) (a .left-states) n n frameSize (one .last .1 .1 .1 .1 .0) (one .result)) (shorter (length (a .frame .now)) (c .before .before .before .before .before .before .before .before .before .before .before .before .before .before .pre .3)) (one .ensures))
+    both-good (a .words .now) (a .left-states) (a .right-states) (a .frame .now) (length (a .frame .now) - 2) (a .steps) (one .last .1 .1 .1 .1 .1 .0) (two .last .1 .1 .1 .1 .1 .0) (one .result)
+    (subst (λ (n : ℕ). Passed (leftOn (rowsAt (a .words .now) headWords (a .left-states)) (a .steps) (a .frame .now)) (a .left-states) n n (a .steps + frameSize) (one .last .1 .1 .1 .1 .1 .0) (one .result)) (shorter (length (a .frame .now)) (st .pre .3)) (one .ensures))
     (not-false _ (c .before .before .before .before .if1 .left)) (two .result)
     (subst (λ (n : ℕ). Passed (rightOn (rowsAt (a .words .now) (rightRows (a .left-states)) (a .right-states)) (one .result .steps) (a .frame .now)) (a .right-states) n 1 (one .result .steps + frameSize) (two .last .1 .1 .1 .1 .1 .0) (two .result))
-    (shorter (length (a .frame .now)) (c .before .before .before .before .before .before .before .before .before .before .before .before .before .before .pre .3)) (two .ensures))
+    (shorter (length (a .frame .now)) (st .pre .3)) (two .ensures))
 
 pub run-passes-spec : {M : Type 1} → statement M
 run-passes-spec =

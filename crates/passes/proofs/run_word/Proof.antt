@@ -13,28 +13,45 @@ use Rattle.passes.proofs.run_word.Statement.{statement}
 use Rattle.passes.proofs.run_word.Tie as tie
 
 find-word-requires : tie.Need-find-word-requires
-find-word-requires c κs = (c .before .before .before .before .before .before .before .pre .1, c .before .before .before .before .before .before .before .pre .3 .inside, c .before .before .before .before .before .before .before .pre .3 .ends)
+find-word-requires c κs =
+    let p = c .before .before .before .before .before .before .before .pre in
+    (p .1, p .3 .inside, p .3 .ends)
 
 mul-found : tie.Need-mul-found
 mul-found c = search needs
 
 slice-write-found : tie.Need-slice-write-found
-slice-write-found c = omega (arith, c .before .before .before .before .before .before .before .before .pre .3 .inside, c .before .before .before .before .before .before .before .before .pre .1 .sound .short, c .before .before .before .before .before .before .before .before .pre .4 .found)
+slice-write-found c =
+    let p = c .before .before .before .before .before .before .before .before .pre in
+    omega (arith, p .3 .inside, p .1 .sound .short, p .5 .found)
 
 same-length : tie.Need-same-length
 same-length c = search needs
 
 returns : tie.Need-returns
-returns c = word-listed (c .before .before .before .before .before .before .before .before .before .args .words .now) (c .before .before .before .before .before .before .before .before .before .args .left-states) (c .before .before .before .before .before .before .before .before .before .args .right-states) (c .before .before .before .before .before .before .before .before .before .args .fit) (c .before .before .before .before .before .before .before .before .before .args .list .now) (wordAt (c .before .before .before .before .before .before .before .before .before .args .name .now) (c .before .before .before .before .before .before .before .before .before .args .from)) (c .before .before .before .before .before .before .before .before .before .args .from) (c .before .before .before .before .before .before .before .before .before .args .found .now) (c .before .before .before .before .before .before .before .before .before .args .left .now) (c .before .before .before .before .before .before .before .before .before .args .right .now) (c .before .find-word .result) (c .before .find-word .ensures) (c .before .before .before .before .before .before .before .before .before .pre .4) (let x = c .before .before .before .before .before .before .before .before .before .pre .3 .inside in omega (arith, c .before .before .before .before .before .before .before .before .before .pre .1 .sound .short)) (omega arith)
+returns c =
+    let st = c .before .before .before .before .before .before .before .before .before in
+    let a = st .args in
+    let part = c .before .find-word in
+    word-listed (a .words .now) (a .left-states) (a .right-states) (a .fit) (a .list .now) (wordAt (a .name .now) (a .from)) (a .from) (a .steps) (a .found .now) (a .left .now) (a .right .now)
+    (part .result) (part .ensures) (st .pre .5) (let x = st .pre .3 .inside in omega (arith, st .pre .1 .sound .short)) (omega arith)
 
 same-length-2 : tie.Need-same-length-2
 same-length-2 c = search needs
 
 returns-2 : tie.Need-returns-2
-returns-2 c = word-unfit (c .before .before .before .before .before .before .before .before .before .before .args .words .now) (c .before .before .before .before .before .before .before .before .before .before .args .left-states) (c .before .before .before .before .before .before .before .before .before .before .args .right-states) (c .before .before .before .before .before .before .before .before .before .before .args .fit) (c .before .before .before .before .before .before .before .before .before .before .args .list .now) (wordAt (c .before .before .before .before .before .before .before .before .before .before .args .name .now) (c .before .before .before .before .before .before .before .before .before .before .args .from)) (c .before .before .before .before .before .before .before .before .before .before .args .from) (c .before .before .before .before .before .before .before .before .before .before .args .found .now) (c .before .before .before .before .before .before .before .before .before .before .args .left .now) (c .before .before .before .before .before .before .before .before .before .before .args .right .now) (c .before .before .find-word .result) (c .before .before .find-word .ensures) (c .before .before .before .before .before .before .before .before .before .before .pre .4) (let x = c .before .before .before .before .before .before .before .before .before .before .pre .3 .inside in omega (arith, c .before .before .before .before .before .before .before .before .before .before .pre .1 .sound .short)) (omega (arith, c .before .if1 .left)) (not-true _ (c .if2 .taken))
+returns-2 c =
+    let st = c .before .before .before .before .before .before .before .before .before .before in
+    let a = st .args in
+    let part = c .before .before .find-word in
+    word-unfit (a .words .now) (a .left-states) (a .right-states) (a .fit) (a .list .now) (wordAt (a .name .now) (a .from)) (a .from) (a .steps) (a .found .now) (a .left .now) (a .right .now)
+    (part .result) (part .ensures) (st .pre .5) (let x = st .pre .3 .inside in omega (arith, st .pre .1 .sound .short)) (omega (arith, c .before .if1 .left)) (not-true _ (c .if2 .taken))
 
 add-run-passes : tie.Need-add-run-passes
-add-run-passes c = omega (arith, part-inside (c .before .before .before .before .before .before .before .before .before .before .args .name .now) (c .before .before .before .before .before .before .before .before .before .before .args .frame .now) (c .before .before .before .before .before .before .before .before .before .before .pre .2) (c .before .before .before .before .before .before .before .before .before .before .args .from) (c .before .before .before .before .before .before .before .before .before .before .args .end) (c .before .before .before .before .before .before .before .before .before .before .pre .3))
+add-run-passes c =
+    let st = c .before .before .before .before .before .before .before .before .before .before in
+    let a = st .args in
+    omega (arith, part-inside (a .name .now) (a .frame .now) (st .pre .2) (a .from) (a .end) (st .pre .3))
 
 sub-run-passes : tie.Need-sub-run-passes
 sub-run-passes c = search needs
@@ -43,7 +60,10 @@ part-run-passes-start : tie.Need-part-run-passes-start
 part-run-passes-start c = search needs
 
 part-run-passes-end : tie.Need-part-run-passes-end
-part-run-passes-end c = part-inside (c .before .before .before .before .before .before .before .before .before .before .args .name .now) (c .before .before .before .before .before .before .before .before .before .before .args .frame .now) (c .before .before .before .before .before .before .before .before .before .before .pre .2) (c .before .before .before .before .before .before .before .before .before .before .args .from) (c .before .before .before .before .before .before .before .before .before .before .args .end) (c .before .before .before .before .before .before .before .before .before .before .pre .3)
+part-run-passes-end c =
+    let st = c .before .before .before .before .before .before .before .before .before .before in
+    let a = st .args in
+    part-inside (a .name .now) (a .frame .now) (st .pre .2) (a .from) (a .end) (st .pre .3)
 
 mul-run-passes : tie.Need-mul-run-passes
 mul-run-passes c = search needs
@@ -70,7 +90,24 @@ part-run-passes-end-3 : tie.Need-part-run-passes-end-3
 part-run-passes-end-3 c = search needs
 
 run-passes-requires : tie.Need-run-passes-requires
-run-passes-requires c κs = let q = c .before .before .before .before .before .before .before .before .before .before .before .before .before .pre .0 (not-false _ (c .before .before .before .if2 .left)) in let l = part-long (c .before .before .before .before .before .before .before .before .before .before .before .before .before .args .name .now) (c .before .before .before .before .before .before .before .before .before .before .before .before .before .args .frame .now) (c .before .before .before .before .before .before .before .before .before .before .before .before .before .pre .2) (c .before .before .before .before .before .before .before .before .before .before .before .before .before .args .from) (c .before .before .before .before .before .before .before .before .before .before .before .before .before .args .end) (c .before .before .before .before .before .before .before .before .before .before .before .before .before .pre .3) in let b = part-bound (c .before .before .before .before .before .before .before .before .before .before .before .before .before .args .name .now) (c .before .before .before .before .before .before .before .before .before .before .before .before .before .args .frame .now) (c .before .before .before .before .before .before .before .before .before .before .before .before .before .pre .2) (c .before .before .before .before .before .before .before .before .before .before .before .before .before .args .from) (c .before .before .before .before .before .before .before .before .before .before .before .before .before .args .end) (c .before .before .before .before .before .before .before .before .before .before .before .before .before .pre .3) (c .before .before .before .before .before .before .before .before .before .before .before .before .before .pre .1 .sound) in (q .left, q .right, q .room, omega arith, omega arith, part-symbols (c .before .before .before .before .before .before .before .before .before .before .before .before .before .args .name .now) (c .before .before .before .before .before .before .before .before .before .before .before .before .before .args .frame .now) (c .before .before .before .before .before .before .before .before .before .before .before .before .before .pre .2) (c .before .before .before .before .before .before .before .before .before .before .before .before .before .args .from) (c .before .before .before .before .before .before .before .before .before .before .before .before .before .args .end) (c .before .before .before .before .before .before .before .before .before .before .before .before .before .pre .3) (c .before .before .before .before .before .before .before .before .before .before .before .before .before .pre .1 .sound), omega (arith, mid-len (c .before .before .before .before .before .before .before .before .before .before .before .before .before .args .from) (length (c .before .before .before .before .before .before .before .before .before .before .before .before .before .args .left .now)) (c .before .before .before .before .before .before .before .before .before .before .before .before .before .args .left .now) (omega arith), c .before .before .before .before .before .before .before .before .before .before .before .before .before .pre .4 .left), omega (arith, mid-len (c .before .before .before .before .before .before .before .before .before .before .before .before .before .args .from) (length (c .before .before .before .before .before .before .before .before .before .before .before .before .before .args .right .now)) (c .before .before .before .before .before .before .before .before .before .before .before .before .before .args .right .now) (omega arith), c .before .before .before .before .before .before .before .before .before .before .before .before .before .pre .4 .right))
+run-passes-requires c κs =
+    let st = c .before .before .before .before .before .before .before .before .before .before .before .before .before in
+    let a = st .args in
+    let p = st .pre in
+    let q = p .0 (not-false _ (c .before .before .before .if2 .left)) in
+    let l = part-long (a .name .now) (a .frame .now) (st .pre .2) (a .from) (a .end) (st .pre .3) in
+    let b = part-bound (a .name .now) (a .frame .now) (st .pre .2) (a .from) (a .end) (st .pre .3) (p .1 .sound) in
+    (
+      q .left,
+      q .right,
+      q .room,
+      omega arith,
+      omega arith,
+      p .4,
+      part-symbols (a .name .now) (a .frame .now) (st .pre .2) (a .from) (a .end) (st .pre .3) (p .1 .sound),
+      omega (arith, mid-len (a .from) (length (a .left .now)) (a .left .now) (omega arith), p .5 .left),
+      omega (arith, mid-len (a .from) (length (a .right .now)) (a .right .now) (omega arith), p .5 .right),
+    )
 
 same-length-3 : tie.Need-same-length-3
 same-length-3 c = search needs
@@ -82,7 +119,15 @@ same-length-5 : tie.Need-same-length-5
 same-length-5 c = search needs
 
 returns-3 : tie.Need-returns-3
-returns-3 c = word-passes (c .before .before .before .before .before .before .before .before .before .before .before .before .before .before .before .before .before .before .args .words .now) (c .before .before .before .before .before .before .before .before .before .before .before .before .before .before .before .before .before .before .args .left-states) (c .before .before .before .before .before .before .before .before .before .before .before .before .before .before .before .before .before .before .args .right-states) (c .before .before .before .before .before .before .before .before .before .before .before .before .before .before .before .before .before .before .args .fit) (c .before .before .before .before .before .before .before .before .before .before .before .before .before .before .before .before .before .before .args .list .now) (wordAt (c .before .before .before .before .before .before .before .before .before .before .before .before .before .before .before .before .before .before .args .name .now) (c .before .before .before .before .before .before .before .before .before .before .before .before .before .before .before .before .before .before .args .from)) (c .before .before .before .before .before .before .before .before .before .before .before .before .before .before .before .before .before .before .args .from) (c .before .before .before .before .before .before .before .before .before .before .before .before .before .before .before .before .before .before .args .found .now) (c .before .before .before .before .before .before .before .before .before .before .before .before .before .before .before .before .before .before .args .left .now) (c .before .before .before .before .before .before .before .before .before .before .before .before .before .before .before .before .before .before .args .right .now) (c .before .before .before .before .before .before .before .before .before .before .find-word .result) (c .before .before .before .before .before .before .before .before .before .before .find-word .ensures) (c .before .before .before .before .before .before .before .before .before .before .before .before .before .before .before .before .before .before .pre .4) (let x = c .before .before .before .before .before .before .before .before .before .before .before .before .before .before .before .before .before .before .pre .3 .inside in omega (arith, c .before .before .before .before .before .before .before .before .before .before .before .before .before .before .before .before .before .before .pre .1 .sound .short)) (omega (arith, c .before .before .before .before .before .before .before .before .before .if1 .left)) (not-false _ (c .before .before .before .before .before .before .before .before .if2 .left)) _ (part-frame (c .before .before .before .before .before .before .before .before .before .before .before .before .before .before .before .before .before .before .args .name .now) (c .before .before .before .before .before .before .before .before .before .before .before .before .before .before .before .before .before .before .args .frame .now) (c .before .before .before .before .before .before .before .before .before .before .before .before .before .before .before .before .before .before .pre .2) (c .before .before .before .before .before .before .before .before .before .before .before .before .before .before .before .before .before .before .args .from) (c .before .before .before .before .before .before .before .before .before .before .before .before .before .before .before .before .before .before .args .end) (c .before .before .before .before .before .before .before .before .before .before .before .before .before .before .before .before .before .before .pre .3)) (c .before .before .before .before .run-passes .last .1 .1 .1 .1 .0) (c .before .before .before .before .run-passes .last .1 .1 .1 .1 .1 .0) _ _ (put-tail (c .before .before .before .before .before .before .before .before .before .before .before .before .before .before .before .before .before .before .args .from) (c .before .before .before .before .before .before .before .before .before .before .before .before .before .before .before .before .before .before .args .left .now) _) (put-tail (c .before .before .before .before .before .before .before .before .before .before .before .before .before .before .before .before .before .before .args .from) (c .before .before .before .before .before .before .before .before .before .before .before .before .before .before .before .before .before .before .args .right .now) _) (search needs) (search needs) _ (c .before .before .before .before .run-passes .ensures)
+returns-3 c =
+    let st = c .before .before .before .before .before .before .before .before .before .before .before .before .before .before .before .before .before .before in
+    let a = st .args in
+    let part = c .before .before .before .before .before .before .before .before .before .before .find-word in
+    let both = c .before .before .before .before .run-passes in
+    word-passes (a .words .now) (a .left-states) (a .right-states) (a .fit) (a .list .now) (wordAt (a .name .now) (a .from)) (a .from) (a .steps) (a .found .now) (a .left .now) (a .right .now)
+    (part .result) (part .ensures) (st .pre .5) (let x = st .pre .3 .inside in omega (arith, st .pre .1 .sound .short)) (omega (arith, c .before .before .before .before .before .before .before .before .before .if1 .left)) (not-false _ (c .before .before .before .before .before .before .before .before .if2 .left)) _
+    (part-frame (a .name .now) (a .frame .now) (st .pre .2) (a .from) (a .end) (st .pre .3)) (both .last .1 .1 .1 .1 .1 .0) (both .last .1 .1 .1 .1 .1 .1 .0) _ _
+    (put-tail (a .from) (a .left .now) _) (put-tail (a .from) (a .right .now) _) (search needs) (search needs) _ (both .ensures)
 
 pub run-word-spec : {M : Type 1} → statement M
 run-word-spec =
