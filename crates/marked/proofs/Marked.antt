@@ -7,13 +7,13 @@ use Rattle.fitting.specs.Reading.{plain}
 use Rattle.speech.specs.Words.{wordsIn}
 use Rattle.numbers.specs.Bits.{bit}
 use Rattle.tables.specs.Words.{pack, builtWords, builtSets}
-use Rattle.tables.specs.Walk.{lowest, howMany, places, walk, usable, judgedTables, stepsIn, walkWord, walkThrough}
+use Rattle.tables.specs.Walk.{lowest, howMany, places, walk, usable, judgedTables, countAfter, walkWord, walkThrough}
 use Rattle.marked.specs.Marked.{answer, questions, answers, severalWords, severalAnswers}
 
 pub marked : map answer questions ≡ answers
-unfolding judgedName wordsIn plain bit pack builtWords builtSets lowest howMany places walk usable judgedTables stepsIn walkWord walkThrough
+unfolding judgedName wordsIn plain bit pack builtWords builtSets lowest howMany places walk usable judgedTables countAfter walkWord walkThrough
 marked = refl
 
 pub several : map answer severalWords ≡ severalAnswers
-unfolding judgedName wordsIn plain bit pack builtWords builtSets lowest howMany places walk usable judgedTables stepsIn walkWord walkThrough
+unfolding judgedName wordsIn plain bit pack builtWords builtSets lowest howMany places walk usable judgedTables countAfter walkWord walkThrough
 several = refl

@@ -25,10 +25,12 @@ use Rattle.speech.specs.declared.Reached.the-variants.{Rules, Uncovered, BadTab
 use Rattle.reading.proofs.Loop.{after-none}
 use Rattle.tables.specs.Tables.{Table}
 use Rattle.tables.specs.Words.{headWords, editsIn, setSize, rightRows, rightSets, neededWords, neededSets, tableAt, Compiled, leftOf, rightOf}
-use Rattle.tables.specs.Walk.{Step as State, step, pass, from, allBelow, lookup, lowest, howMany, places, leftAt, rightAt, walkUsable, walkChoice, walkSteps, walk, lengthsFit, judgedTables, allWords, sumWords, usable, stepsIn, walkWord, allUsable, stepsOver, judgedPasses, walkThrough, walkedAs}
+use Rattle.tables.specs.Walk.{Step as State, step, pass, from, lookup, lowest, howMany, places, leftAt, rightAt, walkUsable, walkChoice, walk, lengthsFit, judgedTables, allWords, usable, walkWord, allUsable, stepsOver, judgedPasses, walkThrough, walkedAs}
 use Rattle.tables.proofs.SetWords.{choice-tables, shared-tables}
 use Rattle.tables.proofs.Theorem.{delivered-steps}
-use Rattle.passes.specs.Passes.{rowsAt, leftRowsOf, rightRowsOf, Memory, passable, stepsOn, AllPassed}
+use Rattle.tables.proofs.Words.{allBelow-ext}
+use Rattle.tables.proofs.Steps.{carried-alone}
+use Rattle.passes.specs.Passes.{rowsAt, leftRowsOf, rightRowsOf, Memory, passable, AllPassed}
 use Rattle.table_reading.specs.Letters.{lowestShared, countShared, choiceBy, choicesBy, Held, Tells, NameRead}
 use Rattle.walk.specs.Walked.{walkedOf, compiledWith, stepsWith, Fit, verdict, FitsAs}
 use Rattle.passes.specs.declared.Pass.{Pass}
@@ -63,10 +65,6 @@ read-ext g h n same (suc k) i p =
     (λ e. rw e (ap (λ (c : Choice). onward c i (readFrom g n k)) (same i p (ltb-false n i e))
     ∙ onward-ext (h i) i (readFrom g n k) (readFrom h n k) (λ j q. read-ext g h n same k j (omega arith))))
 
-below-ext : (g h : ℕ → Bool) (n : ℕ) → ((i : ℕ) → g i ≡ h i) → allBelow g n ≡ allBelow h n
-below-ext g h zero same = refl
-below-ext g h (suc n) same = ap₂ _&&_ (same (suc n)) (below-ext g h n same)
-
 -- a pass reads entries only, whatever the sets are
 pass-same : (ws ss : List ℕ) (rows at count : ℕ) (s : State) (w : List ℕ) → pass (rowsAt ws rows count) s w ≡ pass (tableAt ws ss rows at count) s w
 pass-same ws ss rows at count s [] = refl
@@ -85,16 +83,13 @@ module _ (ws ss : List ℕ) (l r : ℕ) (f : List ℕ) (n : ℕ) where
   left-same i = pass-same ws ss headWords 0 l (from 0) (take i f)
 
   right-same : (i : ℕ) → rightAt (leftRowsOf ws l) (rightRowsOf ws l r) f n i ≡ rightAt tl tr f n i
-  right-same i =
-      ap (λ (s : State). pass (rightRowsOf ws l r) (from (s .steps)) (reverse (drop i f))) (left-same (suc n))
-      ∙ pass-same ws ss (rightRows l) (rightSets l) r (from (leftAt tl tr f n (suc n) .steps)) (reverse (drop i f))
+  right-same i = pass-same ws ss (rightRows l) (rightSets l) r (from 0) (reverse (drop i f))
 
   usable-same : walkUsable (leftRowsOf ws l) (rightRowsOf ws l r) f n ≡ walkUsable tl tr f n
   usable-same =
-      ap₂ _&&_ (below-ext _ _ (suc n) (λ i. ap (λ (s : State). ltb (s .state) l) (left-same i))) (below-ext _ _ (suc n) (λ i. ap (λ (s : State). ltb (s .state) r) (right-same i)))
-
-  steps-same : walkSteps (leftRowsOf ws l) (rightRowsOf ws l r) f n ≡ walkSteps tl tr f n
-  steps-same = ap (λ (s : State). s .steps) (right-same 1)
+      ap₂ _&&_
+      (allBelow-ext _ _ (λ i. ap (λ (s : State). ltb (s .state) l) (left-same i)) (suc n))
+      (allBelow-ext _ _ (λ i. ap (λ (s : State). ltb (s .state) r) (right-same i)) (suc n))
 
   -- the states at position i choose as the walk does
   choice-is : (image left right : List ℕ) (i : ℕ) → getD left i 0 ≡ leftAt (leftRowsOf ws l) (rightRowsOf ws l r) f n i .state
@@ -117,10 +112,6 @@ module _ (ws ss : List ℕ) (l r : ℕ) (f : List ℕ) (n : ℕ) where
 all-same : (t u : Str → Bool) → ((w : Str) → t w ≡ u w) → (vs : List Word) → allWords t vs ≡ allWords u vs
 all-same t u h [] = refl
 all-same t u h (v ∷ vs) = ap₂ _&&_ (h (v .letters)) (all-same t u h vs)
-
-sum-same : (f g : Str → ℕ) → ((w : Str) → f w ≡ g w) → (vs : List Word) → sumWords f vs ≡ sumWords g vs
-sum-same f g h [] = refl
-sum-same f g h (v ∷ vs) = ap₂ _+_ (h (v .letters)) (sum-same f g h vs)
 
 -- ---- the tables judged
 
@@ -180,10 +171,9 @@ module _ (image ws ss : List ℕ) (l r : ℕ) (fit stale : Bool) (fits-as : Fits
 
     pub through-read : (ps : List ℕ) (x : Reached) → NameRead image ss base name (m .found) (m .left) (m .right) ps x
         → answered (partsReading image list ps x) (p .steps) ≡ walkThrough c (editsOf image) (literalsOf image) name (saysOf list)
-    unfolding stepsIn
     through-read ps x n =
         ap₂ answered (n list (walkWord c (literalsOf image)) tells .says ∙ after-none (readWords (saysOf list) (walkWord c (literalsOf image)) (wordsIn name)))
-        (a .steps e ∙ sum-same (stepsOn ws l r) (stepsIn c) (λ w. steps-same ws ss l r (frame w) (length w)) unsaid)
+        (a .steps e ∙ (carried-alone (leftRowsOf ws l) (rightRowsOf ws l r) 0 unsaid ∙ sym (carried-alone (leftOf c) (rightOf c) 0 unsaid)))
         ∙ sym (through-by true e)
 
     pub parts-read : (ps : List ℕ) (x : Reached) → NameRead image ss base name (m .found) (m .left) (m .right) ps x → Parted image list frameSize ps x
