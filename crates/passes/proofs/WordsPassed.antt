@@ -17,11 +17,11 @@ use Rattle.speech.specs.Places.{frameSize, FoundFor}
 use Rattle.fitting.proofs.Strings.{frame-long}
 use Rattle.reading.proofs.NameWords.{words-begin, words-step, words-past, end-most, starts-first, starts-next, no-start, word-long, frame-length, frame-symbols}
 use Rattle.reading.proofs.WordReading.{part-long}
-use Rattle.tables.specs.Walk.{walkUsable, allWords, countAfter, carried}
+use Rattle.tables.specs.Walk.{walkUsable, allWords, carried}
 use Rattle.tables.proofs.Truth.{clash}
 use Rattle.tables.proofs.Steps.{count-after}
 use Rattle.tables.specs.Words.{rowSize}
-use Rattle.passes.specs.Passes.{Symbols, leftRowsOf, rightRowsOf, Both, Memory, memory, Sized, passable, countOn, KeptTo, WordPassed, Known, AllPassed}
+use Rattle.passes.specs.Passes.{Symbols, leftRowsOf, rightRowsOf, Both, Memory, memory, Sized, passable, KeptTo, WordPassed, Known, AllPassed}
 use Rattle.passes.specs.declared.Pass.{Pass}
 use Rattle.passes.proofs.Both.{count-is}
 

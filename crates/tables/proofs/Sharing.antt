@@ -1,24 +1,23 @@
 -- The steps of a sheet: its one count, as the step function carried it, is that of the different non-empty prefixes of # followed by a word, and
 -- |w| + 1 for the right pass of each word (document 02, request 8). A prefix takes a step where it is not numbered yet.
 -- Assumes nothing.
-use mathlib.Core.Path.{_≡_, refl, sym, ap, ap₂, _∙_}
+use mathlib.Core.Path.{_≡_, refl, ap, ap₂, _∙_}
 use Prim.Native.Nat.{ℕ, _+_, _-_, _<_}
 use native.Mathlib.Omega.{arith}
-use mathlib.Core.Bool.{true, false, cond, _||_, or-comm, or-false}
+use mathlib.Core.Bool.{true, cond, _||_, or-comm, or-false}
 use mathlib.Core.List.{List, [], _∷_, _++_}
 use lib.ListN.{length, length-append}
 use Rattle.rules.proofs.Cases.{byBool}
-use Rattle.fitting.specs.Fitting.{Str, same, starts}
+use Rattle.fitting.specs.Fitting.{Str, starts}
+use Rattle.fitting.proofs.Strings.{same-lengths}
 use Rattle.speech.specs.Words.{Word}
-use Rattle.tables.specs.States.{member, numberOne, numberAll, prefixes, allPrefixes, states, startsAny}
+use Rattle.tables.specs.States.{member, numberOne, numberAll, prefixes, allPrefixes, startsAny}
 use Rattle.tables.specs.Tables.{Table}
 use Rattle.tables.specs.Walk.{Step, step, again, from, passAfter, countAfter, carried}
 use Rattle.tables.specs.Steps.{hashed, prefixesOf, rightSteps}
-use Rattle.tables.proofs.Truth.{contra}
 use Rattle.tables.proofs.Trie.{insert}
-use Rattle.tables.proofs.Suffix.{same-eq}
 use Rattle.tables.proofs.Numbering.{member-one, member-all, member-prefixes, numbered-nil, index-lt}
-use Rattle.tables.proofs.Build.{insert-is, numberAll-append, map-same}
+use Rattle.tables.proofs.Build.{insert-prefixes, numberAll-append}
 use Rattle.tables.proofs.Steps.{right-count}
 
 -- of the strings of more than n symbols, those are numbered with which a kept string begins
@@ -28,8 +27,7 @@ Numbers n kept st = (p : Str) → n < length p → member p st ≡ startsAny p k
 -- and still so of the longer ones, when one string is numbered
 numbers-one : (n : ℕ) (kept st : List Str) (x : Str) → Numbers n kept st → n < length x → Numbers (length x) kept (numberOne st x)
 numbers-one n kept st x h l p m =
-    let d : same p x ≡ false = byBool (same p x) (λ e. absurd (omega (arith, ap length (same-eq p x e)))) (λ e. e) in
-    member-one p st x ∙ (rw d (or-false (member p st)) ∙ h p (omega arith))
+    member-one p st x ∙ (rw (same-lengths p x (λ e. omega arith)) (or-false (member p st)) ∙ h p (omega arith))
 
 -- a left pass takes a step for each prefix that it numbers
 step-numbers : (t : Table) (kept st : List Str) (v : Str) (c : ℕ) (s : Step) → member v st ≡ startsAny v kept
@@ -55,19 +53,17 @@ carried-numbers tl tr [] kept st k h m = omega arith
 carried-numbers tl tr (w ∷ ws) kept st k h m =
     let s : Str = 0 ∷ w .letters in
     let after = numberAll st (prefixes s) in
-    let e : after ≡ insert st [] s = ap (numberAll st) (sym (map-same (prefixes s))) ∙ sym (insert-is s st [] m) in
     let a = pass-numbers tl kept s [] st (from k) h in
     let b = right-count tr (passAfter tl kept [] (from k) s .steps) (w .letters) in
     let n : Numbers 0 (s ∷ kept) after = λ p l. member-all p st (prefixes s) ∙ (ap₂ _||_ (h p l) (member-prefixes p s) ∙ or-comm (startsAny p kept) (starts p s)) in
     let i = carried-numbers tl tr ws (s ∷ kept) after (countAfter tl tr kept k (w .letters)) n (member-all [] st (prefixes s) ∙ rw m) in
     let f = ap length (numberAll-append st (prefixes s) (allPrefixes (hashed ws))) in
-    let g = ap length e in
+    let g = ap length (insert-prefixes s st m) in
     omega arith
 
 -- the count of a sheet, whatever its tables are
 pub shared-steps : (tl tr : Table) (ws : List Word) → carried tl tr true [] 0 ws ≡ (length (prefixesOf ws) - 1) + rightSteps ws
 shared-steps tl tr ws =
-    let n : Numbers 0 [] ([] ∷ []) = λ p l. byBool (same p []) (λ e. absurd (omega (arith, ap length (same-eq p [] e)))) (λ e. rw e) in
-    let a = carried-numbers tl tr ws [] ([] ∷ []) 0 n refl in
+    let a = carried-numbers tl tr ws [] ([] ∷ []) 0 (λ p l. rw (same-lengths p [] (λ e. omega arith))) refl in
     let b = index-lt [] (prefixesOf ws) (numbered-nil (hashed ws)) in
     omega arith
