@@ -96,8 +96,7 @@ run-passes-requires c κs =
     let p = st .pre in
     let q = p .0 (not-false _ (c .before .before .before .if2 .left)) in
     let l = part-long (a .name .now) (a .frame .now) (st .pre .2) (a .from) (a .end) (st .pre .3) in
-    let b = part-bound (a .name .now) (a .frame .now) (st .pre .2) (a .from) (a .end) (st .pre .3) (p .1 .sound) in
-    (
+    let b = part-bound (a .name .now) (a .frame .now) (st .pre .2) (a .from) (a .end) (st .pre .3) (p .1 .sound) in (
       q .left,
       q .right,
       q .room,

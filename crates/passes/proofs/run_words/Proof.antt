@@ -31,8 +31,7 @@ run-word-requires c κs =
     let st = c .before .before .before .before .before .before .before .before .before .before .before .before .before in
     let a = st .args in
     let p = st .pre in
-    let k = c .before .before .before .before .before .loop in
-    (
+    let k = c .before .before .before .before .before .loop in (
       p .0,
       p .1,
       p .2,
