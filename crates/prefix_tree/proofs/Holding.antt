@@ -23,7 +23,7 @@ use Rattle.tables.proofs.Numbering.{getD-index}
 use Rattle.side.specs.Steps.{Children, Step}
 use Rattle.side.proofs.Inserting as I
 use Rattle.passes.specs.Passes.{rowsAt}
-use Rattle.prefix_tree.specs.Tree.{nodeSize, stateOf, childOf, Tree, Added}
+use Rattle.prefix_tree.specs.Tree.{Room, stateOf, childOf, Tree, Added}
 use Rattle.prefix_tree.specs.Sharing.{Holds, entryOf, Descended}
 use Rattle.prefix_tree.specs.declared.SharedStep.{SharedStep}
 use Rattle.prefix_tree.proofs.Seeking.{child-lt, added-tree, added-child}
@@ -79,7 +79,7 @@ module _ (tab : Table) (ws : List Str) (p : Str) (t : List ℕ) where
 -- ---- a step down
 
 module _ (words : List ℕ) (rows count : ℕ) (t : List ℕ) (a : SharedStep) (c : ℕ) (r : SharedStep) (t′ : List ℕ) (tr : Tree t (a .nodes) count) (below : a .node < a .nodes)
-    (room : nodeSize * a .nodes + nodeSize ≤ length t) (d : Descended words rows count t a c r t′) where
+    (room : Room t (a .nodes + 1)) (d : Descended words rows count t a c r t′) where
   -- what it leaves, whatever the nodes stand for
   pub record Moved : Type 0 where
     pub sized : length t′ ≡ length t

@@ -14,7 +14,7 @@ use Rattle.rules.proofs.Cases.{byBool}
 use Rattle.tables.specs.Words.{rowSize}
 use Rattle.tables.proofs.Truth.{true-eq}
 use Rattle.side.specs.Steps.{NewChild}
-use Rattle.prefix_tree.specs.Tree.{nodeSize, firstOf, nextOf, symbolOf, stateOf, seek, childOf, Falling, Tree, Added}
+use Rattle.prefix_tree.specs.Tree.{nodeSize, Room, firstOf, nextOf, symbolOf, stateOf, seek, childOf, Falling, Tree, Added}
 
 pub seek-zero : (k : ℕ) (t : List ℕ) (c : ℕ) → seek k t 0 c ≡ 0
 unfolding seek
@@ -129,12 +129,12 @@ child-lt t n count tr q c h =
     let g = tr .heads q h in
     let b = seek-le (length t) t (firstOf t q) c (λ k p l. tr .falling k p (omega arith)) in omega arith
 
-module _ (t : List ℕ) (q n c state count : ℕ) (t′ : List ℕ) (l : q < n) (tr : Tree t n count) (room : nodeSize * n + nodeSize ≤ length t) (a : Added t q n c state t′) where
+module _ (t : List ℕ) (q n c state count : ℕ) (t′ : List ℕ) (l : q < n) (tr : Tree t n count) (room : Room t (n + 1)) (a : Added t q n c state t′) where
   pub added-tree : state < count → Tree t′ (n + 1) count
   added-tree b =
       record {
         some = omega arith;
-        room = omega (arith, a .sized);
+        room = omega (arith, a .sized, room .words);
         heads = λ k h. head k h (decLe (suc k) n);
         falling = λ s p h. fall s p h (decLe (suc s) n);
         small = λ k h. low k h (decLe (suc k) n);
@@ -171,7 +171,7 @@ module _ (t : List ℕ) (q n c state count : ℕ) (t′ : List ℕ) (l : q < n) 
       seek-agree (length t) t t′ (firstOf t k) e (falls k h) (λ j m. a .nexts j (omega arith)) (λ j m. a .symbols j (omega arith))
 
   one-less′ : suc (length t - 1) ≡ length t
-  one-less′ = omega arith
+  one-less′ = omega (arith, room .words)
 
   -- from q, past the new node
   beside : (e : ℕ) → (e ≡ c → ⊥) → childOf t′ q e ≡ childOf t q e

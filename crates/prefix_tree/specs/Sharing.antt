@@ -1,4 +1,4 @@
--- What the shared left pass of a word gives: the tree of the prefixes of the words before it becomes that of one word more.
+-- What the shared left pass of a word gives: the tree of the prefixes of the words before it becomes the tree of one word more.
 -- Assumes nothing.
 use mathlib.Core.Path.{_≡_}
 use Prim.Native.Nat.{ℕ, _+_, _-_, _*_, _≤_, _<_}
@@ -22,7 +22,7 @@ pub record Holds (tab : Table) (ws : List Str) (t : List ℕ) (n : ℕ) : Type 0
   pub children : Children (states ws) (childOf t)
   pub held : (q : ℕ) → q < n → stateOf t q ≡ pass tab (from 0) (getD (states ws) q []) .state
 
--- the entry of the state of node q under c
+-- the entry of node q's state under c
 abbrev pub entryOf : List ℕ → ℕ → List ℕ → ℕ → ℕ → ℕ
 entryOf words rows t q c = getD words (rows + (rowSize * stateOf t q + c)) 0
 
@@ -40,9 +40,9 @@ leftString f = take (length f - 1) f
 
 -- for the strings ws that the tree holds
 pub record Shares (tab : Table) (ws : List Str) (f : List ℕ) (t′ left′ : List ℕ) (r : SharedStep) : Type 0 where
-  pub usable : r .usable ≡ allBelow (λ i. ltb (leftOn tab f i .state) (tab .count)) (length f - 1)
+  pub usable : r .usable ≡ allBelow (λ i. ltb (leftOn tab 0 f i .state) (tab .count)) (length f - 1)
   pub holds : r .usable ≡ true → Holds tab (ws ++ (leftString f ∷ [])) t′ (r .nodes)
-  pub all : r .usable ≡ true → (k : ℕ) → 1 ≤ k → k ≤ length f - 1 → getD left′ k 0 ≡ leftOn tab f k .state
+  pub all : r .usable ≡ true → (k : ℕ) → 1 ≤ k → k ≤ length f - 1 → getD left′ k 0 ≡ leftOn tab 0 f k .state
 
 -- for any strings that the tree holds
 abbrev pub SharesAll : Table → List ℕ → List ℕ → ℕ → List ℕ → List ℕ → SharedStep → Type 0

@@ -7,13 +7,14 @@ ghost use lib.ListN.{length, getD};
 ghost use Rattle.speech.specs.Places.{frameSize};
 ghost use Rattle.tables.specs.Words.{rowSize};
 ghost use Rattle.passes.specs.Passes.{maxSteps, Symbols, rowsAt};
-ghost use Rattle.prefix_tree.specs.Tree.{nodeSize, firstOf, stateOf, seek, Falling, Tree, Added};
-ghost use Rattle.prefix_tree.specs.Sharing.{Holds, Descended, SharedPass};
+ghost use Rattle.prefix_tree.specs.Tree.{nodeSize, Room, seek, Falling, Tree, Added};
+ghost use Rattle.prefix_tree.specs.Sharing.{Descended, SharedPass};
 
-// Words of a node: its latest child, the child of its parent before it, the symbol that leads to it, its left state.
+// Words of a node: its latest child, the sibling before it, the symbol that leads to it, its left state.
 pub const NODE: usize = 4;
 
-// Where a word stands: whether no state was out of range, its node, how many nodes there are, and how many entries have been looked up.
+// Where the left pass of a word stands: whether no state was out of range, its node, how many nodes there are, and how many entries have been looked
+// up.
 pub struct SharedStep {
     pub usable: bool,
     pub node: usize,
@@ -39,7 +40,7 @@ fn find(tree: &[u16], s: usize, c: u16) -> usize
 
 // Node `n` becomes the latest child of `q`, under the symbol `c`.
 fn attach(tree: &mut [u16], q: usize, n: usize, c: u16, state: u16)
-    requires { ⌜ (q < n) × (n < 65536) × (nodeSize * n + nodeSize ≤ length (now tree)) ⌝ }
+    requires { ⌜ (q < n) × Room (now tree) (n + 1) ⌝ }
     ensures { λ _. ⌜ Added (now (tree .entry)) q n c state (now (tree .exit)) ⌝ }
 {
     let to = NODE * n;
@@ -54,7 +55,7 @@ fn attach(tree: &mut [u16], q: usize, n: usize, c: u16, state: u16)
 
 // From a node to its child under `c`, which is made where it is not there.
 fn descend(words: &[u16], rows: usize, count: usize, tree: &mut [u16], p: SharedStep, c: u8) -> SharedStep
-    requires { ⌜ (rows + rowSize * count ≤ length (now words)) × (c < rowSize) × Tree (now tree) (p .nodes) count × (p .node < p .nodes) × (p .nodes < 65536) × (nodeSize * p .nodes + nodeSize ≤ length (now tree)) × (p .steps < maxSteps) ⌝ }
+    requires { ⌜ (rows + rowSize * count ≤ length (now words)) × (c < rowSize) × Tree (now tree) (p .nodes) count × (p .node < p .nodes) × Room (now tree) (p .nodes + 1) × (p .steps < maxSteps) ⌝ }
     ensures { λ r. ⌜ Descended (now (words .entry)) rows count (now (tree .entry)) p c r (now (tree .exit)) ⌝ }
 {
     let q = p.node;
@@ -109,7 +110,7 @@ pub fn shared_pass(
     steps: usize,
     left: &mut [u16],
 ) -> SharedStep
-    requires { ⌜ (rows + rowSize * count ≤ length (now words)) × (2 ≤ length (now frame)) × (length (now frame) ≤ frameSize) × Symbols (now frame) × (length (now frame) ≤ length (now left)) × Tree (now tree) nodes count × (nodes + length (now frame) ≤ 65536) × (nodeSize * (nodes + length (now frame)) ≤ length (now tree)) × (steps + frameSize ≤ maxSteps) ⌝ }
+    requires { ⌜ (rows + rowSize * count ≤ length (now words)) × (2 ≤ length (now frame)) × (length (now frame) ≤ frameSize) × Symbols (now frame) × (length (now frame) ≤ length (now left)) × Tree (now tree) nodes count × Room (now tree) (nodes + (length (now frame) - 1)) × (steps + frameSize ≤ maxSteps) ⌝ }
     ensures { λ r. ⌜ SharedPass (rowsAt (now (words .entry)) rows count) (now (frame .entry)) (now (tree .entry)) nodes steps (now (left .entry)) (now (tree .exit)) (now (left .exit)) r ⌝ }
 {
     let mut p = SharedStep {

@@ -74,7 +74,7 @@ look-up-requires : tie.Need-look-up-requires
 look-up-requires c κs =
     let st = c .before .before .before .before .before .before .before .before in
     let g = st .pre .2 .small (st .args .p .node) (st .pre .3) in
-    (omega (arith, st .pre .0, st .pre .1), st .pre .6)
+    (omega (arith, st .pre .0, st .pre .1), st .pre .5)
 
 -- src/lib.rt:82:17
 wide16-requires-2 : tie.Need-wide16-requires-2

@@ -14,7 +14,7 @@ use Rattle.prefix_tree.proofs.shared_pass.Lts as lts
 use Rattle.prefix_tree.proofs.descend.Reads as descend-reads
 
 abbrev Inv-loop : tie.InvT-loop
-Inv-loop words rows count frame tree₀ nodes steps left₀ p₀ end i₀ tree left p i = G.Going (rowsAt words rows count) frame tree₀ nodes steps left₀ tree left p i
+Inv-loop words rows count frame tree₀ nodes steps left₀ p₀ end i₀ tree left p i = G.Going words rows count frame tree₀ nodes steps left₀ tree left p i
 
 abbrev μ-loop : tie.MeasureT-loop
 μ-loop words rows count frame tree₀ nodes steps left₀ p₀ end i₀ tree left p i = end - i
@@ -27,7 +27,7 @@ sub-end c = search needs
 loop-holds : tie.Need-loop-holds Inv-loop μ-loop
 loop-holds c =
     let st = c .before .before .before .before in
-    G.go-begin _ _ _ _ _ _ (st .pre .5)
+    G.go-begin _ _ _ _ _ _ _ _ (st .pre .5)
 
 -- src/lib.rt:123:56
 shared-slice-read-descend : tie.Need-shared-slice-read-descend Inv-loop μ-loop
@@ -37,24 +37,20 @@ shared-slice-read-descend c = omega arith
 descend-requires : tie.Need-descend-requires Inv-loop μ-loop
 descend-requires c κs =
     let st = c .before .before .before .before .before .before .before .before in
-    let a = st .args in
     let k = c .before .before .before .loop in
-    let m = G.may-descend (a .words .now) (a .rows) (a .count) (a .frame .now) (a .tree .now) (a .nodes) (a .steps) (a .left .now) (k .tree) (k .left) (k .p) (k .i) (k .inv) (omega arith) (st .pre .7) (st .pre .6) (st .pre .8) (st .pre .2) (st .pre .3) in
-    (st .pre .0, m .0, m .1, m .2, m .3, m .4, m .5)
+    let m = G.may-descend (k .inv) (omega arith) (st .pre .2) (st .pre .3) (st .pre .6) (st .pre .7) in
+    (st .pre .0, m .0, m .1, m .2, m .3, m .4)
 
 -- src/lib.rt:125:13
 same-length : tie.Need-same-length Inv-loop μ-loop
 same-length c =
     let st = c .before .before .before .before .before .before .before .before .before .before .before .before .before in
-    let a = st .args in
     let k = c .before .before .before .before .before .before .before .before .loop in
-    G.go-bad (a .words .now) (a .rows) (a .count) (a .frame .now) (a .tree .now) (a .nodes) (a .steps) (a .left .now) (k .tree) (k .left) (k .p) (k .i) (k .inv) (omega arith) (st .pre .7) (st .pre .6) (st .pre .8) (st .pre .2) (st .pre .3) (c .before .before .before .before .descend .result) _ (c .before .before .before .before .descend .ensures) (not-true _ (c .if1 .taken)) .sized
+    G.go-bad (k .inv) (omega arith) (st .pre .2) (st .pre .3) (st .pre .6) (st .pre .7) (c .before .before .before .before .descend .ensures) (not-true _ (c .if1 .taken)) .sized
 
 -- src/lib.rt:125:13
 same-length-2 : tie.Need-same-length-2 Inv-loop μ-loop
 same-length-2 c =
-    let st = c .before .before .before .before .before .before .before .before .before .before .before .before .before in
-    let a = st .args in
     let k = c .before .before .before .before .before .before .before .before .loop in
     k .inv .left-sized
 
@@ -62,9 +58,8 @@ same-length-2 c =
 returns : tie.Need-returns Inv-loop μ-loop
 returns c =
     let st = c .before .before .before .before .before .before .before .before .before .before .before .before .before in
-    let a = st .args in
     let k = c .before .before .before .before .before .before .before .before .loop in
-    G.go-bad (a .words .now) (a .rows) (a .count) (a .frame .now) (a .tree .now) (a .nodes) (a .steps) (a .left .now) (k .tree) (k .left) (k .p) (k .i) (k .inv) (omega arith) (st .pre .7) (st .pre .6) (st .pre .8) (st .pre .2) (st .pre .3) (c .before .before .before .before .descend .result) _ (c .before .before .before .before .descend .ensures) (not-true _ (c .if1 .taken))
+    G.go-bad (k .inv) (omega arith) (st .pre .2) (st .pre .3) (st .pre .6) (st .pre .7) (c .before .before .before .before .descend .ensures) (not-true _ (c .if1 .taken))
 
 -- src/lib.rt:127:9
 add-i : tie.Need-add-i Inv-loop μ-loop
@@ -74,50 +69,43 @@ add-i c = omega arith
 mul-at : tie.Need-mul-at Inv-loop μ-loop
 mul-at c =
     let st = c .before .before .before .before .before .before .before .before .before .before .before .before .before .before in
-    let a = st .args in
     let k = c .before .before .before .before .before .before .before .before .before .loop in
-    let m = G.node-in (a .words .now) (a .rows) (a .count) (a .frame .now) (a .tree .now) (a .nodes) (a .steps) (a .left .now) (k .tree) (k .left) (k .p) (k .i) (k .inv) (omega arith) (st .pre .7) (st .pre .6) (st .pre .8) (st .pre .2) (st .pre .3) (c .before .before .before .before .before .descend .result) _ (c .before .before .before .before .before .descend .ensures) (not-false _ (c .before .if1 .left)) in
+    let m = G.node-in (k .inv) (omega arith) (st .pre .2) (st .pre .3) (st .pre .6) (st .pre .7) (c .before .before .before .before .before .descend .ensures) (not-false _ (c .before .if1 .left)) in
     omega (arith, m .0, m .2)
 
 -- src/lib.rt:128:18
 add-at : tie.Need-add-at Inv-loop μ-loop
 add-at c =
     let st = c .before .before .before .before .before .before .before .before .before .before .before .before .before .before in
-    let a = st .args in
     let k = c .before .before .before .before .before .before .before .before .before .loop in
-    let m = G.node-in (a .words .now) (a .rows) (a .count) (a .frame .now) (a .tree .now) (a .nodes) (a .steps) (a .left .now) (k .tree) (k .left) (k .p) (k .i) (k .inv) (omega arith) (st .pre .7) (st .pre .6) (st .pre .8) (st .pre .2) (st .pre .3) (c .before .before .before .before .before .descend .result) _ (c .before .before .before .before .before .descend .ensures) (not-false _ (c .before .if1 .left)) in
+    let m = G.node-in (k .inv) (omega arith) (st .pre .2) (st .pre .3) (st .pre .6) (st .pre .7) (c .before .before .before .before .before .descend .ensures) (not-false _ (c .before .if1 .left)) in
     omega (arith, m .0, m .2)
 
 -- src/lib.rt:129:19
 mul-left : tie.Need-mul-left Inv-loop μ-loop
 mul-left c =
     let st = c .before .before .before .before .before .before .before .before .before .before .before .before .before .before in
-    let a = st .args in
     let k = c .before .before .before .before .before .before .before .before .before .loop in
-    let m = G.node-in (a .words .now) (a .rows) (a .count) (a .frame .now) (a .tree .now) (a .nodes) (a .steps) (a .left .now) (k .tree) (k .left) (k .p) (k .i) (k .inv) (omega arith) (st .pre .7) (st .pre .6) (st .pre .8) (st .pre .2) (st .pre .3) (c .before .before .before .before .before .descend .result) _ (c .before .before .before .before .before .descend .ensures) (not-false _ (c .before .if1 .left)) in
+    let m = G.node-in (k .inv) (omega arith) (st .pre .2) (st .pre .3) (st .pre .6) (st .pre .7) (c .before .before .before .before .before .descend .ensures) (not-false _ (c .before .if1 .left)) in
     omega (arith, m .0, m .2)
 
 -- src/lib.rt:129:19
 slice-read-left : tie.Need-slice-read-left Inv-loop μ-loop
 slice-read-left c =
     let st = c .before .before .before .before .before .before .before .before .before .before .before .before .before .before .before in
-    let a = st .args in
     let k = c .before .before .before .before .before .before .before .before .before .before .loop in
-    G.node-in (a .words .now) (a .rows) (a .count) (a .frame .now) (a .tree .now) (a .nodes) (a .steps) (a .left .now) (k .tree) (k .left) (k .p) (k .i) (k .inv) (omega arith) (st .pre .7) (st .pre .6) (st .pre .8) (st .pre .2) (st .pre .3) (c .before .before .before .before .before .before .descend .result) _ (c .before .before .before .before .before .before .descend .ensures) (not-false _ (c .before .before .if1 .left)) .0
+    G.node-in (k .inv) (omega arith) (st .pre .2) (st .pre .3) (st .pre .6) (st .pre .7) (c .before .before .before .before .before .before .descend .ensures) (not-false _ (c .before .before .if1 .left)) .0
 
 -- src/lib.rt:129:9
 mul-left-2 : tie.Need-mul-left-2 Inv-loop μ-loop
 mul-left-2 c =
     let st = c .before .before .before .before .before .before .before .before .before .before .before .before .before .before .before in
-    let a = st .args in
-    let k = c .before .before .before .before .before .before .before .before .before .before .loop in
     omega (arith, st .pre .2)
 
 -- src/lib.rt:129:9
 slice-write-left : tie.Need-slice-write-left Inv-loop μ-loop
 slice-write-left c =
     let st = c .before .before .before .before .before .before .before .before .before .before .before .before .before .before .before in
-    let a = st .args in
     let k = c .before .before .before .before .before .before .before .before .before .before .loop in
     omega (arith, k .inv .left-sized, st .pre .4)
 
@@ -129,9 +117,8 @@ loop-less c = omega arith
 loop-again : tie.Need-loop-again Inv-loop μ-loop
 loop-again c =
     let st = c .before .before .before .before .before .before .before .before .before .before .before .before .before .before .before in
-    let a = st .args in
     let k = c .before .before .before .before .before .before .before .before .before .before .loop in
-    G.go-next (a .words .now) (a .rows) (a .count) (a .frame .now) (a .tree .now) (a .nodes) (a .steps) (a .left .now) (k .tree) (k .left) (k .p) (k .i) (k .inv) (omega arith) (st .pre .7) (st .pre .6) (st .pre .8) (st .pre .2) (st .pre .3) (c .before .before .before .before .before .before .descend .result) _ (c .before .before .before .before .before .before .descend .ensures) (not-false _ (c .before .before .if1 .left)) (st .pre .4) _ refl
+    G.go-next (k .inv) (omega arith) (st .pre .2) (st .pre .3) (st .pre .6) (st .pre .7) (c .before .before .before .before .before .before .descend .ensures) (not-false _ (c .before .before .if1 .left)) (st .pre .4) refl
 
 -- src/lib.rt:101:1
 same-length-3 : tie.Need-same-length-3 Inv-loop μ-loop
@@ -145,9 +132,8 @@ same-length-4 c = c .before .loop .inv .left-sized
 returns-2 : tie.Need-returns-2 Inv-loop μ-loop
 returns-2 c =
     let st = c .before .before .before .before .before .before in
-    let a = st .args in
     let k = c .before .loop in
-    G.go-end (a .words .now) (a .rows) (a .count) (a .frame .now) (a .tree .now) (a .nodes) (a .steps) (a .left .now) (k .tree) (k .left) (k .p) (k .i) (k .inv) (st .pre .1) (omega arith)
+    G.go-end (k .inv) (st .pre .1) (omega arith)
 
 pub shared-pass-spec : {M : Type 1} → statement M
 shared-pass-spec =
