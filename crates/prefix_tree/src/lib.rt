@@ -54,7 +54,14 @@ fn attach(tree: &mut [u16], q: usize, n: usize, c: u16, state: u16)
 }
 
 // From a node to its child under `c`, which is made where it is not there.
-fn descend(words: &[u16], rows: usize, count: usize, tree: &mut [u16], p: SharedStep, c: u8) -> SharedStep
+fn descend(
+    words: &[u16],
+    rows: usize,
+    count: usize,
+    tree: &mut [u16],
+    p: SharedStep,
+    c: u8,
+) -> SharedStep
     requires { ⌜ (rows + rowSize * count ≤ length (now words)) × (c < rowSize) × Tree (now tree) (p .nodes) count × (p .node < p .nodes) × Room (now tree) (p .nodes + 1) × (p .steps < maxSteps) ⌝ }
     ensures { λ r. ⌜ Descended (now (words .entry)) rows count (now (tree .entry)) p c r (now (tree .exit)) ⌝ }
 {
