@@ -12,13 +12,14 @@ use Rattle.fitting.specs.Fitting.{Str, frame}
 use Rattle.fitting.proofs.Strings.{frame-long}
 use Rattle.speech.specs.Words.{Word, word, unless, unlisted}
 use Rattle.speech.specs.Places.{frameSize, FoundFor}
+use Rattle.tables.specs.Steps.{hashed, rightSteps}
 use Rattle.tables.proofs.Truth.{clash}
 use Rattle.passes.specs.Passes.{leftRowsOf, Memory, memory, Sized}
 use Rattle.passes.proofs.WordsPassed as P
 use Rattle.prefix_tree.specs.Tree.{Tree}
 use Rattle.prefix_tree.specs.Sharing.{Holds, leftString}
 use Rattle.prefix_tree.specs.declared.SharedStep.{SharedStep}
-use Rattle.sheet_passes.specs.Passing.{hashed, rightSteps, passOf, HoldsSome, FramePassed, WordShared}
+use Rattle.sheet_passes.specs.Passing.{passOf, countOver, HoldsSome, FramePassed, WordShared}
 
 -- a word that is listed is not among those that pass, any other is
 pub unlisted-out : (m : Str → Str) (v : Word) (vs : List Word) → 1 ≤ length (m (v .letters)) → unlisted m (v ∷ vs) ≡ unlisted m vs
@@ -37,8 +38,8 @@ left-string w =
     let e : length (frame w) - 1 ≡ suc (length w) = omega (arith, frame-long w) in
     ap (λ (k : ℕ). take k (frame w)) e ∙ ap (λ (v : Str). 0 ∷ v) (take-append-seam w (0 ∷ []))
 
-module _ (words : List ℕ) (l r : ℕ) (fit : Bool) (list : List ℕ) (w : Str) (b : ℕ) (found left right : List ℕ) (part : ℕ) (found-for : FoundFor list w part)
-    (sized : Sized (memory found left right)) (inside : b < frameSize) (t : List ℕ) (n steps : ℕ) (g : HoldsSome fit (leftRowsOf words l) t n) where
+module _ (words : List ℕ) (l r : ℕ) (fit : Bool) (list : List ℕ) (w : Str) (b : ℕ) (found left right : List ℕ) {part : ℕ} (found-for : FoundFor list w part)
+    (sized : Sized (memory found left right)) (inside : b < frameSize) (t : List ℕ) (n steps : ℕ) where
   abbrev found′ : List ℕ
   found′ = set found b part
 
@@ -48,8 +49,8 @@ module _ (words : List ℕ) (l r : ℕ) (fit : Bool) (list : List ℕ) (w : Str)
   abbrev these : List Word
   these = unlisted (saysOf list) (word b w ∷ [])
 
-  pub shared-listed : 0 < part → WordShared words l r fit list w b (memory found left right) same t n steps t (record { usable = true; node = 0; nodes = n; steps = steps })
-  shared-listed h =
+  pub shared-listed : HoldsSome fit (leftRowsOf words l) t n → 0 < part → WordShared words l r fit list w b (memory found left right) same t n steps t (record { usable = true; node = 0; nodes = n; steps = steps })
+  shared-listed g h =
       let e : these ≡ [] = unlisted-out (saysOf list) (word b w) [] (found-for .some h) in
       record {
         sized = refl;
@@ -58,8 +59,8 @@ module _ (words : List ℕ) (l r : ℕ) (fit : Bool) (list : List ℕ) (w : Str)
         few = λ _. omega arith;
         more = λ _. omega arith;
         shares = λ ws o. record {
-          taken = 0;
-          passed = P.word-listed words l r fit list w b found left right part found-for sized inside h;
+          taken = λ k. k;
+          passed = λ k. P.word-listed words l r fit list w b k found left right part found-for sized inside h;
           holds = λ _. subst (λ (x : List Str). Holds (leftRowsOf words l) x t n) (sym (ap (λ (v : List Word). ws ++ hashed v) e ∙ append-nil ws)) o;
         };
       }
@@ -74,16 +75,16 @@ module _ (words : List ℕ) (l r : ℕ) (fit : Bool) (list : List ℕ) (w : Str)
           few = λ y. clash y refl;
           more = λ y. clash y refl;
           shares = λ ws o. record {
-            taken = 0;
-            passed = P.word-unfit words l r fit list w b found left right part found-for sized inside none e;
+            taken = λ _. 0;
+            passed = λ k. P.word-unfit words l r fit list w b k found left right part found-for sized inside none e;
             holds = λ y. clash y refl;
           };
         }
 
-    pub shared-passes : fit ≡ true → (f : Str) → f ≡ frame w → (left₁ right₁ left₂ right₂ left′ right′ : List ℕ) → left′ ≡ take b left ++ left₂ → right′ ≡ take b right ++ right₂
-        → length left′ ≡ length left → length right′ ≡ length right → (t′ : List ℕ) (p : SharedStep) → FramePassed words l r f t n steps left₁ right₁ t′ left₂ right₂ p
+    pub shared-passes : fit ≡ true → {f : Str} → f ≡ frame w → {left₁ right₁ left₂ right₂ left′ right′ : List ℕ} → left′ ≡ take b left ++ left₂ → right′ ≡ take b right ++ right₂
+        → length left′ ≡ length left → length right′ ≡ length right → {t′ : List ℕ} {p : SharedStep} → FramePassed words l r f t n steps left₁ right₁ t′ left₂ right₂ p
         → WordShared words l r fit list w b (memory found left right) (memory found′ left′ right′) t n steps t′ p
-    shared-passes e f is left₁ right₁ left₂ right₂ left′ right′ x y a c t′ p q =
+    shared-passes e {f} is {left₁} {right₁} {left₂} {right₂} {left′} {right′} x y a c {t′} {p} q =
         let u : these ≡ word b w ∷ [] = unlisted-in (saysOf list) (word b w) [] (found-for .none none) in
         let k : length f ≡ length w + 2 = ap length is ∙ frame-long w in
         record {
@@ -93,8 +94,9 @@ module _ (words : List ℕ) (l r : ℕ) (fit : Bool) (list : List ℕ) (w : Str)
           few = λ v. omega (arith, q .few v);
           more = λ v. q .more v;
           shares = λ ws o. record {
-            taken = _;
-            passed = P.word-passes words l r fit list w b found left right part found-for sized inside none e f is left₂ right₂ left′ right′ x y a c (passOf p _) (q .shares ws o .both);
+            taken = countOver words l r f;
+            passed = λ m. P.word-passes words l r fit list w b m found left right part found-for sized inside none e f is left₂ right₂ left′ right′ x y a c
+                (passOf p (countOver words l r f m)) (q .shares ws o .both m);
             holds = λ v. subst (λ (z : List Str). Holds (leftRowsOf words l) (ws ++ z) t′ (p .nodes))
                 (ap (λ (s : Str). s ∷ []) (ap leftString is ∙ left-string w) ∙ sym (ap hashed u)) (q .shares ws o .holds v);
           };

@@ -1,7 +1,8 @@
--- What the passes of a name's words give where the left pass is shared: the tree of the words before becomes that of its words too.
+-- What the passes of a name's words give where the left pass is shared: the tree of the words before becomes the tree of its words too. The states are
+-- those of a name alone: what `passes` says of them is said here for the counts of a name alone, whatever they are.
 -- Assumes nothing.
 use mathlib.Core.Path.{_≡_}
-use Prim.Native.Nat.{ℕ, _+_, _-_, _≤_}
+use Prim.Native.Nat.{ℕ, suc, _+_, _-_, _≤_}
 use mathlib.Core.Bool.{Bool, true}
 use mathlib.Core.List.{List, [], _∷_, _++_}
 use lib.ListN.{length}
@@ -9,22 +10,12 @@ use Rattle.exceptions.specs.Judging.{saysOf}
 use Rattle.fitting.specs.Fitting.{Str}
 use Rattle.speech.specs.Words.{Word, word, wordsIn, unlisted}
 use Rattle.tables.specs.Tables.{Table}
-use Rattle.tables.specs.Walk.{rightAt}
-use Rattle.passes.specs.Passes.{leftRowsOf, rightRowsOf, Both, Memory, WordPassed, AllPassed}
+use Rattle.tables.specs.Steps.{hashed, rightSteps}
+use Rattle.passes.specs.Passes.{leftOn, rightOn, leftRowsOf, rightRowsOf, Both, Memory, WordPassed, AllPassed}
 use Rattle.passes.specs.declared.Pass.{Pass}
 use Rattle.prefix_tree.specs.Tree.{Tree}
 use Rattle.prefix_tree.specs.Sharing.{Holds, leftString}
 use Rattle.prefix_tree.specs.declared.SharedStep.{SharedStep}
-
--- # followed by each word: the strings whose prefixes the left pass reads
-abbrev pub hashed : List Word → List Str
-hashed [] = []
-hashed (w ∷ ws) = (0 ∷ w .letters) ∷ hashed ws
-
--- |w| + 1 for each word: the steps of the right passes
-abbrev pub rightSteps : List Word → ℕ
-rightSteps [] = 0
-rightSteps (w ∷ ws) = length (w .letters) + 1 + rightSteps ws
 
 -- whether no state was out of range, as the answer of passes with so many steps
 abbrev pub passOf : SharedStep → ℕ → Pass
@@ -38,9 +29,13 @@ pub record HoldsSome (fit : Bool) (tab : Table) (t : List ℕ) (n : ℕ) : Type 
 
 -- ---- a frame
 
+-- the count after both passes over the frame of a name alone, going on from k
+abbrev pub countOver : List ℕ → ℕ → ℕ → List ℕ → ℕ → ℕ
+countOver words l r f k = rightOn (rightRowsOf words l r) (leftOn (leftRowsOf words l) k f (suc (length f - 2)) .steps) f 1 .steps
+
 module _ (words : List ℕ) (l r : ℕ) (f : List ℕ) (left′ right′ : List ℕ) (t′ : List ℕ) (p : SharedStep) where
   pub record FrameShares (ws : List Str) : Type 0 where
-    pub both : Both words l r f (length f - 2) left′ right′ (passOf p (rightAt (leftRowsOf words l) (rightRowsOf words l r) f (length f - 2) 1 .steps))
+    pub both : (k : ℕ) → Both words l r f (length f - 2) k left′ right′ (passOf p (countOver words l r f k))
     pub holds : p .usable ≡ true → Holds (leftRowsOf words l) (ws ++ (leftString f ∷ [])) t′ (p .nodes)
 
   abbrev pub FrameSharesAll : List ℕ → ℕ → Type 0
@@ -61,8 +56,8 @@ pub record FramePassed (words : List ℕ) (l r : ℕ) (f : List ℕ) (t : List �
 
 module _ (words : List ℕ) (l r : ℕ) (fit : Bool) (list : List ℕ) (w : Str) (b : ℕ) (m m′ : Memory) (t′ : List ℕ) (p : SharedStep) where
   pub record WordShares (ws : List Str) : Type 0 where
-    pub taken : ℕ
-    pub passed : WordPassed words l r fit list w b m m′ (passOf p taken)
+    pub taken : ℕ → ℕ
+    pub passed : (k : ℕ) → WordPassed words l r fit list w b k m m′ (passOf p (taken k))
     pub holds : p .usable ≡ true → Holds (leftRowsOf words l) (ws ++ hashed (unlisted (saysOf list) (word b w ∷ []))) t′ (p .nodes)
 
   abbrev pub WordSharesAll : List ℕ → ℕ → Type 0

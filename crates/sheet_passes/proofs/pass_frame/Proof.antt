@@ -28,7 +28,7 @@ returns : tie.Need-returns
 returns c =
     let st = c .before .before .before .before .before .before .before .before .before .before .before .before .before .before in
     let a = st .args in
-    F.frame-bad (a .words .now) (a .left-states) (a .right-states) (a .frame .now) (st .pre .2) (st .pre .3) (a .tree .now) (a .nodes) (a .steps) (a .left .now) (a .right .now) _ _ (c .before .before .before .before .before .before .shared-pass .result) (c .before .before .before .before .before .before .shared-pass .ensures) (not-true _ (c .if1 .taken))
+    F.frame-bad (a .words .now) (a .left-states) (a .right-states) (a .frame .now) (st .pre .2) (c .before .before .before .before .before .before .shared-pass .ensures) (not-true _ (c .if1 .taken))
 
 -- src/lib.rt:44:24
 mul-right-pass : tie.Need-mul-right-pass
@@ -44,7 +44,7 @@ right-pass-requires c κs =
     let st = c .before .before .before .before .before .before .before .before .before .before .before .before .before .before .before in
     let o = c .before .before .before .before .before .before .before .shared-pass .ensures in
     let e = not-false _ (c .before .if1 .left) in
-    (omega (arith, st .pre .1), st .pre .0, st .pre .2, st .pre .3, omega (arith, o .steps-are e, o .few e, st .pre .3, st .pre .10), st .pre .4, st .pre .6)
+    (omega (arith, st .pre .1), st .pre .0, st .pre .2, st .pre .3, omega (arith, o .steps-are e, o .few e, st .pre .3, st .pre .9), st .pre .4, st .pre .6)
 
 -- src/lib.rt:15:1
 same-length-3 : tie.Need-same-length-3
@@ -63,7 +63,7 @@ returns-2 : tie.Need-returns-2
 returns-2 c =
     let st = c .before .before .before .before .before .before .before .before .before .before .before .before .before .before .before .before .before .before in
     let a = st .args in
-    F.frame-good (a .words .now) (a .left-states) (a .right-states) (a .frame .now) (st .pre .2) (st .pre .3) (a .tree .now) (a .nodes) (a .steps) (a .left .now) (a .right .now) _ _ (c .before .before .before .before .before .before .before .before .before .before .shared-pass .result) (c .before .before .before .before .before .before .before .before .before .before .shared-pass .ensures) (not-false _ (c .before .before .before .before .if1 .left)) _ (search needs) (c .before .before .right-pass .result) (c .before .before .right-pass .ensures)
+    F.frame-good (a .words .now) (a .left-states) (a .right-states) (a .frame .now) (st .pre .2) (c .before .before .before .before .before .before .before .before .before .before .shared-pass .ensures) (not-false _ (c .before .before .before .before .if1 .left)) (c .before .before .right-pass .ensures) (search needs)
 
 pub pass-frame-spec : {M : Type 1} → statement M
 pass-frame-spec =
