@@ -22,11 +22,11 @@ use Rattle.passes.specs.declared.Pass.{Pass}
 
 -- ---- a test at every position from 1 to n
 
-all-below : (f : ℕ → Bool) (n : ℕ) → ((k : ℕ) → 1 ≤ k → k ≤ n → f k ≡ true) → allBelow f n ≡ true
+pub all-below : (f : ℕ → Bool) (n : ℕ) → ((k : ℕ) → 1 ≤ k → k ≤ n → f k ≡ true) → allBelow f n ≡ true
 all-below f zero h = refl
 all-below f (suc n) h = ap₂ _&&_ (h (suc n) (omega arith) (omega arith)) (all-below f n (λ k a b. h k a (omega arith)))
 
-not-below : (f : ℕ → Bool) (k n : ℕ) → 1 ≤ k → k ≤ n → f k ≡ false → allBelow f n ≡ false
+pub not-below : (f : ℕ → Bool) (k n : ℕ) → 1 ≤ k → k ≤ n → f k ≡ false → allBelow f n ≡ false
 not-below f k zero a b e = absurd (omega arith)
 not-below f k (suc n) a b e = go (decLe k n) (λ y. not-below f k n a y e)
   where

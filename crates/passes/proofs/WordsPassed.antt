@@ -120,14 +120,14 @@ part-symbols name f is b e v sound k h =
 -- ---- the loop over the words
 
 -- a word that is listed is not among those that pass, any other is the first of them
-unlisted-out : (m : Str → Str) (v : Word) (vs : List Word) → 1 ≤ length (m (v .letters)) → unlisted m (v ∷ vs) ≡ unlisted m vs
+pub unlisted-out : (m : Str → Str) (v : Word) (vs : List Word) → 1 ≤ length (m (v .letters)) → unlisted m (v ∷ vs) ≡ unlisted m vs
 unlisted-out m v vs h = by (m (v .letters)) h
   where
     by : (p : Str) → 1 ≤ length p → unless p (v ∷ unlisted m vs) (unlisted m vs) ≡ unlisted m vs
     by [] u = absurd (omega arith)
     by (x ∷ p) u = refl
 
-unlisted-in : (m : Str → Str) (v : Word) (vs : List Word) → m (v .letters) ≡ [] → unlisted m (v ∷ vs) ≡ v ∷ unlisted m vs
+pub unlisted-in : (m : Str → Str) (v : Word) (vs : List Word) → m (v .letters) ≡ [] → unlisted m (v ∷ vs) ≡ v ∷ unlisted m vs
 unlisted-in m v vs e = ap (λ (p : Str). unless p (v ∷ unlisted m vs) (unlisted m vs)) e
 
 -- what is known of a word stays known where nothing before its end is written
