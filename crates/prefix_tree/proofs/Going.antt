@@ -1,11 +1,11 @@
 -- The loop of the shared left pass: its invariant, what one turn does to it, and what it comes to at the end.
 -- Assumes nothing.
 use mathlib.Core.Path.{_≡_, refl, sym, ap, _∙_, subst}
-use Prim.Native.Nat.{ℕ, zero, suc, _+_, _-_, _*_, _≤_, _<_}
+use Prim.Native.Nat.{ℕ, _+_, _-_, _*_, _≤_, _<_}
 use native.Mathlib.Omega.{arith}
 use native.Mathlib.Decide.{decLe}
-use mathlib.Core.Bool.{Bool, true, false, _&&_, and-false}
-use mathlib.Core.List.{List, [], _∷_, _++_}
+use mathlib.Core.Bool.{true, false}
+use mathlib.Core.List.{List}
 use lib.Dec.{ltb}
 use lib.ListN.{length, getD, take, set, length-set}
 use lib.Seq.{getD-set-same, getD-set-other, getD-take, take-take, length-take-le}
@@ -14,31 +14,14 @@ use Rattle.fitting.specs.Fitting.{Str}
 use Rattle.speech.specs.Places.{frameSize}
 use Rattle.tables.specs.Tables.{Table}
 use Rattle.tables.specs.Words.{rowSize}
-use Rattle.tables.specs.Walk.{pass, from, allBelow}
+use Rattle.tables.specs.Walk.{pass, from}
 use Rattle.tables.proofs.Truth.{clash}
+use Rattle.passes.proofs.Passing.{all-below, not-below}
 use Rattle.passes.specs.Passes.{maxSteps, Symbols, rowsAt, leftOn}
 use Rattle.prefix_tree.specs.Tree.{nodeSize, Room, stateOf, Tree}
-use Rattle.prefix_tree.specs.Sharing.{Holds, entryOf, Descended, leftString, Shares, SharedPass}
+use Rattle.prefix_tree.specs.Sharing.{Holds, entryOf, Descended, leftString, SharedPass}
 use Rattle.prefix_tree.specs.declared.SharedStep.{SharedStep}
 use Rattle.prefix_tree.proofs.Holding as H
-
--- ---- a test at every position from 1 to n
-
-all-below : (f : ℕ → Bool) (n : ℕ) → ((k : ℕ) → 1 ≤ k → k ≤ n → f k ≡ true) → allBelow f n ≡ true
-all-below f zero h = refl
-all-below f (suc n) h = rw (h (suc n) (omega arith) (omega arith)) (all-below f n (λ k a b. h k a (omega arith)))
-
-not-below : (f : ℕ → Bool) (k n : ℕ) → 1 ≤ k → k ≤ n → f k ≡ false → allBelow f n ≡ false
-not-below f k zero a b e = absurd (omega arith)
-not-below f k (suc n) a b e = go (decLe k n) (λ y. not-below f k n a y e)
-  where
-    go : Dec (k ≤ n) → (k ≤ n → allBelow f n ≡ false) → allBelow f (suc n) ≡ false
-    go (yes y) ih = ap (λ (b : Bool). f (suc n) && b) (ih y) ∙ and-false (f (suc n))
-    go (no y) ih =
-        let q : k ≡ suc n = omega arith in
-        ap (λ (b : Bool). b && allBelow f n) (ap f (sym q) ∙ e)
-
--- ---- the loop
 
 -- for the strings ws that the tree held before
 pub record Sharing (tab : Table) (ws : List Str) (f t left : List ℕ) (p : SharedStep) (i : ℕ) : Type 0 where

@@ -1,7 +1,7 @@
 -- The tree while a string is read: its nodes are the prefixes of the strings before and of the symbols read so far, each with its state.
 -- Assumes nothing.
-use mathlib.Core.Path.{_≡_, refl, sym, ap, ap₂, _∙_, subst}
-use Prim.Native.Nat.{ℕ, suc, _+_, _-_, _*_, _≤_, _<_}
+use mathlib.Core.Path.{_≡_, sym, ap, ap₂, _∙_, subst}
+use Prim.Native.Nat.{ℕ, suc, _+_, _*_, _≤_, _<_}
 use native.Mathlib.Omega.{arith}
 use native.Mathlib.Decide.{decLe}
 use native.Mathlib.Numerals.{add-one}
@@ -16,14 +16,14 @@ use Rattle.fitting.specs.Fitting.{Str}
 use Rattle.tables.specs.Tables.{Table}
 use Rattle.tables.specs.Words.{rowSize}
 use Rattle.tables.specs.States.{states, member, numberOne}
-use Rattle.tables.specs.Walk.{Step as State, step, pass, from}
+use Rattle.tables.specs.Walk.{Step as State, pass, from}
 use Rattle.tables.proofs.Walk.{pass-append}
 use Rattle.tables.proofs.Truth.{clash, true-eq}
 use Rattle.tables.proofs.Numbering.{getD-index}
-use Rattle.side.specs.Steps.{Children, Step}
+use Rattle.side.specs.Steps.{Step}
 use Rattle.side.proofs.Inserting as I
 use Rattle.passes.specs.Passes.{rowsAt}
-use Rattle.prefix_tree.specs.Tree.{Room, stateOf, childOf, Tree, Added}
+use Rattle.prefix_tree.specs.Tree.{Room, stateOf, childOf, Tree}
 use Rattle.prefix_tree.specs.Sharing.{Holds, entryOf, Descended}
 use Rattle.prefix_tree.specs.declared.SharedStep.{SharedStep}
 use Rattle.prefix_tree.proofs.Seeking.{child-lt, added-tree, added-child}

@@ -8,10 +8,9 @@ use native.Mathlib.Decide.{decLe}
 use mathlib.Core.Bool.{cond}
 use mathlib.Core.List.{List}
 use lib.Dec.{eqb, eqb→eq}
-use lib.ListN.{length, getD}
+use lib.ListN.{length}
 use borrow.Author.Tests.{eqb-false, eq-eqb, ne-eqb}
 use Rattle.rules.proofs.Cases.{byBool}
-use Rattle.tables.specs.Words.{rowSize}
 use Rattle.tables.proofs.Truth.{true-eq}
 use Rattle.side.specs.Steps.{NewChild}
 use Rattle.prefix_tree.specs.Tree.{nodeSize, Room, firstOf, nextOf, symbolOf, stateOf, seek, childOf, Falling, Tree, Added}

@@ -13,7 +13,7 @@ use Rattle.tables.specs.States.{states}
 use Rattle.tables.specs.Walk.{pass, from, allBelow}
 use Rattle.side.specs.Steps.{Children}
 use Rattle.passes.specs.Passes.{leftOn}
-use Rattle.prefix_tree.specs.Tree.{nodeSize, stateOf, childOf, Tree, Added}
+use Rattle.prefix_tree.specs.Tree.{stateOf, childOf, Tree, Added}
 use Rattle.prefix_tree.specs.declared.SharedStep.{SharedStep}
 
 -- The n nodes are the different prefixes of the strings ws, each with the state that a pass over it ends in.

@@ -3,7 +3,7 @@
 use passes::Step;
 ghost use mathlib.Core.Path.{_≡_};
 ghost use Prim.Native.Nat.{_+_, _-_, _*_, _<_, _≤_};
-ghost use lib.ListN.{length, getD};
+ghost use lib.ListN.{length};
 ghost use Rattle.speech.specs.Places.{frameSize};
 ghost use Rattle.tables.specs.Words.{rowSize};
 ghost use Rattle.passes.specs.Passes.{maxSteps, Symbols, rowsAt};

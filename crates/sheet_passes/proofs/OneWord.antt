@@ -1,36 +1,24 @@
 -- One word: said from the list, refused where the tables do not fit, or sent through both passes.
 -- Assumes nothing.
 use mathlib.Core.Path.{_≡_, refl, sym, ap, _∙_, subst}
-use Prim.Native.Nat.{ℕ, suc, _+_, _-_, _*_, _≤_, _<_}
+use Prim.Native.Nat.{ℕ, suc, _+_, _-_, _<_}
 use native.Mathlib.Omega.{arith}
 use mathlib.Core.Bool.{Bool, true, false}
 use mathlib.Core.List.{List, [], _∷_, _++_, append-nil}
-use lib.ListN.{length, getD, take, set, length-append}
+use lib.ListN.{length, take, set}
 use lib.Seq.{take-append-seam}
 use Rattle.exceptions.specs.Judging.{saysOf}
 use Rattle.fitting.specs.Fitting.{Str, frame}
 use Rattle.fitting.proofs.Strings.{frame-long}
-use Rattle.speech.specs.Words.{Word, word, unless, unlisted}
+use Rattle.speech.specs.Words.{Word, word, unlisted}
 use Rattle.speech.specs.Places.{frameSize, FoundFor}
 use Rattle.tables.specs.Steps.{hashed, rightSteps}
 use Rattle.tables.proofs.Truth.{clash}
 use Rattle.passes.specs.Passes.{leftRowsOf, Memory, memory, Sized}
 use Rattle.passes.proofs.WordsPassed as P
-use Rattle.prefix_tree.specs.Tree.{Tree}
 use Rattle.prefix_tree.specs.Sharing.{Holds, leftString}
 use Rattle.prefix_tree.specs.declared.SharedStep.{SharedStep}
 use Rattle.sheet_passes.specs.Passing.{passOf, countOver, HoldsSome, FramePassed, WordShared}
-
--- a word that is listed is not among those that pass, any other is
-pub unlisted-out : (m : Str → Str) (v : Word) (vs : List Word) → 1 ≤ length (m (v .letters)) → unlisted m (v ∷ vs) ≡ unlisted m vs
-unlisted-out m v vs h = by (m (v .letters)) h
-  where
-    by : (p : Str) → 1 ≤ length p → unless p (v ∷ unlisted m vs) (unlisted m vs) ≡ unlisted m vs
-    by [] u = absurd (omega arith)
-    by (x ∷ p) u = refl
-
-pub unlisted-in : (m : Str → Str) (v : Word) (vs : List Word) → m (v .letters) ≡ [] → unlisted m (v ∷ vs) ≡ v ∷ unlisted m vs
-unlisted-in m v vs e = ap (λ (p : Str). unless p (v ∷ unlisted m vs) (unlisted m vs)) e
 
 -- the left pass over the frame of a word reads # and the word
 left-string : (w : Str) → leftString (frame w) ≡ 0 ∷ w
@@ -51,7 +39,7 @@ module _ (words : List ℕ) (l r : ℕ) (fit : Bool) (list : List ℕ) (w : Str)
 
   pub shared-listed : HoldsSome fit (leftRowsOf words l) t n → 0 < part → WordShared words l r fit list w b (memory found left right) same t n steps t (record { usable = true; node = 0; nodes = n; steps = steps })
   shared-listed g h =
-      let e : these ≡ [] = unlisted-out (saysOf list) (word b w) [] (found-for .some h) in
+      let e : these ≡ [] = P.unlisted-out (saysOf list) (word b w) [] (found-for .some h) in
       record {
         sized = refl;
         tree = λ _. g .tree;
@@ -85,7 +73,7 @@ module _ (words : List ℕ) (l r : ℕ) (fit : Bool) (list : List ℕ) (w : Str)
         → length left′ ≡ length left → length right′ ≡ length right → {t′ : List ℕ} {p : SharedStep} → FramePassed words l r f t n steps left₁ right₁ t′ left₂ right₂ p
         → WordShared words l r fit list w b (memory found left right) (memory found′ left′ right′) t n steps t′ p
     shared-passes e {f} is {left₁} {right₁} {left₂} {right₂} {left′} {right′} x y a c {t′} {p} q =
-        let u : these ≡ word b w ∷ [] = unlisted-in (saysOf list) (word b w) [] (found-for .none none) in
+        let u : these ≡ word b w ∷ [] = P.unlisted-in (saysOf list) (word b w) [] (found-for .none none) in
         let k : length f ≡ length w + 2 = ap length is ∙ frame-long w in
         record {
           sized = q .sized;

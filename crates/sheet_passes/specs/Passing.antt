@@ -8,7 +8,7 @@ use mathlib.Core.List.{List, [], _∷_, _++_}
 use lib.ListN.{length}
 use Rattle.exceptions.specs.Judging.{saysOf}
 use Rattle.fitting.specs.Fitting.{Str}
-use Rattle.speech.specs.Words.{Word, word, wordsIn, unlisted}
+use Rattle.speech.specs.Words.{word, wordsIn, unlisted}
 use Rattle.tables.specs.Tables.{Table}
 use Rattle.tables.specs.Steps.{hashed, rightSteps}
 use Rattle.passes.specs.Passes.{leftOn, rightOn, leftRowsOf, rightRowsOf, Both, Memory, WordPassed, AllPassed}

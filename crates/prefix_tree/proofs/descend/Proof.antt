@@ -1,7 +1,7 @@
 -- A step down the tree: the chain of children is searched, and where it has no child an entry is looked up.
 -- Assumes nothing.
-use mathlib.Core.Path.{_≡_, ap, _∙_}
-use Prim.Native.Nat.{ℕ, _<_, _≤_}
+use mathlib.Core.Path.{ap, _∙_}
+use Prim.Native.Nat.{ℕ}
 use native.Mathlib.Omega.{arith}
 use lib.ListN.{length}
 use Rattle.prefix_tree.specs.Tree.{seek}

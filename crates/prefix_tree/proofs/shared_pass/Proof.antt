@@ -1,11 +1,10 @@
 -- The loop of the shared left pass.
 -- Assumes nothing.
-use mathlib.Core.Path.{_≡_, refl, sym, ap, _∙_}
+use mathlib.Core.Path.{refl}
 use Prim.Native.Nat.{_-_}
 use native.Mathlib.Omega.{arith}
 use borrow.Author.Needs.{needs}
 use borrow.Author.Tests.{not-true, not-false}
-use Rattle.passes.specs.Passes.{rowsAt}
 use Rattle.prefix_tree.proofs.Going as G
 use Rattle.prefix_tree.proofs.shared_pass.Statement.{statement}
 use Rattle.prefix_tree.proofs.shared_pass.Tie as tie
