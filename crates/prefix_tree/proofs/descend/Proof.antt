@@ -51,7 +51,7 @@ returns c =
     let st = c .before .before .before .before .before .before .before in
     let a = st .args in
     let e = c .before .find .ensures ∙ ap (λ (s : ℕ). seek (length (a .tree .now)) (a .tree .now) s (a .c)) (c .before .before .before .wide16 .ensures .0) in
-    S.there (a .words .now) (a .rows) (a .count) (a .tree .now) (a .p) (a .c) _ e (c .if1 .taken)
+    S.there (a .words .now) (a .rows) (a .count) (a .tree .now) (a .p) (a .c) _ e (omega (arith, c .if1 .taken))
 
 -- src/lib.rt:79:22
 mul-state : tie.Need-mul-state
@@ -91,7 +91,7 @@ returns-2 c =
     let a = st .args in
     let e = c .before .before .before .before .before .find .ensures ∙ ap (λ (s : ℕ). seek (length (a .tree .now)) (a .tree .now) s (a .c)) (c .before .before .before .before .before .before .before .wide16 .ensures .0) in
     let n = c .before .before .look-up .ensures .next in
-    S.out (a .words .now) (a .rows) (a .count) (a .tree .now) (a .p) (a .c) _ e (c .before .before .before .before .if1 .left) (omega (arith, n, c .if2 .taken, c .before .wide162 .ensures .0)) _ _
+    S.out (a .words .now) (a .rows) (a .count) (a .tree .now) (a .p) (a .c) _ e (omega (arith, c .before .before .before .before .if1 .left)) (omega (arith, n, c .if2 .taken, c .before .wide162 .ensures .0)) _ _
 
 -- src/lib.rt:90:5
 attach-requires : tie.Need-attach-requires
@@ -112,7 +112,7 @@ returns-3 c =
     let a = st .args in
     let e = c .before .before .before .before .before .before .before .before .before .find .ensures ∙ ap (λ (s : ℕ). seek (length (a .tree .now)) (a .tree .now) s (a .c)) (c .before .before .before .before .before .before .before .before .before .before .before .wide16 .ensures .0) in
     let n = c .before .before .before .before .before .before .look-up .ensures .next in
-    S.new (a .words .now) (a .rows) (a .count) (a .tree .now) (a .p) (a .c) _ e (c .before .before .before .before .before .before .before .before .if1 .left) (omega (arith, n, c .before .before .before .before .if2 .left, c .before .before .before .before .before .wide162 .ensures .0)) _ (c .before .before .before .before .before .before .look-up .ensures .more) _
+    S.new (a .words .now) (a .rows) (a .count) (a .tree .now) (a .p) (a .c) _ e (omega (arith, c .before .before .before .before .before .before .before .before .if1 .left)) (omega (arith, n, c .before .before .before .before .if2 .left, c .before .before .before .before .before .wide162 .ensures .0)) _ (c .before .before .before .before .before .before .look-up .ensures .more) _
     (rw (← n) (c .before .before .attach .ensures))
 
 pub descend-spec : {M : Type 1} → statement M
