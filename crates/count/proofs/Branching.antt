@@ -17,7 +17,7 @@ use Rattle.tables.specs.States.{startsAny}
 use Rattle.tables.specs.Words.{rowSize}
 use Rattle.tables.proofs.Truth.{clash, contra, true-eq}
 use Rattle.side.proofs.Prefixes.{take-starts}
-use Rattle.count.specs.Chains.{Attached}
+use Rattle.tables.specs.Siblings.{Attached}
 use Rattle.count.specs.Tree.{keyOf, nodes, hasSymbol, nextNode, firstWith, Tree}
 use Rattle.count.proofs.Starts.{starts-trans, nested, same-prefix, starts-snoc, starts-more, any-snoc, any-trans, any-at, first-lt, first-is, first-old, first-new, any-node}
 

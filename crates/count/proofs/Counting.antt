@@ -15,13 +15,15 @@ use Rattle.tables.proofs.Truth.{clash}
 use Rattle.rules.specs.Limits.{maxPattern}
 use Rattle.side.specs.Patterns.{patternAt, patternsOf, Patterns, stateCount}
 use Rattle.side.proofs.Inserting.{patterns-next, pattern-symbol, symbol-small}
-use Rattle.count.specs.Chains.{seek, childOf, Room, Chains, Alike, Attached}
+use Rattle.count.specs.Chains.{at, childOf, Room, Chains, Alike}
 use Rattle.count.specs.Tree.{keyOf, nodes, firstWith, Tree, Followed, Counted}
 use Rattle.count.specs.declared.Branch.{Branch}
 use Rattle.count.proofs.Starts.{first-lt, any-node}
 use Rattle.count.proofs.Branching.{Branches, tree-branches, branches-tree, branches-same, branches-more}
 use Rattle.count.proofs.Adding.{added}
-use Rattle.count.proofs.Seeking.{seek-zero, chains-more, attached-alike, attached-chains, attached-child}
+use Rattle.tables.specs.Siblings.{seek, Attached}
+use Rattle.tables.proofs.Siblings.{seek-zero}
+use Rattle.count.proofs.Attaching.{chains-more, attached-alike, attached-chains, attached-child}
 use Rattle.count.proofs.Following.{p-length, nodes-length}
 
 module _ (ps ls : List ℕ) (i : ℕ) (ok : Patterns ps ls (i + 1)) where
@@ -125,10 +127,10 @@ first ps ls fi nx ky ch =
     }
   where
     none : getD fi 0 0 ≡ 0
-    none = let g = ch .heads 0 (omega arith) in omega arith
+    none = let g = ch .siblings .heads 0 (omega arith) in omega arith
 
     root : Branches ([] ∷ []) (childOf fi nx ky)
-    root [] c a l = ap (λ (s : ℕ). seek (length nx) nx ky s (keyOf 0 c)) none ∙ seek-zero (length nx) nx ky (keyOf 0 c)
+    root [] c a l = ap (λ (s : ℕ). seek (length nx) (at nx) (at ky) s (keyOf 0 c)) none ∙ seek-zero (length nx) (at nx) (at ky) (keyOf 0 c)
     root (x ∷ s) c a l = clash a refl
 
 -- what the tree of i patterns asks of the next, and gives after it
@@ -158,8 +160,7 @@ pub zero-chains : (n : ℕ) → 1 ≤ n → Chains (replicate n 0) (replicate n 
 zero-chains n h =
     record {
       room = zero-room n 1 h;
-      heads = λ q l. let e = zeros n q in omega arith;
-      falling = λ s p l. absurd (omega arith);
+      siblings = record { heads = λ q l. let e = zeros n q in omega arith; falling = λ s p l. absurd (omega arith) };
       firstsZero = λ k l. zeros n k;
       nextsZero = λ k l. zeros n k;
     }

@@ -1,7 +1,7 @@
 -- A pattern is followed along the nodes of the patterns before it.
 -- Assumes nothing.
 use mathlib.Core.Path.{_≡_, refl, sym, ap, ap₂, _∙_}
-use Prim.Native.Nat.{ℕ, zero, suc, _+_, _-_, _*_, _≤_, _<_}
+use Prim.Native.Nat.{ℕ, zero, suc, _+_, _*_, _≤_, _<_}
 use native.Mathlib.Omega.{arith}
 use native.Mathlib.Nat.{suc-ne-zero}
 use mathlib.Core.Bool.{true, false, and-true}
@@ -17,11 +17,12 @@ use Rattle.rules.specs.Limits.{maxPattern}
 use Rattle.side.specs.Patterns.{patternAt, patternsOf, Patterns}
 use Rattle.side.proofs.Inserting.{patterns-length, patterns-less, pattern-length, pattern-symbol, symbol-small}
 use Rattle.side.proofs.Parts.{patterns-at}
-use Rattle.count.specs.Chains.{childOf, Linked, Chains}
+use Rattle.count.specs.Chains.{at, childOf, Linked, Chains}
 use Rattle.count.specs.Tree.{nodes, nodeAt, hasSymbol, nextNode, firstWith, Tree, Followed}
 use Rattle.count.proofs.Starts.{first-lt, any-node}
 use Rattle.count.proofs.Branching.{tree-branches}
-use Rattle.count.proofs.Seeking.{Falling, chain-linked}
+use Rattle.tables.specs.Siblings.{Falling}
+use Rattle.count.proofs.Attaching.{chain-linked}
 
 -- ---- one node
 
@@ -53,7 +54,7 @@ module _ (ps ls : List ℕ) (q : ℕ) (ok : Patterns ps ls q) (m c i : ℕ) (e :
       ∙ and-true (eqb c (getD w m 0)) ∙ ap (eqb c) (pattern-symbol ps ls q ok i (omega arith) m h))
 
 -- w is a copy of the head of q's chain
-pub may-seek : (fi nx ky : List ℕ) (q w : ℕ) → Linked fi nx ky q → w ≡ getD fi q 0 → (w < length nx) × (w < length ky) × Falling nx w
+pub may-seek : (fi nx ky : List ℕ) (q w : ℕ) → Linked fi nx ky q → w ≡ getD fi q 0 → (w < length nx) × (w < length ky) × Falling (at nx) w
 may-seek fi nx ky q w l e =
     (omega (arith, l .nexts), omega (arith, l .keys), λ k p h. l .falling k p (omega arith))
 

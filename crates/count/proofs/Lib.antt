@@ -1,6 +1,6 @@
 pub mod Starts
 pub mod Branching
 pub mod Adding
-pub mod Seeking
+pub mod Attaching
 pub mod Following
 pub mod Counting

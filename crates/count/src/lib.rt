@@ -3,12 +3,13 @@
 // the nodes before it as long as they have its symbols, and becomes a child of the last of them, under the depth and the symbol at which it
 // leaves that one. The rest of its symbols are its new states.
 ghost use mathlib.Core.Path.{_≡_};
-ghost use Prim.Native.Nat.{ℕ, _+_, _*_, _≤_, _<_};
+ghost use Prim.Native.Nat.{_+_, _*_, _<_};
 ghost use lib.ListN.{length, getD, set};
 ghost use Rattle.tables.specs.Words.{rowSize};
+ghost use Rattle.tables.specs.Siblings.{seek, Falling};
 ghost use Rattle.rules.specs.Limits.{maxPattern};
 ghost use Rattle.side.specs.Patterns.{patternAt, patternsOf, Patterns, stateCount};
-ghost use Rattle.count.specs.Chains.{seek, childOf, Room, Linked, Chains};
+ghost use Rattle.count.specs.Chains.{at, childOf, Room, Linked, Chains};
 ghost use Rattle.count.specs.Tree.{keyOf, nodeAt, hasSymbol, nextNode, Tree, Followed, Counted};
 
 // A node for each pattern, and one for the empty string.
@@ -32,8 +33,8 @@ fn key_of(depth: usize, c: u8) -> u16
 
 // The node under the key `c` in the chain from `s` on, or 0.
 fn find(next: &[u16], key: &[u16], s: usize, c: u16) -> usize
-    requires { ⌜ (s < length (now next)) × (s < length (now key)) × ((k : ℕ) → 0 < k → k ≤ s → getD (now next) k 0 < k) ⌝ }
-    ensures { λ r. ⌜ r ≡ seek (length (now (next .entry))) (now (next .entry)) (now (key .entry)) s c ⌝ }
+    requires { ⌜ (s < length (now next)) × (s < length (now key)) × Falling (at (now next)) s ⌝ }
+    ensures { λ r. ⌜ r ≡ seek (length (now (next .entry))) (at (now (next .entry))) (at (now (key .entry))) s c ⌝ }
 {
     let mut k = s;
     while 0 < k {

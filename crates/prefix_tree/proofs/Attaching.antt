@@ -60,15 +60,17 @@ module _ (t : List ℕ) (q n c s : ℕ) (l : q < n) (room : Room t (n + 1)) wher
   laid =
       record {
         sized = length-set t₄ (nodeSize * q) n ∙ len₄;
-        parent = getD-set-same t₄ (nodeSize * q) n 0 (omega (arith, len₄, room .words));
-        firsts = λ k h d. before (nodeSize * k) (omega arith) (λ e. d (omega arith));
-        childless = in₅ (nodeSize * n) (omega arith) ∙ in₄ (nodeSize * n) (omega arith) ∙ in₃ (nodeSize * n) (omega arith) ∙ in₂ (nodeSize * n) (omega arith)
-            ∙ getD-set-same t (nodeSize * n) 0 0 (omega (arith, room .words));
-        next = in₅ (nodeSize * n + 1) (omega arith) ∙ in₄ (nodeSize * n + 1) (omega arith) ∙ in₃ (nodeSize * n + 1) (omega arith)
-            ∙ getD-set-same t₁ (nodeSize * n + 1) (firstOf t q) 0 (omega (arith, len₁, room .words));
-        nexts = λ k h. before (nodeSize * k + 1) (omega arith) (omega arith);
-        symbol = in₅ (nodeSize * n + 2) (omega arith) ∙ in₄ (nodeSize * n + 2) (omega arith) ∙ getD-set-same t₂ (nodeSize * n + 2) c 0 (omega (arith, len₂, room .words));
-        symbols = λ k h. before (nodeSize * k + 2) (omega arith) (omega arith);
+        latest = record {
+          parent = getD-set-same t₄ (nodeSize * q) n 0 (omega (arith, len₄, room .words));
+          firsts = λ k h d. before (nodeSize * k) (omega arith) (λ e. d (omega arith));
+          childless = in₅ (nodeSize * n) (omega arith) ∙ in₄ (nodeSize * n) (omega arith) ∙ in₃ (nodeSize * n) (omega arith) ∙ in₂ (nodeSize * n) (omega arith)
+              ∙ getD-set-same t (nodeSize * n) 0 0 (omega (arith, room .words));
+          before = in₅ (nodeSize * n + 1) (omega arith) ∙ in₄ (nodeSize * n + 1) (omega arith) ∙ in₃ (nodeSize * n + 1) (omega arith)
+              ∙ getD-set-same t₁ (nodeSize * n + 1) (firstOf t q) 0 (omega (arith, len₁, room .words));
+          nexts = λ k h. before (nodeSize * k + 1) (omega arith) (omega arith);
+          under = in₅ (nodeSize * n + 2) (omega arith) ∙ in₄ (nodeSize * n + 2) (omega arith) ∙ getD-set-same t₂ (nodeSize * n + 2) c 0 (omega (arith, len₂, room .words));
+          keys = λ k h. before (nodeSize * k + 2) (omega arith) (omega arith);
+        };
         state-is = in₅ (nodeSize * n + 3) (omega arith) ∙ getD-set-same t₃ (nodeSize * n + 3) s 0 (omega (arith, len₃, room .words));
         states = λ k h. before (nodeSize * k + 3) (omega arith) (omega arith);
       }

@@ -26,7 +26,7 @@ use Rattle.passes.specs.Passes.{rowsAt}
 use Rattle.prefix_tree.specs.Tree.{Room, stateOf, childOf, Tree}
 use Rattle.prefix_tree.specs.Sharing.{Holds, entryOf, Descended}
 use Rattle.prefix_tree.specs.declared.SharedStep.{SharedStep}
-use Rattle.prefix_tree.proofs.Seeking.{child-lt, added-tree, added-child}
+use Rattle.prefix_tree.proofs.Growing.{child-lt, added-tree, added-child}
 
 -- ---- one string is numbered
 

@@ -6,8 +6,9 @@ ghost use Prim.Native.Nat.{_+_, _-_, _*_, _<_, _≤_};
 ghost use lib.ListN.{length};
 ghost use Rattle.speech.specs.Places.{frameSize};
 ghost use Rattle.tables.specs.Words.{rowSize};
+ghost use Rattle.tables.specs.Siblings.{seek, Falling};
 ghost use Rattle.passes.specs.Passes.{maxSteps, Symbols, rowsAt};
-ghost use Rattle.prefix_tree.specs.Tree.{nodeSize, Room, seek, Falling, Tree, Added};
+ghost use Rattle.prefix_tree.specs.Tree.{nodeSize, Room, nextOf, symbolOf, Tree, Added};
 ghost use Rattle.prefix_tree.specs.Sharing.{Descended, SharedPass};
 
 // Words of a node: its latest child, the sibling before it, the symbol that leads to it, its left state.
@@ -24,8 +25,8 @@ pub struct SharedStep {
 
 // The node under the symbol `c` in the chain from `s` on, or 0.
 fn find(tree: &[u16], s: usize, c: u16) -> usize
-    requires { ⌜ (nodeSize * s + nodeSize ≤ length (now tree)) × Falling (now tree) s ⌝ }
-    ensures { λ r. ⌜ r ≡ seek (length (now (tree .entry))) (now (tree .entry)) s c ⌝ }
+    requires { ⌜ (nodeSize * s + nodeSize ≤ length (now tree)) × Falling (nextOf (now tree)) s ⌝ }
+    ensures { λ r. ⌜ r ≡ seek (length (now (tree .entry))) (nextOf (now (tree .entry))) (symbolOf (now (tree .entry))) s c ⌝ }
 {
     let mut k = s;
     while 0 < k {

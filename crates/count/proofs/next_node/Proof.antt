@@ -3,7 +3,8 @@
 use mathlib.Core.Path.{sym, ap₂, _∙_}
 use Prim.Native.Nat.{ℕ}
 use lib.ListN.{length}
-use Rattle.count.specs.Chains.{seek}
+use Rattle.tables.specs.Siblings.{seek}
+use Rattle.count.specs.Chains.{at}
 use Rattle.count.proofs.Following as F
 use borrow.Author.Needs.{needs}
 use Rattle.count.proofs.next_node.Statement.{statement}
@@ -34,7 +35,7 @@ returns-2 : tie.Need-returns-2
 returns-2 c =
     let st = c .before .before .before .before .before .before .before .before .before .before .before in
     rw (sym (c .before .before .before .before .before .has-symbol .ensures) ∙ c .before .before .before .before .if1 .left)
-    (c .find .ensures ∙ ap₂ (λ (s k : ℕ). seek (length (st .args .next .now)) (st .args .next .now) (st .args .key .now) s k) (c .before .before .wide16 .ensures .0) (c .before .key-of .ensures))
+    (c .find .ensures ∙ ap₂ (λ (s k : ℕ). seek (length (st .args .next .now)) (at (st .args .next .now)) (at (st .args .key .now)) s k) (c .before .before .wide16 .ensures .0) (c .before .key-of .ensures))
 
 pub next-node-spec : {M : Type 1} → statement M
 next-node-spec =

@@ -4,8 +4,9 @@ use mathlib.Core.Path.{ap, _∙_}
 use Prim.Native.Nat.{ℕ}
 use native.Mathlib.Omega.{arith}
 use lib.ListN.{length}
-use Rattle.prefix_tree.specs.Tree.{seek}
-use Rattle.prefix_tree.proofs.Seeking.{chain-of}
+use Rattle.tables.specs.Siblings.{seek}
+use Rattle.prefix_tree.specs.Tree.{nextOf, symbolOf}
+use Rattle.prefix_tree.proofs.Growing.{chain-of}
 use Rattle.prefix_tree.proofs.Stepping as S
 use borrow.Author.Needs.{needs}
 use Rattle.prefix_tree.proofs.descend.Statement.{statement}
@@ -50,7 +51,7 @@ returns : tie.Need-returns
 returns c =
     let st = c .before .before .before .before .before .before .before in
     let a = st .args in
-    let e = c .before .find .ensures ∙ ap (λ (s : ℕ). seek (length (a .tree .now)) (a .tree .now) s (a .c)) (c .before .before .before .wide16 .ensures .0) in
+    let e = c .before .find .ensures ∙ ap (λ (s : ℕ). seek (length (a .tree .now)) (nextOf (a .tree .now)) (symbolOf (a .tree .now)) s (a .c)) (c .before .before .before .wide16 .ensures .0) in
     S.there (a .words .now) (a .rows) (a .count) (a .tree .now) (a .p) (a .c) _ e (omega (arith, c .if1 .taken))
 
 -- src/lib.rt:79:22
@@ -89,7 +90,7 @@ returns-2 : tie.Need-returns-2
 returns-2 c =
     let st = c .before .before .before .before .before .before .before .before .before .before .before in
     let a = st .args in
-    let e = c .before .before .before .before .before .find .ensures ∙ ap (λ (s : ℕ). seek (length (a .tree .now)) (a .tree .now) s (a .c)) (c .before .before .before .before .before .before .before .wide16 .ensures .0) in
+    let e = c .before .before .before .before .before .find .ensures ∙ ap (λ (s : ℕ). seek (length (a .tree .now)) (nextOf (a .tree .now)) (symbolOf (a .tree .now)) s (a .c)) (c .before .before .before .before .before .before .before .wide16 .ensures .0) in
     let n = c .before .before .look-up .ensures .next in
     S.out (a .words .now) (a .rows) (a .count) (a .tree .now) (a .p) (a .c) _ e (omega (arith, c .before .before .before .before .if1 .left)) (omega (arith, n, c .if2 .taken, c .before .wide162 .ensures .0)) _ _
 
@@ -110,7 +111,7 @@ returns-3 : tie.Need-returns-3
 returns-3 c =
     let st = c .before .before .before .before .before .before .before .before .before .before .before .before .before .before .before in
     let a = st .args in
-    let e = c .before .before .before .before .before .before .before .before .before .find .ensures ∙ ap (λ (s : ℕ). seek (length (a .tree .now)) (a .tree .now) s (a .c)) (c .before .before .before .before .before .before .before .before .before .before .before .wide16 .ensures .0) in
+    let e = c .before .before .before .before .before .before .before .before .before .find .ensures ∙ ap (λ (s : ℕ). seek (length (a .tree .now)) (nextOf (a .tree .now)) (symbolOf (a .tree .now)) s (a .c)) (c .before .before .before .before .before .before .before .before .before .before .before .wide16 .ensures .0) in
     let n = c .before .before .before .before .before .before .look-up .ensures .next in
     S.new (a .words .now) (a .rows) (a .count) (a .tree .now) (a .p) (a .c) _ e (omega (arith, c .before .before .before .before .before .before .before .before .if1 .left)) (omega (arith, n, c .before .before .before .before .if2 .left, c .before .before .before .before .before .wide162 .ensures .0)) _ (c .before .before .before .before .before .before .look-up .ensures .more) _
     (rw (← n) (c .before .before .attach .ensures))

@@ -1,10 +1,11 @@
 -- The search along a chain of children.
 -- Assumes nothing.
 use mathlib.Core.Path.{sym, subst}
-use Prim.Native.Nat.{ℕ}
 use native.Mathlib.Omega.{arith}
 use borrow.Author.Needs.{needs}
-use Rattle.prefix_tree.proofs.Seeking as S
+use lib.ListN.{length}
+use Rattle.tables.proofs.Siblings as S
+use Rattle.prefix_tree.specs.Tree.{nextOf, symbolOf}
 use Rattle.prefix_tree.proofs.find.Statement.{statement}
 use Rattle.prefix_tree.proofs.find.Tie as tie
 use Rattle.prefix_tree.proofs.find.Reads as reads
@@ -12,14 +13,14 @@ use Rattle.prefix_tree.proofs.find.Lts as lts
 use Rattle.numbers.proofs.wide16.Reads as wide16-reads
 
 abbrev Inv-loop : tie.InvT-loop
-Inv-loop tree s c k₀ k = S.Seeking tree s c k
+Inv-loop tree s c k₀ k = S.Seeking (length tree) (nextOf tree) (symbolOf tree) s c k
 
 abbrev μ-loop : tie.MeasureT-loop
 μ-loop tree s c k₀ k = k
 
 -- src/lib.rt:30:5
 loop-holds : tie.Need-loop-holds Inv-loop μ-loop
-loop-holds c = S.begin _ _ _
+loop-holds c = S.begin _ _ _ _ _
 
 -- src/lib.rt:31:18
 mul-at : tie.Need-mul-at Inv-loop μ-loop
@@ -41,7 +42,7 @@ shared-slice-read-if1 c = search needs
 returns : tie.Need-returns Inv-loop μ-loop
 returns c =
     let st = c .before .before .before .before .before in
-    S.hit _ _ _ (st .pre .1) (st .pre .0) _ (c .before .before .before .loop .inv) (omega arith) (c .if1 .taken)
+    S.hit _ _ _ _ _ (st .pre .1) (omega (arith, st .pre .0)) _ (c .before .before .before .loop .inv) (omega arith) (c .if1 .taken)
 
 -- src/lib.rt:35:34
 add-wide16 : tie.Need-add-wide16 Inv-loop μ-loop
@@ -72,14 +73,14 @@ loop-again : tie.Need-loop-again Inv-loop μ-loop
 loop-again c =
     let st = c .before .before .before .before .before .before .before in
     let k = c .before .before .before .before .before .loop in
-    subst (λ (j : ℕ). S.Seeking (st .args .tree .now) (st .args .s) (st .args .c) j) (sym (c .wide16 .ensures .0))
-    (S.miss _ _ _ (st .pre .1) (st .pre .0) _ (k .inv) (omega arith) (c .before .before .if1 .left))
+    subst (S.Seeking _ _ _ _ _) (sym (c .wide16 .ensures .0))
+    (S.miss _ _ _ _ _ (st .pre .1) (omega (arith, st .pre .0)) _ (k .inv) (omega arith) (c .before .before .if1 .left))
 
 -- src/lib.rt:25:1
 returns-2 : tie.Need-returns-2 Inv-loop μ-loop
 returns-2 c =
     let st = c .before .before .before in
-    S.ended _ _ _ (st .pre .1) (st .pre .0) _ (c .before .loop .inv) (omega arith)
+    S.ended _ _ _ _ _ (st .pre .1) (omega (arith, st .pre .0)) _ (c .before .loop .inv) (omega arith)
 
 pub find-spec : {M : Type 1} → statement M
 find-spec =
