@@ -10,7 +10,7 @@ use lib.ListN.{length, getD, take, drop, length-drop, drop-of-length-le}
 use lib.Seq.{drop-cons, drop-drop}
 use borrow.Author.Tests.{leb-true, leb-false, le-leb, lt-leb, ltb-true, ltb-false, lt-ltb, le-ltb}
 use Rattle.rules.proofs.Cases.{byBool, and-l, and-r}
-use Rattle.host.specs.Many.{namesIn, hasNext}
+use Rattle.many_names.specs.Names.{namesIn, nameAt, hasNext}
 
 module _ (names : List ℕ) (at count k : ℕ) where
   module _ (h : hasNext names at count k ≡ true) where
@@ -21,7 +21,7 @@ module _ (names : List ℕ) (at count k : ℕ) where
     next-whole = leb-true _ (length names) (and-r (ltb count k) _ h)
 
     -- the next name, and the names after it
-    pub names-next : namesIn (k - count) (drop at names) ≡ take (getD names at 0) (drop (at + 1) names) ∷ namesIn (k - (count + 1)) (drop (at + 1 + getD names at 0) names)
+    pub names-next : namesIn (k - count) (drop at names) ≡ nameAt names at ∷ namesIn (k - (count + 1)) (drop (at + 1 + getD names at 0) names)
     names-next =
         let n = getD names at 0 in
         let s = drop (at + 1) names in

@@ -1,12 +1,12 @@
--- `host::many::put_reply` meets its contract: five stores.
+-- `many_names::put_reply` meets its contract: five stores.
 -- Assumes nothing.
 use mathlib.Core.Path.{_∙_}
 use native.Mathlib.Omega.{arith}
 use lib.ListN.{length-set}
-use Rattle.host.proofs.Runs.{put-five}
+use Rattle.many_names.proofs.Runs.{put-five}
 use borrow.Author.Needs.{needs}
-use Rattle.host.proofs.many.put_reply.Statement.{statement}
-use Rattle.host.proofs.many.put_reply.Tie as tie
+use Rattle.many_names.proofs.put_reply.Statement.{statement}
+use Rattle.many_names.proofs.put_reply.Tie as tie
 
 spoken-code-requires : tie.Need-spoken-code-requires
 spoken-code-requires c κs = search needs

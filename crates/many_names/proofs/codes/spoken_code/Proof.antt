@@ -1,12 +1,12 @@
--- `host::codes::spoken_code` meets its contract.
+-- `many_names::codes::spoken_code` meets its contract.
 -- Assumes nothing.
 use mathlib.Core.Path.{sym, ap, _∙_}
 use Rattle.speech.specs.declared.Speech.{Speech}
 use Rattle.speech.specs.Speech.{toldOf}
-use Rattle.host.specs.Codes.{spokenCode}
+use Rattle.many_names.specs.Codes.{spokenCode}
 use borrow.Author.Needs.{needs}
-use Rattle.host.proofs.codes.spoken_code.Statement.{statement}
-use Rattle.host.proofs.codes.spoken_code.Tie as tie
+use Rattle.many_names.proofs.codes.spoken_code.Statement.{statement}
+use Rattle.many_names.proofs.codes.spoken_code.Tie as tie
 
 enum-told : tie.Need-enum-told
 enum-told c = search needs

@@ -11,8 +11,8 @@ use lib.Seq.{drop-cons, drop-drop, drop-length}
 use borrow.Author.Tests.{le-leb, lt-leb, leb-true, leb-false, ltb-true, ltb-false, eqb-true, eqb-false, eq-eqb, ne-eqb}
 use Rattle.rules.proofs.Cases.{byBool}
 use Rattle.fitting.specs.Fitting.{Str}
-use Rattle.sheet_judging.specs.Sheet.{namesIn, hasNext, soundSheet}
-use Rattle.sheet_judging.proofs.Names.{next-count, next-whole, names-next, names-end}
+use Rattle.many_names.specs.Names.{namesIn, hasNext, soundSheet}
+use Rattle.many_names.proofs.Names.{next-count, next-whole, names-next, names-end}
 
 -- a name is left: the rest is sound as the whole from it on is
 sound-step : (j n : ℕ) (s : List ℕ) → n ≤ length s → soundSheet (suc j) (n ∷ s) ≡ soundSheet j (drop n s)

@@ -1,12 +1,12 @@
--- `host::codes::phones_or_place` meets its contract.
+-- `many_names::codes::phones_or_place` meets its contract.
 -- Assumes nothing.
 use mathlib.Core.Path.{sym, ap, _∙_}
 use Rattle.speech.specs.declared.Speech.{Speech}
 use Rattle.speech.specs.Speech.{toldOf}
-use Rattle.host.specs.Codes.{phonesOrPlace}
+use Rattle.many_names.specs.Codes.{phonesOrPlace}
 use borrow.Author.Needs.{needs}
-use Rattle.host.proofs.codes.phones_or_place.Statement.{statement}
-use Rattle.host.proofs.codes.phones_or_place.Tie as tie
+use Rattle.many_names.proofs.codes.phones_or_place.Statement.{statement}
+use Rattle.many_names.proofs.codes.phones_or_place.Tie as tie
 
 enum-known-speech : tie.Need-enum-known-speech
 enum-known-speech c = search needs

@@ -1,10 +1,10 @@
--- `host::many::has_next` meets its contract.
+-- `many_names::has_next` meets its contract.
 -- Assumes nothing.
 use native.Mathlib.Omega.{arith}
 use borrow.Author.Needs.{needs}
-use Rattle.host.proofs.Names.{has-none, has-broken, has-one}
-use Rattle.host.proofs.many.has_next.Statement.{statement}
-use Rattle.host.proofs.many.has_next.Tie as tie
+use Rattle.many_names.proofs.Names.{has-none, has-broken, has-one}
+use Rattle.many_names.proofs.has_next.Statement.{statement}
+use Rattle.many_names.proofs.has_next.Tie as tie
 
 returns : tie.Need-returns
 returns c =

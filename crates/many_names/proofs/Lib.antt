@@ -1,0 +1,4 @@
+pub mod Runs
+pub mod Names
+pub mod Sizes
+pub mod Answering
