@@ -194,10 +194,10 @@ delivered-fit (speaks xs steps) phones numbers =
 
 module _ (f : Str → List ℕ → List ℕ → Walked) (fits : Fits f) (names ph nu re : List ℕ) (p : Progress) (n : ℕ) (here : n ≡ getD names (p .at) 0) (s : Speech) (steps : ℕ) (zs ys : List ℕ)
     (e : record { said = saying (toldOf s) zs ys; steps = steps } ≡ f (take (p .at + 1 + n - (p .at + 1)) (drop (p .at + 1) names)) (midOf (p .phones) (length ph - p .phones) ph) (midOf (p .numbers) (length nu - p .numbers) nu)) where
-  abbrev w : Walked
-  w = record { said = saying (toldOf s) zs ys; steps = steps }
+  abbrev given : Walked
+  given = record { said = saying (toldOf s) zs ys; steps = steps }
 
-  named : w ≡ nextName f names ph nu re p
+  named : given ≡ nextName f names ph nu re p
   named =
       let size : p .at + 1 + n - (p .at + 1) ≡ getD names (p .at) 0 = omega (arith, here) in
       e ∙ (ap (λ (k : ℕ). f (take k (drop (p .at + 1) names)) (midOf (p .phones) (length ph - p .phones) ph) (midOf (p .numbers) (length nu - p .numbers) nu)) size
@@ -217,7 +217,7 @@ module _ (f : Str → List ℕ → List ℕ → Walked) (fits : Fits f) (names p
       omega (arith, a, b, h, k, length-drop (p .numbers) nu)
 
   pub next-is : (g h : ℕ) → g ≡ phonesGiven (toldOf s) → h ≡ numbersGiven (toldOf s) → (re′ : List ℕ)
-      → re′ ≡ take (replySize * p .count) re ++ (replied w ++ drop (replySize * p .count + replySize) re)
+      → re′ ≡ take (replySize * p .count) re ++ (replied given ++ drop (replySize * p .count + replySize) re)
       → Next f names ph nu re p (putMid (p .phones) (length ph - p .phones) ph zs) (putMid (p .numbers) (length nu - p .numbers) nu ys) re′
       (record { at = p .at + 1 + n; count = p .count + 1; phones = p .phones + g; numbers = p .numbers + h })
   next-is g h eg eh re′ er = record {
