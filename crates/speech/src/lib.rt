@@ -220,7 +220,7 @@ fn write_parts(
 }
 
 // The phones and the numbers of the parts, where the lent memory has room for both (document 01's refusals 4 and 5).
-fn deliver(
+pub fn deliver(
     image: &[u8],
     list: &[u32],
     parts: &[u32],
