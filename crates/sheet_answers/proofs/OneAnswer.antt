@@ -1,21 +1,22 @@
 -- One name answered from what was kept of it.
 -- Assumes nothing.
-use mathlib.Core.Path.{_≡_, refl, sym, ap, ap₂, _∙_, subst}
-use Prim.Native.Nat.{ℕ, suc, _+_, _-_, _≤_, _<_}
+use mathlib.Core.Path.{_≡_, refl, sym, ap, ap₂, _∙_}
+use Prim.Native.Nat.{ℕ, _+_, _-_, _≤_, _<_}
 use native.Mathlib.Omega.{arith}
-use mathlib.Core.Bool.{Bool, true, false, cond}
+use mathlib.Core.Bool.{Bool, cond}
 use mathlib.Core.List.{List, [], _∷_}
-use lib.Dec.{ltb}
-use lib.ListN.{length}
-use borrow.Author.Tests.{lt-ltb, le-ltb}
+use lib.ListN.{length, take}
+use lib.Seq.{take-all}
+use borrow.Author.Tests.{lt-ltb}
 use Rattle.rules.specs.Names.{judgedName, SoundName}
-use Rattle.rules.specs.Refusals.{Reply, accepted, declined}
+use Rattle.rules.specs.Refusals.{Reply, declined}
 use Rattle.rules.proofs.Names.{sound-judged}
 use Rattle.exceptions.specs.Layout.{wordsOf, phonesFor}
 use Rattle.exceptions.specs.Judging.{isList, saysOf}
 use Rattle.fitting.specs.Fitting.{Str}
-use Rattle.speech.specs.Speech.{Outcome, atOnce, stepsOf, answered, judgedBy, saidFrom, listedOr, toldOf, saying, delivered, refused}
-use Rattle.speech.specs.Places.{frameSize, EndsBy, partsReading, Parted, SaysListed}
+use Rattle.fitting.specs.Reading.{Reading, finished}
+use Rattle.speech.specs.Speech.{Outcome, speaks, atOnce, answered, judgedBy, saidFrom, listedOr, Told, refused, toldOf, saying, delivered}
+use Rattle.speech.specs.Places.{frameSize, EndsBy, partsAt, PartsIn, partsReading, SaysListed}
 use Rattle.speech.specs.declared.Reached.{Reached}
 use Rattle.speech.specs.declared.Reached.the-variants.{Rules, Uncovered, BadTables}
 use Rattle.speech.specs.declared.Speech.{Speech}
@@ -23,32 +24,15 @@ use Rattle.speech.specs.declared.Listed.{Listed}
 use Rattle.speech.specs.declared.Listed.the-variants.{Said, Unlisted}
 use Rattle.speech.proofs.Lookup.{listed-answer, unlisted-none, says-all}
 use Rattle.tables.proofs.Theorem.{delivered-steps}
-use Rattle.sheet_name.specs.Judging.{codeOf, Sent, Unsent, Kept}
-use Rattle.sheet_answers.specs.Answers.{reachedOf, SomeUnsent, SaysUnsent, SaysKept}
-
--- ---- how reading ended
-
-pub code-reached : (x : Reached) → EndsBy frameSize x → 0 < codeOf x → reachedOf (codeOf x) ≡ x
-code-reached (Rules k) h p =
-    let e : k + 1 - 1 ≡ k = omega arith in
-    ap (λ (b : Bool). cond b (Rules (k + 1 - 1)) (Uncovered (k + 1 - 1000))) (lt-ltb (k + 1) 1000 (omega arith)) ∙ ap Rules e
-code-reached (Uncovered i) h p =
-    let e : i + 1000 - 1000 ≡ i = omega arith in
-    ap (λ (b : Bool). cond b (Rules (i + 1000 - 1)) (Uncovered (i + 1000 - 1000))) (le-ltb (i + 1000) 1000 (omega arith)) ∙ ap Uncovered e
-code-reached BadTables h p = absurd (omega arith)
-
-pub few-reached : (n : ℕ) → n < 1000 → Rules (n - 1) ≡ reachedOf n
-few-reached n h = sym (ap (λ (b : Bool). cond b (Rules (n - 1)) (Uncovered (n - 1000))) (lt-ltb n 1000 h))
-
-pub many-reached : (n : ℕ) → 1000 ≤ n → Uncovered (n - 1000) ≡ reachedOf n
-many-reached n h = sym (ap (λ (b : Bool). cond b (Rules (n - 1)) (Uncovered (n - 1000))) (le-ltb n 1000 h))
+use Rattle.sheet_name.specs.Judging.{uncoveredFrom, codeOf, partsIn, Unsent, Kept}
+use Rattle.sheet_answers.specs.Answers.{SomeUnsent, SaysUnsent, SaysKept}
 
 -- ---- a name that sent no word
 
 module _ (list : List ℕ) (name : Str) where
   pub unsent-refused : (k p : ℕ) → judgedName name ≡ declined k p → (s : Speech) → toldOf s ≡ refused k p → (phones : List ℕ) → SaysUnsent list name phones phones s
   unsent-refused k p e s t phones o numbers u =
-      ap (λ (x : _). saying x phones numbers) t
+      ap (λ (x : Told). saying x phones numbers) t
       ∙ sym (ap (λ (x : Outcome). delivered x phones numbers) (u (atOnce 0 0) ∙ ap (λ (y : Reply). judgedBy y (listedOr (saysOf list) name (atOnce 0 0))) e))
 
   module _ (known : isList list ≡ true) (sound : SoundName name) (phones after : List ℕ) (r : Listed) (is : SaysListed (phonesFor (wordsOf list) name) phones after r) where
@@ -71,18 +55,41 @@ module _ (list : List ℕ) (name : Str) where
 -- ---- any name
 
 module _ (image list : List ℕ) (name : Str) (end : ℕ) (parts : List ℕ) where
-  reached-is : (o : Outcome) → (0 < end) → (s : Sent image list end parts o) → s .reached ≡ reachedOf end
-  reached-is o h s = sym (ap reachedOf (s .code) ∙ code-reached (s .reached) (s .parted .few) (subst (λ (n : ℕ). 0 < n) (s .code) h))
-
-  pub kept-parted : (o : Outcome) → Kept image list name end parts o → 0 < end → (x : Reached) → x ≡ reachedOf end → Parted image list frameSize parts x
-  kept-parted o k h x e = subst (Parted image list frameSize parts) (reached-is o h (k .sent h) ∙ sym e) (k .sent h .parted)
-
-  pub kept-said : (phones numbers phones′ numbers′ : List ℕ) (x : Reached) (s : Speech) → 0 < end → x ≡ reachedOf end
-      → saying (toldOf s) phones′ numbers′ ≡ delivered (answered (partsReading image list parts x) 0) phones numbers → SaysKept image list name end parts phones numbers phones′ numbers′ s
-  kept-said phones numbers phones′ numbers′ x s h e q o k =
-      let t = k .sent h in
-      q ∙ (ap (λ (y : Reached). delivered (answered (partsReading image list parts y) 0) phones numbers) (e ∙ sym (reached-is o h t))
-      ∙ (delivered-steps (partsReading image list parts (t .reached)) 0 (t .taken) phones numbers ∙ ap (λ (y : Outcome). delivered y phones numbers) (t .says)))
-
   pub kept-unsent : (phones numbers phones′ : List ℕ) (s : Speech) → end ≡ 0 → SaysUnsent list name phones phones′ s → SaysKept image list name end parts phones numbers phones′ numbers s
   kept-unsent phones numbers phones′ s z q o k = q o numbers (k .unsent z)
+
+  -- rules were applied: all parts that were kept are said
+  module _ (some : 0 < end) (ruled : end < uncoveredFrom) where
+    parts-long : (o : Outcome) → Kept image list name end parts o → length parts ≡ end - 1
+    parts-long o k = k .sized ∙ ap (λ (b : Bool). cond b (end - 1) 0) (lt-ltb end uncoveredFrom ruled)
+
+    all-said : (x : Reached) → end ≡ codeOf x → length parts ≡ end - 1 → partsReading image list parts x ≡ finished (partsAt image list parts)
+    all-said (Rules k) e l = let h : length parts ≤ k = omega arith in ap (λ (ps : List ℕ). finished (partsAt image list ps)) (take-all k parts h)
+    all-said (Uncovered i) e l = absurd (omega arith)
+    all-said BadTables e l = absurd (omega arith)
+
+    pub kept-few : (o : Outcome) → Kept image list name end parts o → length parts ≤ frameSize
+    kept-few o k = omega (arith, parts-long o k)
+
+    pub kept-within : (o : Outcome) → Kept image list name end parts o → PartsIn image list parts
+    kept-within o k = k .sent some .within
+
+    pub kept-said : (phones numbers phones′ numbers′ : List ℕ) (s : Speech)
+        → saying (toldOf s) phones′ numbers′ ≡ delivered (speaks (partsAt image list parts) 0) phones numbers → SaysKept image list name end parts phones numbers phones′ numbers′ s
+    kept-said phones numbers phones′ numbers′ s q o k =
+        let t = k .sent some in
+        q ∙ (delivered-steps (finished (partsAt image list parts)) 0 (t .taken) phones numbers
+        ∙ ap (λ (y : Outcome). delivered y phones numbers) (ap (λ (x : Reading). answered x (t .taken)) (sym (all-said (t .reached) (t .code) (parts-long o k))) ∙ t .says))
+
+  -- a letter had no rule
+  module _ (past : uncoveredFrom ≤ end) where
+    none-fits : (x : Reached) → EndsBy frameSize x → end ≡ codeOf x → x ≡ Uncovered (end - uncoveredFrom)
+    none-fits (Rules k) h e = absurd (omega arith)
+    none-fits (Uncovered i) h e = let d : i ≡ end - uncoveredFrom = omega arith in ap Uncovered d
+    none-fits BadTables h e = absurd (omega arith)
+
+    pub kept-uncovered : (phones numbers : List ℕ) (s : Speech) → toldOf s ≡ refused 3 (end - uncoveredFrom) → SaysKept image list name end parts phones numbers phones numbers s
+    kept-uncovered phones numbers s e o k =
+        let t = k .sent (omega arith) in
+        ap (λ (x : Told). saying x phones numbers) e
+        ∙ ap (λ (y : Outcome). delivered y phones numbers) (ap (λ (x : Reached). answered (partsReading image list parts x) (t .taken)) (sym (none-fits (t .reached) (t .few) (t .code))) ∙ t .says)

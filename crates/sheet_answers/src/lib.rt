@@ -1,49 +1,20 @@
 // The names of a sheet answered in turn from what was kept of them, each in the lent memory after the answers before it.
-mod codes;
-
+use many_names::codes;
+use many_names::Progress;
 use rules::Answer;
 use rules::Refusal;
 use speech::Listed;
-use speech::Reached;
 use speech::Speech;
 ghost use mathlib.Core.Path.{_≡_};
 ghost use mathlib.Core.Bool.{true};
-ghost use mathlib.Core.List.{_∷_, _++_};
 ghost use Prim.Native.Nat.{_+_, _*_, _<_, _≤_};
-ghost use lib.ListN.{length, getD, take, drop};
+ghost use lib.ListN.{length, getD};
 ghost use Rattle.rules.specs.Names.{SoundName};
 ghost use Rattle.image.specs.Image.{valid};
 ghost use Rattle.exceptions.specs.Judging.{isList};
-ghost use Rattle.speech.specs.Speech.{toldOf};
-ghost use Rattle.speech.specs.Places.{frameSize};
-ghost use Rattle.sheet_judging.specs.Sheet.{hasNext};
-ghost use Rattle.sheet_judging.specs.Kept.{partsOf, nameAt};
-ghost use Rattle.sheet_answers.specs.Codes.{spokenCode, phonesOrPlace, numbersGiven, contestedGiven};
-ghost use Rattle.sheet_answers.specs.Many.{replySize};
-ghost use Rattle.sheet_answers.specs.Answers.{reachedOf, SomeUnsent, SaysUnsent, SomeKept, SaysKept, NextKept, SomeKeptBy, AnsweredAll};
-
-// How many numbers a reply has.
-const REPLY: usize = 5;
-
-// How far the answering has come: the place in the sheet, the names answered, the phones and the numbers given.
-pub struct Progress {
-    pub at: usize,
-    pub count: usize,
-    pub phones: usize,
-    pub numbers: usize,
-}
-
-// How reading ended, from its number.
-fn reached_of(end: u32) -> Reached
-    requires { ⌜ 0 < end ⌝ }
-    ensures { λ r. ⌜ r ≡ reachedOf end ⌝ }
-{
-    let n = numbers::wide32(end);
-    if n < 1000 {
-        return Reached::Rules(n - 1);
-    }
-    Reached::Uncovered(n - 1000)
-}
+ghost use Rattle.many_names.specs.Names.{nameAt};
+ghost use Rattle.many_names.specs.Many.{replySize};
+ghost use Rattle.sheet_answers.specs.Answers.{SomeUnsent, SaysUnsent, SomeKept, SaysKept, SomeKeptAt, NextKept, SomeKeptBy, AnsweredAll};
 
 // A sound name that sent no word through the tables is on the list.
 fn say_from_list(list: &[u32], name: &[u8], phones: &mut [u8]) -> Speech
@@ -69,7 +40,7 @@ fn answer_unsent(list: &[u32], name: &[u8], phones: &mut [u8]) -> Speech
     }
 }
 
-// The answer to a name.
+// The answer to a name: its kept parts are said, or the letter that no rule covers refuses it.
 fn answer_name(
     image: &[u8],
     list: &[u32],
@@ -85,19 +56,11 @@ fn answer_name(
     if end == 0 {
         return answer_unsent(list, name, phones);
     }
-    speech::answer(image, list, reached_of(end), parts, phones, numbers)
-}
-
-// A reply, from `at` on: its code, the phones given or the place, the numbers given, 0 for the steps, the contested letters.
-fn put_reply(replies: &mut [usize], at: usize, speech: Speech)
-    requires { ⌜ at + replySize ≤ length (now replies) ⌝ }
-    ensures { λ _. ⌜ now (replies .exit) ≡ take at (now (replies .entry)) ++ (spokenCode (toldOf speech) ∷ phonesOrPlace (toldOf speech) ∷ numbersGiven (toldOf speech) ∷ 0 ∷ contestedGiven (toldOf speech) ∷ drop (at + replySize) (now (replies .entry))) ⌝ }
-{
-    replies[at] = numbers::wide(codes::spoken_code(speech));
-    replies[at + 1] = codes::phones_or_place(speech);
-    replies[at + 2] = codes::numbers_given(speech);
-    replies[at + 3] = 0;
-    replies[at + 4] = codes::contested_given(speech);
+    let ended = numbers::wide32(end);
+    if ended < sheet_name::UNCOVERED {
+        return speech::deliver(image, list, parts, phones, numbers);
+    }
+    Speech::Refused(Refusal::NoFit(ended - sheet_name::UNCOVERED))
 }
 
 // The next name is answered, in the lent memory after the answers before it.
@@ -106,33 +69,35 @@ fn answer_next(
     list: &[u32],
     sheet: &[u8],
     ends: &[u32],
-    parts: &[u32],
+    starts: &[u32],
+    kept: &[u32],
     phones: &mut [u8],
     numbers: &mut [u16],
     replies: &mut [usize],
     p: Progress,
 ) -> Progress
-    requires { ⌜ (valid (now image) ≡ true) × (isList (now list) ≡ true) × (p .at + 1 + getD (now sheet) (p .at) 0 ≤ length (now sheet)) × (p .count < length (now ends)) × (frameSize * p .count + frameSize ≤ length (now parts)) × SomeKept (now image) (now list) (nameAt (now sheet) (p .at)) (getD (now ends) (p .count) 0) (partsOf (now parts) (p .count)) × (p .phones ≤ length (now phones)) × (p .numbers ≤ length (now numbers)) × (replySize * p .count + replySize ≤ length (now replies)) ⌝ }
-    ensures { λ r. ⌜ NextKept (now (image .entry)) (now (list .entry)) (now (sheet .entry)) (now (ends .entry)) (now (parts .entry)) (now (phones .entry)) (now (numbers .entry)) (now (replies .entry)) p (now (phones .exit)) (now (numbers .exit)) (now (replies .exit)) r ⌝ }
+    requires { ⌜ (valid (now image) ≡ true) × (isList (now list) ≡ true) × (p .at + 1 + getD (now sheet) (p .at) 0 ≤ length (now sheet)) × (p .count < length (now ends)) × (p .count < length (now starts)) × SomeKeptAt (now image) (now list) (now sheet) (now ends) (now starts) (now kept) (p .count) (nameAt (now sheet) (p .at)) × (p .phones ≤ length (now phones)) × (p .numbers ≤ length (now numbers)) × (replySize * p .count + replySize ≤ length (now replies)) ⌝ }
+    ensures { λ r. ⌜ NextKept (now (image .entry)) (now (list .entry)) (now (sheet .entry)) (now (ends .entry)) (now (starts .entry)) (now (kept .entry)) (now (phones .entry)) (now (numbers .entry)) (now (replies .entry)) p (now (phones .exit)) (now (numbers .exit)) (now (replies .exit)) r ⌝ }
 {
     let at = p.at;
     let start = at + 1;
     let end = start + numbers::wide(sheet[at]);
     let i = p.count;
-    let first = reading::MAX_FRAME * i;
-    let last = first + reading::MAX_FRAME;
+    let ended = ends[i];
+    let first = numbers::wide32(starts[i]);
+    let last = first + sheet_name::parts_in(ended);
     let from = p.phones;
     let to = p.numbers;
     let speech = answer_name(
         image,
         list,
         &sheet[start..end],
-        ends[i],
-        &parts[first..last],
+        ended,
+        &kept[first..last],
         &mut phones[from..],
         &mut numbers[to..],
     );
-    put_reply(replies, REPLY * i, speech);
+    many_names::put_reply(replies, many_names::REPLY * i, speech, 0);
     Progress {
         at: end,
         count: i + 1,
@@ -148,13 +113,14 @@ pub fn answer_sheet(
     sheet: &[u8],
     limit: usize,
     ends: &[u32],
-    parts: &[u32],
+    starts: &[u32],
+    kept: &[u32],
     phones: &mut [u8],
     numbers: &mut [u16],
     replies: &mut [usize],
 ) -> usize
-    requires { ⌜ (valid (now image) ≡ true) × (isList (now list) ≡ true) × (limit ≤ length (now ends)) × (frameSize * limit ≤ length (now parts)) × (replySize * limit ≤ length (now replies)) × SomeKeptBy (now image) (now list) (now sheet) limit (now ends) (now parts) ⌝ }
-    ensures { λ r. ⌜ AnsweredAll (now (image .entry)) (now (list .entry)) (now (sheet .entry)) limit (now (ends .entry)) (now (parts .entry)) (now (phones .entry)) (now (numbers .entry)) (now (replies .entry)) (now (phones .exit)) (now (numbers .exit)) (now (replies .exit)) r ⌝ }
+    requires { ⌜ (valid (now image) ≡ true) × (isList (now list) ≡ true) × (limit ≤ length (now ends)) × (limit ≤ length (now starts)) × (replySize * limit ≤ length (now replies)) × SomeKeptBy (now image) (now list) (now sheet) (now ends) (now starts) (now kept) limit ⌝ }
+    ensures { λ r. ⌜ AnsweredAll (now (image .entry)) (now (list .entry)) (now (sheet .entry)) (now (ends .entry)) (now (starts .entry)) (now (kept .entry)) limit (now (phones .entry)) (now (numbers .entry)) (now (replies .entry)) (now (phones .exit)) (now (numbers .exit)) (now (replies .exit)) r ⌝ }
 {
     let mut p = Progress {
         at: 0,
@@ -162,8 +128,8 @@ pub fn answer_sheet(
         phones: 0,
         numbers: 0,
     };
-    while sheet_judging::has_next(sheet, p.at, p.count, limit) {
-        p = answer_next(image, list, sheet, ends, parts, phones, numbers, replies, p);
+    while many_names::has_next(sheet, p.at, p.count, limit) {
+        p = answer_next(image, list, sheet, ends, starts, kept, phones, numbers, replies, p);
     }
     p.count
 }
