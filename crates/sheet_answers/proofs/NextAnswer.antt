@@ -11,12 +11,11 @@ use borrow.Rule.Slice.PartMut.{midOf, putMid}
 use Rattle.fitting.specs.Fitting.{Str}
 use Rattle.speech.specs.Speech.{Outcome, Said, toldOf, saying}
 use Rattle.speech.specs.declared.Speech.{Speech}
-use Rattle.tables.specs.Walk.{Walked}
 use Rattle.many_names.specs.Names.{namesIn, nameAt, hasNext}
 use Rattle.many_names.specs.Codes.{phonesGiven, numbersGiven}
 use Rattle.many_names.specs.Many.{replySize, replied}
 use Rattle.many_names.specs.declared.Progress.{Progress}
-use Rattle.many_names.proofs.Names.{next-count, next-whole, names-next}
+use Rattle.many_names.proofs.Names.{next-count, names-next}
 use Rattle.many_names.proofs.Answering as A
 use Rattle.sheet_name.specs.Judging.{partsIn, Kept}
 use Rattle.sheet_judging.specs.Kept.{partsOf}

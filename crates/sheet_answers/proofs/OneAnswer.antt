@@ -1,30 +1,32 @@
 -- One name answered from what was kept of it.
 -- Assumes nothing.
-use mathlib.Core.Path.{_≡_, refl, sym, ap, ap₂, _∙_}
-use Prim.Native.Nat.{ℕ, _+_, _-_, _≤_, _<_}
+use mathlib.Core.Path.{_≡_, sym, ap, ap₂, _∙_}
+use Prim.Native.Nat.{ℕ, _-_, _≤_, _<_}
 use native.Mathlib.Omega.{arith}
-use mathlib.Core.Bool.{Bool, cond}
-use mathlib.Core.List.{List, [], _∷_}
-use lib.ListN.{length, take}
+use mathlib.Core.Bool.{Bool, true, cond}
+use mathlib.Core.List.{List, []}
+use lib.ListN.{length}
 use lib.Seq.{take-all}
 use borrow.Author.Tests.{lt-ltb}
 use Rattle.rules.specs.Names.{judgedName, SoundName}
 use Rattle.rules.specs.Refusals.{Reply, declined}
+use Rattle.rules.specs.declared.Refusal.the-variants.{NoFit}
 use Rattle.rules.proofs.Names.{sound-judged}
 use Rattle.exceptions.specs.Layout.{wordsOf, phonesFor}
 use Rattle.exceptions.specs.Judging.{isList, saysOf}
 use Rattle.fitting.specs.Fitting.{Str}
 use Rattle.fitting.specs.Reading.{Reading, finished}
 use Rattle.speech.specs.Speech.{Outcome, speaks, atOnce, answered, judgedBy, saidFrom, listedOr, Told, refused, toldOf, saying, delivered}
-use Rattle.speech.specs.Places.{frameSize, EndsBy, partsAt, PartsIn, partsReading, SaysListed}
+use Rattle.speech.specs.Places.{frameSize, EndsBy, partsAt, partsReading, SaysListed}
 use Rattle.speech.specs.declared.Reached.{Reached}
 use Rattle.speech.specs.declared.Reached.the-variants.{Rules, Uncovered, BadTables}
 use Rattle.speech.specs.declared.Speech.{Speech}
+use Rattle.speech.specs.declared.Speech.the-variants.{Refused}
 use Rattle.speech.specs.declared.Listed.{Listed}
 use Rattle.speech.specs.declared.Listed.the-variants.{Said, Unlisted}
 use Rattle.speech.proofs.Lookup.{listed-answer, unlisted-none, says-all}
 use Rattle.tables.proofs.Theorem.{delivered-steps}
-use Rattle.sheet_name.specs.Judging.{uncoveredFrom, codeOf, partsIn, Unsent, Kept}
+use Rattle.sheet_name.specs.Judging.{uncoveredFrom, codeOf, Unsent, Kept}
 use Rattle.sheet_answers.specs.Answers.{SomeUnsent, SaysUnsent, SaysKept}
 
 -- ---- a name that sent no word
@@ -71,9 +73,6 @@ module _ (image list : List ℕ) (name : Str) (end : ℕ) (parts : List ℕ) whe
     pub kept-few : (o : Outcome) → Kept image list name end parts o → length parts ≤ frameSize
     kept-few o k = omega (arith, parts-long o k)
 
-    pub kept-within : (o : Outcome) → Kept image list name end parts o → PartsIn image list parts
-    kept-within o k = k .sent some .within
-
     pub kept-said : (phones numbers phones′ numbers′ : List ℕ) (s : Speech)
         → saying (toldOf s) phones′ numbers′ ≡ delivered (speaks (partsAt image list parts) 0) phones numbers → SaysKept image list name end parts phones numbers phones′ numbers′ s
     kept-said phones numbers phones′ numbers′ s q o k =
@@ -88,8 +87,8 @@ module _ (image list : List ℕ) (name : Str) (end : ℕ) (parts : List ℕ) whe
     none-fits (Uncovered i) h e = let d : i ≡ end - uncoveredFrom = omega arith in ap Uncovered d
     none-fits BadTables h e = absurd (omega arith)
 
-    pub kept-uncovered : (phones numbers : List ℕ) (s : Speech) → toldOf s ≡ refused 3 (end - uncoveredFrom) → SaysKept image list name end parts phones numbers phones numbers s
-    kept-uncovered phones numbers s e o k =
+    pub kept-uncovered : (n : ℕ) → n ≡ end → (phones numbers : List ℕ) → SaysKept image list name end parts phones numbers phones numbers (Refused (NoFit (n - uncoveredFrom)))
+    kept-uncovered n e phones numbers o k =
         let t = k .sent (omega arith) in
-        ap (λ (x : Told). saying x phones numbers) e
+        ap (λ (j : ℕ). saying (refused 3 (j - uncoveredFrom)) phones numbers) e
         ∙ ap (λ (y : Outcome). delivered y phones numbers) (ap (λ (x : Reached). answered (partsReading image list parts x) (t .taken)) (sym (none-fits (t .reached) (t .few) (t .code))) ∙ t .says)

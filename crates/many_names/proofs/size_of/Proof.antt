@@ -1,7 +1,7 @@
--- The names of a sheet, counted.
+-- `many_names::size_of` meets its contract: the names of a sheet are counted, by the loop invariant `Counting`.
 -- Assumes nothing.
 use Prim.Native.Nat.{_-_}
-use mathlib.Core.Path.{_≡_, sym, ap, _∙_}
+use mathlib.Core.Path.{sym, _∙_}
 use Rattle.rules.specs.Limits.{maxNames}
 use Rattle.many_names.proofs.Names.{next-count, next-whole}
 use Rattle.many_names.proofs.Sizes as S
@@ -28,7 +28,11 @@ add-at : tie.Need-add-at Inv-loop μ-loop
 add-at c = search needs
 
 shared-slice-read-wide : tie.Need-shared-slice-read-wide Inv-loop μ-loop
-shared-slice-read-wide c = let w = next-whole (c .before .before .before .before .before .args .sheet .now) (c .before .before .before .loop .at) (c .before .before .before .loop .count) maxNames (sym (c .before .before .has-next .ensures) ∙ c .before .if1 .taken) in omega arith
+shared-slice-read-wide c =
+    let l = c .before .before .before .loop in
+    let h = sym (c .before .before .has-next .ensures) ∙ c .before .if1 .taken in
+    let w = next-whole (c .before .before .before .before .before .args .sheet .now) (l .at) (l .count) maxNames h in
+    omega arith
 
 wide-requires : tie.Need-wide-requires Inv-loop μ-loop
 wide-requires c κs = search needs
@@ -40,16 +44,29 @@ add-count : tie.Need-add-count Inv-loop μ-loop
 add-count c = search needs
 
 loop-less : tie.Need-loop-less Inv-loop μ-loop
-loop-less c = let u = next-count (c .before .before .before .before .before .before .args .sheet .now) (c .before .before .before .before .loop .at) (c .before .before .before .before .loop .count) maxNames (sym (c .before .before .before .has-next .ensures) ∙ c .before .before .if1 .taken) in omega arith
+loop-less c =
+    let l = c .before .before .before .before .loop in
+    let h = sym (c .before .before .before .has-next .ensures) ∙ c .before .before .if1 .taken in
+    let u = next-count (c .before .before .before .before .before .before .args .sheet .now) (l .at) (l .count) maxNames h in
+    omega arith
 
 loop-again : tie.Need-loop-again Inv-loop μ-loop
-loop-again c = S.counting-next (c .before .before .before .before .before .before .args .sheet .now) maxNames (c .before .before .before .before .loop .at) (c .before .before .before .before .loop .count) (c .before .before .before .before .loop .inv) (sym (c .before .before .before .has-next .ensures) ∙ c .before .before .if1 .taken) _ (let e = c .wide .ensures .0 in omega arith) (let b = c .before .before .before .before .before .shared-slice-known .given (c .before .before .before .before .loop .at) in omega arith)
+loop-again c =
+    let sheet = c .before .before .before .before .before .before .args .sheet .now in
+    let l = c .before .before .before .before .loop in
+    let h = sym (c .before .before .before .has-next .ensures) ∙ c .before .before .if1 .taken in
+    let e = c .wide .ensures .0 in
+    let b = c .before .before .before .before .before .shared-slice-known .given (l .at) in
+    S.counting-next sheet maxNames (l .at) (l .count) (l .inv) h _ (omega arith) (omega arith)
 
 returns : tie.Need-returns Inv-loop μ-loop
 returns c =
-    let k = c .before .before .loop in
-    let h = sym (c .before .has-next .ensures) ∙ c .if1 .left in
-    (S.counted-sound (c .before .before .before .before .args .sheet .now) maxNames (k .at) (k .count) (k .inv) h, (S.counted-names (c .before .before .before .before .args .sheet .now) maxNames (k .at) (k .count) (k .inv) h, λ e. omega (arith, k .inv .at-few, k .inv .count-in, eqb-true (k .at) (length (c .before .before .before .before .args .sheet .now)) e)))
+    let sheet = c .before .before .before .before .args .sheet .now in
+    let l = c .before .before .loop in
+    let h = sym (c .before .has-next .ensures) ∙ c .if1 .left in (
+      S.counted-sound sheet maxNames (l .at) (l .count) (l .inv) h,
+      (S.counted-names sheet maxNames (l .at) (l .count) (l .inv) h, λ e. omega (arith, l .inv .at-few, l .inv .count-in, eqb-true (l .at) (length sheet) e)),
+    )
 
 pub size-of-spec : {M : Type 1} → statement M
 size-of-spec =
