@@ -1,5 +1,3 @@
 pub mod Reports
-pub mod Runs
-pub mod Names
 pub mod Answering
 pub mod ListNumbers

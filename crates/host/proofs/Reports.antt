@@ -17,7 +17,8 @@ use Rattle.speech.specs.Speech.{Told, Said, saying}
 use Rattle.tables.specs.Words.{Built, building}
 use Rattle.file.specs.Loading.{Filed, filing}
 use Rattle.host.specs.Files.{writtenCode, bytesOrPlace}
-use Rattle.host.specs.Codes.{checked, heldIn, spokenCode, phonesOrPlace, numbersGiven, contestedGiven, ruleGiven}
+use Rattle.many_names.specs.Codes.{spokenCode, phonesOrPlace, numbersGiven, contestedGiven}
+use Rattle.host.specs.Codes.{checked, heldIn, ruleGiven}
 
 -- the numbers of an edit or a reading, and the memory after it
 module _ (a : Reply) (image : List ℕ) (e : Edited) (h : outcome a image ≡ e) where

@@ -14,7 +14,8 @@ ghost use Rattle.exceptions.specs.Judging.{listingOf};
 ghost use Rattle.speech.specs.Speech.{plainSaid};
 ghost use Rattle.tables.specs.Words.{built};
 ghost use Rattle.tables.specs.Walk.{walkSaid};
-ghost use Rattle.host.specs.Codes.{checked, countIn, lastIn, editsIn, spokenCode, phonesOrPlace, numbersGiven, contestedGiven, ruleGiven};
+ghost use Rattle.many_names.specs.Codes.{spokenCode, phonesOrPlace, numbersGiven, contestedGiven};
+ghost use Rattle.host.specs.Codes.{checked, countIn, lastIn, editsIn, ruleGiven};
 ghost use Rattle.file.specs.Loading.{loaded, filed};
 ghost use Rattle.host.specs.Files.{writtenCode, bytesOrPlace};
 ghost use Rattle.host.specs.Many.{manySaid};
@@ -214,10 +215,10 @@ pub extern "C" fn pirrozketa_read_name(
     ensures numbers { λ _. ⌜ now (numbers .exit) ≡ plainSaid (now (image .entry)) (listingOf (now (list .entry))) (now (name .entry)) (now (phones .entry)) (now (numbers .entry)) .numbers ⌝ }
 {
     let speech = reading::read_name(image, list, name, phones, numbers);
-    *given = codes::phones_or_place(speech);
-    *applied = codes::numbers_given(speech);
-    *contested = codes::contested_given(speech);
-    codes::spoken_code(speech)
+    *given = many_names::codes::phones_or_place(speech);
+    *applied = many_names::codes::numbers_given(speech);
+    *contested = many_names::codes::contested_given(speech);
+    many_names::codes::spoken_code(speech)
 }
 
 // A name by the list, else by the walk through the compiled ruleset of lent tables, built or not. `steps` is the entries looked up.
@@ -245,11 +246,11 @@ pub extern "C" fn pirrozketa_speak<'a>(
 {
     let answer = compiled::speak_compiled(image, list, words, sets, name, phones, numbers);
     let speech = answer.speech;
-    *given = codes::phones_or_place(speech);
-    *applied = codes::numbers_given(speech);
+    *given = many_names::codes::phones_or_place(speech);
+    *applied = many_names::codes::numbers_given(speech);
     *steps = answer.steps;
-    *contested = codes::contested_given(speech);
-    codes::spoken_code(speech)
+    *contested = many_names::codes::contested_given(speech);
+    many_names::codes::spoken_code(speech)
 }
 
 // ---- many names

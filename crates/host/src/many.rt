@@ -1,60 +1,16 @@
 // Many names one after the other, by a ruleset and a list that are known to be valid.
-use super::codes;
-use walk::WalkAnswer;
+use many_names::codes;
+use many_names::Progress;
 ghost use mathlib.Core.Path.{_≡_};
 ghost use mathlib.Core.Bool.{true};
-ghost use mathlib.Core.List.{_∷_, _++_};
-ghost use Prim.Native.Nat.{_+_, _*_, _/_, _≤_};
-ghost use lib.ListN.{length, getD, take, drop};
+ghost use Prim.Native.Nat.{_+_, _*_, _≤_};
+ghost use lib.ListN.{length, getD};
 ghost use Rattle.rules.specs.Memory.{over};
 ghost use Rattle.image.specs.Image.{valid};
 ghost use Rattle.exceptions.specs.Judging.{isList, listingOf};
-ghost use Rattle.speech.specs.Speech.{toldOf};
 ghost use Rattle.tables.specs.Walk.{walkSaid};
-ghost use Rattle.host.specs.Codes.{spokenCode, phonesOrPlace, numbersGiven, contestedGiven};
-ghost use Rattle.host.specs.Many.{replySize, spokenAll, hasNext, Next};
-
-// How many numbers a reply has.
-const REPLY: usize = 5;
-
-// How far the answering has come: the place in the names, the names answered, the phones and the numbers given.
-pub struct Progress {
-    pub at: usize,
-    pub count: usize,
-    pub phones: usize,
-    pub numbers: usize,
-}
-
-// Whether fewer than `limit` names are answered and a whole name, after its length, lies from `at` on.
-fn has_next(names: &[u8], at: usize, count: usize, limit: usize) -> bool
-    requires { ⌜ at ≤ length (now names) ⌝ }
-    ensures { λ r. ⌜ r ≡ hasNext (now (names .entry)) at count limit ⌝ }
-{
-    if limit <= count {
-        return false;
-    }
-    if names.len() <= at {
-        return false;
-    }
-    let left = names.len() - at - 1;
-    if left < numbers::wide(names[at]) {
-        return false;
-    }
-    true
-}
-
-// A reply, from `at` on.
-fn put_reply(replies: &mut [usize], at: usize, answer: WalkAnswer)
-    requires { ⌜ at + replySize ≤ length (now replies) ⌝ }
-    ensures { λ _. ⌜ now (replies .exit) ≡ take at (now (replies .entry)) ++ (spokenCode (toldOf (answer .speech)) ∷ phonesOrPlace (toldOf (answer .speech)) ∷ numbersGiven (toldOf (answer .speech)) ∷ answer .steps ∷ contestedGiven (toldOf (answer .speech)) ∷ drop (at + replySize) (now (replies .entry))) ⌝ }
-{
-    let speech = answer.speech;
-    replies[at] = numbers::wide(codes::spoken_code(speech));
-    replies[at + 1] = codes::phones_or_place(speech);
-    replies[at + 2] = codes::numbers_given(speech);
-    replies[at + 3] = answer.steps;
-    replies[at + 4] = codes::contested_given(speech);
-}
+ghost use Rattle.many_names.specs.Many.{replySize, Next};
+ghost use Rattle.host.specs.Many.{spokenAll};
 
 // The next name is answered, in the lent memory after the answers before it.
 fn speak_next<'a>(
@@ -85,8 +41,8 @@ fn speak_next<'a>(
         &mut phones[from..],
         &mut numbers[to..],
     );
-    put_reply(replies, REPLY * p.count, answer);
     let speech = answer.speech;
+    many_names::put_reply(replies, many_names::REPLY * p.count, speech, answer.steps);
     Progress {
         at: end,
         count: p.count + 1,
@@ -112,14 +68,14 @@ pub fn speak_all<'a>(
     ensures phones { λ _. ⌜ now (phones .exit) ≡ spokenAll (now (image .entry)) (listingOf (now (list .entry))) (now (words .entry)) (now (sets .entry)) (now (names .entry)) (now (phones .entry)) (now (numbers .entry)) (now (replies .entry)) .phones ⌝ }
     ensures numbers { λ _. ⌜ now (numbers .exit) ≡ spokenAll (now (image .entry)) (listingOf (now (list .entry))) (now (words .entry)) (now (sets .entry)) (now (names .entry)) (now (phones .entry)) (now (numbers .entry)) (now (replies .entry)) .numbers ⌝ }
 {
-    let limit = replies.len() / REPLY;
+    let limit = replies.len() / many_names::REPLY;
     let mut p = Progress {
         at: 0,
         count: 0,
         phones: 0,
         numbers: 0,
     };
-    while has_next(names, p.at, p.count, limit) {
+    while many_names::has_next(names, p.at, p.count, limit) {
         p = speak_next(image, list, words, sets, names, phones, numbers, replies, p);
     }
     p.count

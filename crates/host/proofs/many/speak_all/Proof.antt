@@ -4,12 +4,13 @@ use Prim.Native.Nat.{_-_, _/_}
 use mathlib.Core.Path.{sym, ap, _∙_}
 use lib.ListN.{length}
 use Rattle.rules.specs.Memory.{over}
-use Rattle.host.specs.Many.{replySize, Lot}
+use Rattle.many_names.specs.Many.{replySize, Lot}
 use native.Mathlib.Omega.{arith}
 use Rattle.tables.specs.Walk.{walkSaid}
 use Rattle.exceptions.specs.Judging.{listingOf}
-use Rattle.host.proofs.Answering.{Going, begin, next, walk-fits, all-is, end-count, end-replies, end-phones, end-numbers}
-use Rattle.host.proofs.Names.{next-count, next-whole}
+use Rattle.many_names.proofs.Names.{next-count, next-whole}
+use Rattle.many_names.proofs.Answering.{Going, begin, next, end-count, end-replies, end-phones, end-numbers}
+use Rattle.host.proofs.Answering.{walk-fits, all-is}
 use Rattle.host.proofs.many.speak_all.Statement.{statement}
 use Rattle.host.proofs.many.speak_all.Tie as tie
 

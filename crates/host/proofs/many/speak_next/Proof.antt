@@ -3,7 +3,9 @@
 use native.Mathlib.Omega.{arith}
 use borrow.Author.Needs.{needs}
 use Rattle.exceptions.specs.Judging.{listingOf}
-use Rattle.host.proofs.Answering.{phones-room, numbers-room, next-is}
+use Rattle.tables.specs.Walk.{walkSaid}
+use Rattle.many_names.proofs.Answering.{phones-room, numbers-room, next-is}
+use Rattle.host.proofs.Answering.{walk-fits}
 use Rattle.host.proofs.many.speak_next.Statement.{statement}
 use Rattle.host.proofs.many.speak_next.Tie as tie
 
@@ -68,9 +70,10 @@ add-t24 : tie.Need-add-t24
 add-t24 c =
     let st = c .before .before .before .before .before .before .before .before .before .before .before .before .before .before .before .before .before .before .before .before .before .before .before .before .before in
     let a = st .args in
+    let f = walkSaid (a .image .now) (listingOf (a .list .now)) (a .words .now) (a .sets .now) in
     let w = c .before .before .before .before .before .before .before .before .before .before .before .speak-known in
     let n = c .before .before .before .before .before .before .before .before .before .before .before .before .before .before .before .wide in
-    omega (arith, phones-room (a .image .now) (listingOf (a .list .now)) (a .words .now) (a .sets .now) (a .names .now) (a .phones .now) (a .numbers .now) (a .replies .now) (a .p) (n .result) (w .result) (w .last .1 .1 .1 .1 .1 .0) (w .last .1 .1 .1 .1 .1 .1 .0) (n .ensures .0) (w .ensures) (c .phones-given .result) (c .phones-given .ensures) (st .pre .3), st .good .1 .1 .1 .1 .1 .0)
+    omega (arith, phones-room f (walk-fits (a .image .now) (listingOf (a .list .now)) (a .words .now) (a .sets .now)) (a .names .now) (a .phones .now) (a .numbers .now) (a .replies .now) (a .p) (n .result) (n .ensures .0) (w .result .speech) (w .result .steps) (w .last .1 .1 .1 .1 .1 .0) (w .last .1 .1 .1 .1 .1 .1 .0) (w .ensures) (c .phones-given .result) (c .phones-given .ensures) (st .pre .3), st .good .1 .1 .1 .1 .1 .0)
 
 numbers-given-requires : tie.Need-numbers-given-requires
 numbers-given-requires c κs = search needs
@@ -79,9 +82,10 @@ add-t35 : tie.Need-add-t35
 add-t35 c =
     let st = c .before .before .before .before .before .before .before .before .before .before .before .before .before .before .before .before .before .before .before .before .before .before .before .before .before .before in
     let a = st .args in
+    let f = walkSaid (a .image .now) (listingOf (a .list .now)) (a .words .now) (a .sets .now) in
     let w = c .before .before .before .before .before .before .before .before .before .before .before .before .speak-known in
     let n = c .before .before .before .before .before .before .before .before .before .before .before .before .before .before .before .before .wide in
-    omega (arith, numbers-room (a .image .now) (listingOf (a .list .now)) (a .words .now) (a .sets .now) (a .names .now) (a .phones .now) (a .numbers .now) (a .replies .now) (a .p) (n .result) (w .result) (w .last .1 .1 .1 .1 .1 .0) (w .last .1 .1 .1 .1 .1 .1 .0) (n .ensures .0) (w .ensures) (c .numbers-given .result) (c .numbers-given .ensures) (st .pre .4), st .good .1 .1 .1 .1 .1 .1 .0)
+    omega (arith, numbers-room f (walk-fits (a .image .now) (listingOf (a .list .now)) (a .words .now) (a .sets .now)) (a .names .now) (a .phones .now) (a .numbers .now) (a .replies .now) (a .p) (n .result) (n .ensures .0) (w .result .speech) (w .result .steps) (w .last .1 .1 .1 .1 .1 .0) (w .last .1 .1 .1 .1 .1 .1 .0) (w .ensures) (c .numbers-given .result) (c .numbers-given .ensures) (st .pre .4), st .good .1 .1 .1 .1 .1 .1 .0)
 
 same-length : tie.Need-same-length
 same-length c = search needs
@@ -96,9 +100,10 @@ returns : tie.Need-returns
 returns c =
     let st = c .before .before .before .before .before .before .before .before .before .before .before .before .before .before .before .before .before .before .before .before .before .before .before .before .before .before in
     let a = st .args in
+    let f = walkSaid (a .image .now) (listingOf (a .list .now)) (a .words .now) (a .sets .now) in
     let w = c .before .before .before .before .before .before .before .before .before .before .before .before .speak-known in
     let n = c .before .before .before .before .before .before .before .before .before .before .before .before .before .before .before .before .wide in
-    next-is (a .image .now) (listingOf (a .list .now)) (a .words .now) (a .sets .now) (a .names .now) (a .phones .now) (a .numbers .now) (a .replies .now) (a .p) (n .result) (w .result) (w .last .1 .1 .1 .1 .1 .0) (w .last .1 .1 .1 .1 .1 .1 .0) (n .ensures .0) (w .ensures) (c .before .phones-given .result) (c .numbers-given .result) (c .before .phones-given .ensures) (c .numbers-given .ensures) _ (c .before .before .before .before .before .put-reply .ensures)
+    next-is f (walk-fits (a .image .now) (listingOf (a .list .now)) (a .words .now) (a .sets .now)) (a .names .now) (a .phones .now) (a .numbers .now) (a .replies .now) (a .p) (n .result) (n .ensures .0) (w .result .speech) (w .result .steps) (w .last .1 .1 .1 .1 .1 .0) (w .last .1 .1 .1 .1 .1 .1 .0) (w .ensures) (c .before .phones-given .result) (c .numbers-given .result) (c .before .phones-given .ensures) (c .numbers-given .ensures) _ (c .before .before .before .before .before .put-reply .ensures)
 
 pub speak-next-spec : {M : Type 1} → statement M
 speak-next-spec =
