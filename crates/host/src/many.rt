@@ -1,6 +1,6 @@
 // Many names one after the other, by a ruleset and a list that are known to be valid.
-use many_names::codes;
 use many_names::Progress;
+use many_names::codes;
 ghost use mathlib.Core.Path.{_≡_};
 ghost use mathlib.Core.Bool.{true};
 ghost use Prim.Native.Nat.{_+_, _*_, _≤_};

@@ -1,6 +1,6 @@
 // The names of a sheet answered in turn from what was kept of them, each in the lent memory after the answers before it.
-use many_names::codes;
 use many_names::Progress;
+use many_names::codes;
 use rules::Answer;
 use rules::Refusal;
 use speech::Listed;
@@ -129,7 +129,18 @@ pub fn answer_sheet(
         numbers: 0,
     };
     while many_names::has_next(sheet, p.at, p.count, limit) {
-        p = answer_next(image, list, sheet, ends, starts, kept, phones, numbers, replies, p);
+        p = answer_next(
+            image,
+            list,
+            sheet,
+            ends,
+            starts,
+            kept,
+            phones,
+            numbers,
+            replies,
+            p,
+        );
     }
     p.count
 }
