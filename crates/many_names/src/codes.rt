@@ -39,7 +39,7 @@ pub fn phones_given(speech: Speech) -> usize
             numbers: _,
             contested: _,
         } => phones,
-        Speech::Refused(_) => 0,
+        Speech::Refused(_) => 0, // a refused name takes no bytes
     }
 }
 
