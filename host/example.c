@@ -1,6 +1,6 @@
 /*
  * A small host: it asks the library for its version, reads a rule file, builds the tables, sets a letter class, adds a rule that uses it, writes the file back, lists
- * exceptions and speaks names, of one word or several, one at a time and many at once, with their contested letters. Since the
+ * exceptions and speaks names, of one word or several, one at a time, many at once and as a sheet, with their contested letters. Since the
  * addition the tables are old: the first name that needs them is refused, and they are built again. Built and run by host/build, or
  * by hand:
  *
@@ -225,6 +225,43 @@ static void speak_lot(struct lot *lot)
     lot->count = lot->used = 0;
 }
 
+/* All that a whole sheet can need beside the tables; zero as static memory is, and zero again after each call. */
+static uint16_t tree[PIRROZKETA_TREE];
+static uint32_t kept[PIRROZKETA_KEPT];
+
+/* Speaks the names that one sheet has room for together: what several of them begin with is looked up once. */
+static void speak_sheet(const char *const *typed, size_t many)
+{
+    static const char *listed[PIRROZKETA_SHEET_NAMES];
+    static uint8_t sheet[PIRROZKETA_SHEET_NAMES * (1 + LONGEST)];
+    static uint8_t phones[LOT * PIRROZKETA_PHONES];
+    static uint16_t numbers[PIRROZKETA_SHEET_NAMES * PIRROZKETA_NUMBERS];
+    static size_t replies[PIRROZKETA_SHEET_NAMES * PIRROZKETA_REPLY];
+    size_t count = 0, used = 0, length, place, steps, names, phone = 0, number = 0;
+    uint8_t code;
+    for (size_t k = 0; k < many && count < PIRROZKETA_SHEET_NAMES; k++) {
+        if (!letters(typed[k], sheet + used + 1, &length))
+            continue;
+        sheet[used] = (uint8_t)length;
+        used += 1 + length;
+        listed[count++] = typed[k];
+    }
+    code = pirrozketa_speak_sheet(image, sizeof image, list, PIRROZKETA_LIST, words, PIRROZKETA_WORDS, sets, PIRROZKETA_SETS,
+                                  sheet, used, phones, sizeof phones, numbers, sizeof numbers / sizeof *numbers, replies,
+                                  sizeof replies / sizeof *replies, tree, PIRROZKETA_TREE, kept, PIRROZKETA_KEPT, &place, &steps,
+                                  &names);
+    judge("speak sheet", code, place);
+    for (size_t k = 0; k < names; k++) {
+        const size_t *reply = replies + PIRROZKETA_REPLY * k;
+        print(listed[k], reply[0], reply[1], reply[2], reply[4], phones + phone, numbers + number);
+        if (PIRROZKETA_OK(reply[0])) {
+            phone += reply[1];
+            number += reply[2];
+        }
+    }
+    printf("%zu names, %zu steps\n", names, steps);
+}
+
 /* Puts a name into the lot, which is spoken when it is full. */
 static void take(struct lot *lot, const char *typed)
 {
@@ -258,5 +295,7 @@ int main(int argc, char **argv)
     for (int i = 2; i < argc; i++)
         take(&lot, argv[i]);
     speak_lot(&lot);
+    printf("a sheet of them:\n");
+    speak_sheet((const char *const *)argv + 2, (size_t)argc - 2);
     return 0;
 }

@@ -6,7 +6,7 @@
  * pirrozketa_list_names, pirrozketa_list_states) answers with a code: PIRROZKETA_ACCEPTED,
  * which is 255, or the number of the refusal, which may be 0. So test it by PIRROZKETA_OK(code), never as a
  * truth value; compilers warn where it is not looked at. A refusal has a place, and leaves all lent memory
- * as it was (a refused name among many has its reply written). The numbers that a call gives through
+ * as it was (a refused name among many, or on a sheet, has its reply written). The numbers that a call gives through
  * pointers are written in every case. What lies past the bytes, phones, numbers or words that a call gives
  * keeps its contents.
  *
@@ -37,19 +37,19 @@
  * rule means never changes while it is held; drop the rules, set the class, add them again. No call takes a class away;
  * pirrozketa_clear and pirrozketa_read_file leave none but those of the file. The boundary is in no class.
  *
- * LIST. A name on the exceptions list is said from it, by pirrozketa_speak, pirrozketa_speak_many and
- * pirrozketa_read_name alike; else each of its words that is listed is said from it, and only the other words go
+ * LIST. A name on the exceptions list is said from it, by pirrozketa_speak, pirrozketa_speak_many,
+ * pirrozketa_speak_sheet and pirrozketa_read_name alike; else each of its words that is listed is said from it, and only the other words go
  * by the rules. What is listed gives no rule numbers and takes no steps; where that is all of the name, the tables
  * are not looked at. A listed name may have spaces. A host without exceptions lends an empty list. A change of the
  * list needs no build. Every call that is lent a list, pirrozketa_list_clear apart, judges all of it each time, and
- * pirrozketa_speak_many once for its names; that takes longer the more is listed (docs/SPEED.md).
+ * pirrozketa_speak_many and pirrozketa_speak_sheet once for their names; that takes longer the more is listed (docs/SPEED.md).
  *
  * CONTESTED. At each letter that reading reaches, the first rule that fits is applied. Where more than one fits, the
  * letter is contested. The calls that speak a name count its contested letters, for those who write rules. Of a name that
  * was spoken, a count above 0 means that it leans on the order of the rules, and a rule that is moved may change its sound;
  * 0 means that the same rules in any order give the same phones. With a refusal the count is 0 as well and means nothing:
  * in another order the name may be spoken. What is said from the list reaches no letter and counts none. pirrozketa_read_name counts the
- * rules that fit. pirrozketa_speak and pirrozketa_speak_many count by the tables: a letter is contested where the sets of
+ * rules that fit. pirrozketa_speak, pirrozketa_speak_many and pirrozketa_speak_sheet count by the tables: a letter is contested where the sets of
  * its two states share more than one place. With the tables of the ruleset as it is, that is where more than one rule
  * fits; with others it need not be, since every shared place counts, of a rule that does not fit and past the rules too.
  *
@@ -60,7 +60,7 @@
  *     where the length is 0: to lend nothing, lend any array of the type with length 0.
  *   - A slice that a call writes (not const) overlaps no other slice of the call. Slices that it only reads
  *     (const) may overlap each other.
- *   - A pointer to a number that a call gives (place, bytes, given, applied, steps, contested, count) is NOT NULL, and
+ *   - A pointer to a number that a call gives (place, bytes, given, applied, steps, contested, count, names) is NOT NULL, and
  *     points into no slice of the call and to no other number that it gives.
  *
  * THREADS. No call allocates, keeps a pointer or has any state of its own, so calls may run at the same
@@ -79,6 +79,7 @@
  * which may be another than this header's; a host asks at its start:
  *     if (!PIRROZKETA_VERSION_FITS(pirrozketa_version())) ..
  * A library before 8.1 has no such call, and a host that asks does not link with it.
+ * 8.2 has pirrozketa_speak_sheet and its refusal 24; all else is as it was.
  * 8.1 has pirrozketa_version.
  * 8.0 has contexts of at most 4 symbols, 6 before, and so other sizes. What a host has to change:
  *   - A rule to add has 20 bytes (24 before; so many are refusal 6 now): its target starts at 8 (10 before), its right context at 12
@@ -103,7 +104,7 @@
  * the ruleset: call pirrozketa_read_file, look at its code, then pirrozketa_build.
  */
 #define PIRROZKETA_VERSION_MAJOR 8
-#define PIRROZKETA_VERSION_MINOR 1
+#define PIRROZKETA_VERSION_MINOR 2
 #define PIRROZKETA_VERSION (256 * PIRROZKETA_VERSION_MAJOR + PIRROZKETA_VERSION_MINOR)
 
 /* Whether a library of that version has all that this header tells: the same MAJOR, and no lower MINOR. */
@@ -151,11 +152,14 @@ enum {
     PIRROZKETA_PLACE = 7,         /* the place lies beyond the list; place 0 */
     PIRROZKETA_NO_NUMBER = 8,     /* no rule has the number; place 0 */
     PIRROZKETA_LAST_ISSUED = 10,  /* `last` is 65,535; place 0 */
-    PIRROZKETA_WORDS_ROOM = 11,   /* too few words lent for the tables; place: words needed */
-    PIRROZKETA_SETS_ROOM = 12,    /* too few set words lent; place: set words needed */
+    PIRROZKETA_WORDS_ROOM = 11,   /* too few words lent for the tables, or too few zero words for the tree of a sheet; place:
+                                     words needed */
+    PIRROZKETA_SETS_ROOM = 12,    /* too few set words lent, or too few zero words for the kept parts of a sheet; place: words
+                                     needed */
     PIRROZKETA_BAD_LINE = 13,     /* a line of the file is missing, not ended, no sound frame; place: its start */
     PIRROZKETA_BAD_TEXT = 14,     /* a sound line that breaks the file's rules, or bytes after the last; place: its start */
-    PIRROZKETA_FILE_ROOM = 15,    /* too few bytes lent for the file or the read-out; place: bytes needed */
+    PIRROZKETA_FILE_ROOM = 15,    /* too few bytes lent for the file or the read-out, or too few numbers for the replies to a
+                                     sheet; place: bytes or numbers needed */
     PIRROZKETA_BAD_TABLES = 16,   /* words and set words are no usable tables; place 0 */
     PIRROZKETA_BAD_LIST = 17,     /* the memory is no list; or the added name has no letters, or its phones are none,
                                      over 64, or one of them 00; place 0 */
@@ -167,6 +171,7 @@ enum {
     PIRROZKETA_FULL = 21,         /* over 512 literal rules after the addition; place 0 */
     PIRROZKETA_STALE_TABLES = 22, /* the tables have another edit count than the ruleset; place 0 */
     PIRROZKETA_EDITS_SPENT = 23,  /* the edit count is 4,294,967,295; place 0 */
+    PIRROZKETA_BAD_SHEET = 24,    /* the sheet has more than 256 names, or its last name is cut short; place 0 */
     PIRROZKETA_ACCEPTED = 255
 };
 
@@ -183,6 +188,7 @@ enum {
     PIRROZKETA_CLASS = 32,          /* letters of a class */
     PIRROZKETA_NAME = 64,           /* bytes of a name; a longer one is refusal 2 */
     PIRROZKETA_LISTED_PHONES = 64,  /* phones of a listed name */
+    PIRROZKETA_SHEET_NAMES = 256,   /* names of a sheet */
 
     /* A rule to add: the lengths of left context, target, right context and phones, 1 byte each, then these, from here on: */
     PIRROZKETA_LEFT_AT = 4,
@@ -192,7 +198,7 @@ enum {
 
     /* Exact sizes. */
     PIRROZKETA_RULE = PIRROZKETA_PHONES_AT + PIRROZKETA_RULE_PHONES,            /* 20: bytes of a rule to add */
-    PIRROZKETA_REPLY = 5,           /* numbers of a reply in pirrozketa_speak_many */
+    PIRROZKETA_REPLY = 5,           /* numbers of a reply in pirrozketa_speak_many and pirrozketa_speak_sheet */
 
     /* The least to lend. More may be lent, and is not looked at. */
     PIRROZKETA_IMAGE = 8 + PIRROZKETA_RULES * (2 + PIRROZKETA_RULE) + 8 * PIRROZKETA_CLASSES + 2 + 4 * PIRROZKETA_RULES,
@@ -213,7 +219,13 @@ enum {
     PIRROZKETA_NUMBERS = 64,        /* rules that one name can apply */
     PIRROZKETA_FILE = 15 + PIRROZKETA_CLASSES * (2 * (4 + PIRROZKETA_CLASS) + 1) + PIRROZKETA_RULES * (2 * (4 + PIRROZKETA_RULE) + 1),
                                     /* 27,439: bytes of the longest rule file: the head, then a line for each class and rule */
-    PIRROZKETA_READ_OUT = 130000    /* bytes of the longest read-out */
+    PIRROZKETA_READ_OUT = 130000,   /* bytes of the longest read-out */
+    PIRROZKETA_TREE = 4 * (PIRROZKETA_SHEET_NAMES * (PIRROZKETA_NAME + 1) + 2),
+                                    /* 66,568: words of 16 bits in which a sheet's prefixes are kept; for a sheet of fewer bytes,
+                                       n, 4 (n + 2) are enough */
+    PIRROZKETA_KEPT = PIRROZKETA_SHEET_NAMES * (PIRROZKETA_NAME + 1)
+                                    /* 16,640: words of 32 bits in which what was read of a sheet's names is kept; for a sheet of
+                                       fewer bytes, n, n are enough */
 };
 
 /*
@@ -388,6 +400,28 @@ uint8_t pirrozketa_speak_many(const uint8_t *image, size_t image_len, const uint
                               const uint8_t *names, size_t names_len, uint8_t *phones, size_t phones_len,
                               uint16_t *numbers, size_t numbers_len, size_t *replies, size_t replies_len,
                               size_t *count);
+
+/* Speaks the names of a sheet together, with the ruleset, the list and the tables checked once: up to PIRROZKETA_SHEET_NAMES
+   names, each after a byte that says its length, the last one whole. Their words share the left pass: a beginning that several of
+   them have, wherever they stand on the sheet, is looked up once. The reply to the k-th name stands at replies[5 k] as with
+   pirrozketa_speak_many, its steps 0; phones and numbers likewise follow those of the names before, and a refused name takes none.
+   So each name has the answer that pirrozketa_speak gives it in the room that the names before it left. *steps: the one count of
+   the sheet, of the words that are not listed: the different beginnings of # and the word, # alone among them, and for each word
+   its letters and one more. *names: how many names were answered, all of the sheet or none.
+   `tree` and `kept` are memory to work in, which must be ZERO in its first 4 (n + 2) and n words, where n is the sheet's bytes,
+   or PIRROZKETA_KEPT if that is less; it is zero again afterwards, whatever the answer is, so a host clears it once.
+   Refusals of the whole sheet, with which nothing is written, *steps and *names are 0 and *place is the place: 24 before all else; 0;
+   17; 11 for the tree, 12 for the kept parts, 15 for under 5 numbers a name for the replies, each with what is needed as place; then 16 or 22,
+   the first that a name alone would get; the others, 2, 1, 3, 4 and 5, stand in the name's own reply.
+   Take this call for names that begin alike, or where no name may be spoken by tables that fail at another; take pirrozketa_speak_many
+   for names that share little, for steps name by name, or without memory to work in (docs/SPEED.md). */
+PIRROZKETA_MUST_CHECK
+uint8_t pirrozketa_speak_sheet(const uint8_t *image, size_t image_len, const uint32_t *list, size_t list_len,
+                               const uint16_t *words, size_t words_len, const uint64_t *sets, size_t sets_len,
+                               const uint8_t *sheet, size_t sheet_len, uint8_t *phones, size_t phones_len,
+                               uint16_t *numbers, size_t numbers_len, size_t *replies, size_t replies_len,
+                               uint16_t *tree, size_t tree_len, uint32_t *kept, size_t kept_len, size_t *place,
+                               size_t *steps, size_t *names);
 
 #ifdef __cplusplus
 }

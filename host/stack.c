@@ -16,7 +16,8 @@ enum { LIMIT = 32768, STACK = 1 << 20, PAGE = 4096, PAINT = 0xA5, RULES = PIRROZ
 static uint8_t image[PIRROZKETA_IMAGE], copy[PIRROZKETA_IMAGE], file[PIRROZKETA_FILE];
 static uint32_t list[PIRROZKETA_LIST], full[PIRROZKETA_LIST];
 static uint8_t out[PIRROZKETA_READ_OUT], letters[PIRROZKETA_CLASS];
-static uint16_t words[PIRROZKETA_WORDS], numbers[PIRROZKETA_NUMBERS];
+static uint16_t words[PIRROZKETA_WORDS], numbers[PIRROZKETA_NUMBERS], tree[PIRROZKETA_TREE];
+static uint32_t kept[PIRROZKETA_KEPT];
 static uint64_t sets[PIRROZKETA_SETS];
 static uint8_t names[1 + PIRROZKETA_NAME], *name = names + 1, phones[PIRROZKETA_PHONES];
 static size_t place, given, applied, steps, contested, count, bytes, states, replies[PIRROZKETA_REPLY];
@@ -82,6 +83,13 @@ static uint8_t speak_many(void)
                                  PIRROZKETA_REPLY, &count);
 }
 
+static uint8_t speak_sheet(void)
+{
+    return pirrozketa_speak_sheet(image, sizeof image, list, PIRROZKETA_LIST, words, PIRROZKETA_WORDS, sets,
+                                  PIRROZKETA_SETS, names, sizeof names, phones, sizeof phones, numbers, PIRROZKETA_NUMBERS, replies,
+                                  PIRROZKETA_REPLY, tree, PIRROZKETA_TREE, kept, PIRROZKETA_KEPT, &place, &steps, &count);
+}
+
 static uint8_t set_class(void) { return pirrozketa_set_class(copy, sizeof copy, CLASS + 1, letters, sizeof letters, &place); }
 
 /* In this order: `add` has room after `drop`, `read_file` reads what `write_file` wrote, `build_least` needs the counts. */
@@ -91,7 +99,7 @@ static const struct { const char *name; uint8_t (*call)(void); } calls[] = {
     { "build", build }, { "build, least", build_least }, { "list_check", list_check }, { "list_names", list_names },
     { "list_states", list_states }, { "list_add", list_add }, { "list_read_out", list_read_out },
     { "list_remove", list_remove }, { "list_full", list_full }, { "list_clear", list_clear }, { "read_name", read_name },
-    { "speak", speak }, { "speak_many", speak_many }
+    { "speak", speak }, { "speak_many", speak_many }, { "speak_sheet", speak_sheet }
 };
 
 struct task { uint8_t (*call)(void); uint8_t code; };

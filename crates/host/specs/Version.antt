@@ -6,7 +6,7 @@ abbrev pub versionMajor : ℕ
 versionMajor = 8
 
 abbrev pub versionMinor : ℕ
-versionMinor = 1
+versionMinor = 2
 
 abbrev pub version : ℕ
 version = 256 * versionMajor + versionMinor

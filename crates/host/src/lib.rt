@@ -4,6 +4,7 @@ mod codes;
 mod given;
 pub mod lists;
 mod many;
+pub mod sheets;
 
 ghost use mathlib.Core.Path.{_≡_};
 ghost use Rattle.rules.specs.Refusals.{replyCode, replyPlace};
@@ -26,7 +27,7 @@ ghost use Rattle.host.specs.Version.{version};
 // Of this interface, as host/pirrozketa.h has it.
 const VERSION_MAJOR: u16 = 8;
 
-const VERSION_MINOR: u16 = 1;
+const VERSION_MINOR: u16 = 2;
 
 // The version of the library that is linked, which may be another than that of the host's header.
 #[no_mangle]
