@@ -55,7 +55,7 @@ def what_leaves_it():
               b"\x18" + four(ref.MONITOR_WORDS - 1) + two(0), storing_set(ref.MONITOR_SETS - 1, 0), b"\x1A" + four(0) + b"\1",
               b"\x1B" + four(0) + b"\1", b"\x1C", b"\x1D", lists.listing(b"\1", b"\x61"), lists.removal(b"\1"), lists.reading_out(),
               lists.showing(0, 1), lists.storing(0, 0), lists.EMPTYING, ASKING, ASKING + b"\0", b"\x28", b"\x28\x40\1", ASKING_EDITS,
-              counting(0), b"\x2B", b"\x03", b"\x1F"]
+              counting(0), b"\x2B", b"\x2C", b"\x03", b"\x1F"]
     bodies = [ASKING] + asked(refused + [b"\x1F"] + SIX + [BUILDING])       # before the first name
     for spoken in (walking(KNEE), plainly(b"\5")):
         bodies += asked([spoken] + refused + others + SIX + [BUILDING])

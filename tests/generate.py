@@ -19,6 +19,7 @@ import contested
 import contexts
 import lists
 import reference as ref
+import sheets
 import stale
 from reference import EMPTY, Numbered, Refusal, Rule, Ruleset, four, frame_line, two
 
@@ -402,13 +403,18 @@ class Source:
         return rules_hex, lines, answers
 
     def commands(self, held, alphabet):
-        """One command, or several that belong together: a name and the count of its contested letters, a change of the rules and new tables."""
+        """One command, or several that belong together: a name and the count of its contested letters, a sheet and what it left, a change of
+        the rules and new tables."""
         if self.chance(0.04):
             bodies = contested.sharing(self, held, self.name(held.ruleset()))
             if bodies:
                 return bodies
         if self.chance(0.2 if held.held.edits == ref.MAX_EDITS else 0.04):      # a spent count refuses all edits: leave it soon
             return stale.commands(self, held)
+        if self.chance(0.08) and held.listed is not ref.UNKNOWN:
+            rs = held.ruleset()
+            _, _, words, sets = ref.needed(rs) if ref.is_ruleset(rs) else (1, 1, 132, 16)
+            return sheets.commands(self, held, alphabet, lambda: self.name(rs), words, sets)
         body = self.command(held, alphabet)
         if body[0] in stale.CHANGING:
             return [body, *stale.renewed(self, held)]
@@ -574,7 +580,8 @@ def files():
 
 FIXED = {"say": {"short names": short_names, **files()},
          "monitor": {"long lines": long_lines, **conversations(contested.FIXED), **conversations(classes.FIXED), **conversations(contexts.FIXED),
-                     **conversations(stale.FIXED), "edit counts and files": lambda: conversation(stale.files, ref.SIX_FILE),
+                     **conversations(stale.FIXED), **conversations(sheets.FIXED),
+                     "edit counts and files": lambda: conversation(stale.files, ref.SIX_FILE),
                      "a number above last": lambda: conversation(refused_file, LOW_FILE),
                      "a long context in a file": lambda: conversation(refused_file, contexts.long_context_file()),
                      "the longest file": lambda: conversation(contexts.longest_file, ref.file_text(ref.longest_ruleset())),

@@ -61,6 +61,7 @@ MAX_LISTED_PHONES = 64
 MAX_STATES = 4_096
 LIST_UNITS = 35_886     # the list's memory, in units of 32 bits
 LONGEST_READ_OUT = MAX_LISTED * (1 + MAX_NAME + 1 + MAX_LISTED_PHONES)
+MAX_NAMES = 256         # names of a sheet
 
 
 class Rule(NamedTuple):
@@ -875,6 +876,59 @@ def shared_places(sets, left, right):
     return [64 * j + k for j in range(8) for k in range(64) if both[j] >> k & 1]
 
 
+# A whole transect (document 02, request 8) ---------------------------------------
+
+class Sheet(NamedTuple):
+    answers: tuple          # Spoken or a refusal for each name
+    steps: int              # of all names together
+
+
+def names_of(sheet):
+    """The names of a sheet, each behind its length; None where one is cut short or begins behind the 256th: refusal 24."""
+    names, at = [], 0
+    while at < len(sheet):
+        name = sheet[at + 1:at + 1 + sheet[at]]
+        if len(names) == MAX_NAMES or len(name) < sheet[at]:
+            return None
+        names.append(name)
+        at += 1 + len(name)
+    return names
+
+
+def table_words(name, listed):
+    """The words that a name alone would send through the tables; one refused with 2 or 1 has none."""
+    if name_refusal(name) or bytes(name) in listed.phones:
+        return []
+    return [word for word in words_of(name) if word.letters not in listed.phones]
+
+
+def sheet_steps(words):
+    """Left: the different beginnings of # and a word, each once. Right: each word from its last boundary to its first letter."""
+    beginnings = {word.framed[:length] for word in words for length in range(1, len(word.framed))}
+    return len(beginnings) + sum(len(word.letters) + 1 for word in words)
+
+
+def speak_sheet(rs, words, sets, sheet, phone_room, number_room, listed=NO_EXCEPTIONS):
+    """Sheet, or what refuses it whole: 24, 0, 17, the first 16 or 22 of a name. Each name is lent what those before it left."""
+    names = names_of(sheet)
+    if names is None:
+        return Refusal(24, 0)
+    if not is_ruleset(rs):
+        return Refusal(0, 0)
+    if listed is None:
+        return Refusal(17, 0)
+    answers = []
+    for name in names:
+        answer, _ = walk(rs, words, sets, name, phone_room, number_room, listed)
+        if isinstance(answer, Spoken):
+            phone_room -= len(answer.phones)
+            number_room -= len(answer.numbers)
+        elif answer.number in (16, 22):
+            return answer
+        answers.append(answer)
+    return Sheet(tuple(answers), sheet_steps([word for name in names for word in table_words(name, listed)]))
+
+
 # The programs --------------------------------------------------------------------
 
 def refusal_line(refusal):
@@ -884,6 +938,15 @@ def refusal_line(refusal):
 def spoken_line(spoken, steps):
     return frame_line(b"\x04" + two(steps) + two(len(spoken.phones)) + spoken.phones
                       + bytes([len(spoken.numbers)]) + b"".join(map(two, spoken.numbers)))
+
+
+def answer_line(answer, steps):
+    """As `say` prints it."""
+    return refusal_line(answer) if isinstance(answer, Refusal) else spoken_line(answer, steps)
+
+
+def walk_refusal_line(refusal, steps):
+    return frame_line(b"\x08" + two(steps) + bytes([refusal.number]) + four(refusal.place))
 
 
 UNSOUND = refusal_line(Refusal(13, 0))
@@ -919,8 +982,7 @@ def say_line(rs, built, line):
     body = sound(line) if line is not None else None
     if body is None or body[0] != 0x03:
         return UNSOUND
-    answer, steps = walk(rs, *built, body[1:], SAY_PHONES, SAY_NUMBERS)
-    return refusal_line(answer) if isinstance(answer, Refusal) else spoken_line(answer, steps)
+    return answer_line(*walk(rs, *built, body[1:], SAY_PHONES, SAY_NUMBERS))
 
 
 class Unspecified(Exception):
@@ -975,7 +1037,7 @@ class Monitor:
             return UNSOUND
         call, *sizes = command
         fixed = sum(sizes)
-        open_ended = call in (Monitor.add, Monitor.walk, Monitor.plain, Monitor.list_name, Monitor.unlist_name, Monitor.set_class)
+        open_ended = call in (Monitor.add, Monitor.walk, Monitor.plain, Monitor.list_name, Monitor.unlist_name, Monitor.set_class, Monitor.sheet)
         if len(body) - 1 < fixed or (not open_ended and len(body) - 1 != fixed):
             return UNSOUND
         fields, at = [], 1
@@ -1030,9 +1092,7 @@ class Monitor:
     def walk(self, word_room, set_room, phone_room, number_room, name):
         answer, steps = walk(self.ruleset(), self.words[:word_room], self.sets[:set_room], name,
                              min(phone_room, SAY_PHONES), min(number_room, SAY_NUMBERS), self.lent_list())
-        if isinstance(answer, Refusal):
-            return frame_line(b"\x08" + two(steps) + bytes([answer.number]) + four(answer.place))
-        return self.spoken(answer, steps)
+        return walk_refusal_line(answer, steps) if isinstance(answer, Refusal) else self.spoken(answer, steps)
 
     def plain(self, phone_room, number_room, name):
         answer = plain_reading(self.ruleset(), name, min(phone_room, SAY_PHONES),
@@ -1040,10 +1100,25 @@ class Monitor:
         return answer if isinstance(answer, Refusal) else self.spoken(answer, 0)
 
     def spoken(self, answer, steps):
-        self.phones[:len(answer.phones)] = answer.phones
-        self.numbers[:len(answer.numbers)] = answer.numbers
-        self.contested = answer.contested
+        self.given(answer)
         return spoken_line(answer, steps)
+
+    def given(self, *spoken):
+        """Phones and numbers follow one another; the count is that of the last name, or stays where none was spoken."""
+        phones = b"".join(answer.phones for answer in spoken)
+        numbers = [number for answer in spoken for number in answer.numbers]
+        self.phones[:len(phones)] = phones
+        self.numbers[:len(numbers)] = numbers
+        for answer in spoken:
+            self.contested = answer.contested
+
+    def sheet(self, word_room, set_room, phone_room, number_room, sheet):
+        answer = speak_sheet(self.ruleset(), self.words[:word_room], self.sets[:set_room], sheet,
+                             min(phone_room, SAY_PHONES), min(number_room, SAY_NUMBERS), self.lent_list())
+        if isinstance(answer, Refusal):
+            return walk_refusal_line(answer, 0)
+        self.given(*(each for each in answer.answers if isinstance(each, Spoken)))
+        return frame_line(b"\x06" + four(answer.steps) + two(len(answer.answers))) + b"".join(answer_line(each, 0) for each in answer.answers)
 
     def store_word(self, index, value):
         if index >= MONITOR_WORDS:
@@ -1143,7 +1218,7 @@ class Monitor:
         0x1E: (force, 2, 2, 2, 2), 0x1F: (clear,), 0x20: (list_name, 1), 0x21: (unlist_name,),
         0x22: (read_out, 4), 0x23: (show_read_out, 4, 1), 0x24: (clear_list,), 0x25: (lend_units, 4),
         0x26: (store_unit, 4, 4), 0x27: (show_contested,), 0x28: (set_class, 1),
-        0x29: (show_edits,), 0x2A: (store_edits, 4),
+        0x29: (show_edits,), 0x2A: (store_edits, 4), 0x2B: (sheet, 4, 4, 2, 2),
     }
 
 
@@ -1703,6 +1778,59 @@ def check_spent(check, six):
     check.equal("a file has no count", (file_text(spent), read_file(file_text(spent)).edits), (SIX_FILE, 0))
 
 
+def check_sheets(check, six):
+    """Sheets of names that begin alike, their steps counted by hand, and what refuses a sheet whole."""
+    words, sets = build(six, 644, 80)
+    listed = Exceptions({letters("knee"): b"\1\2", letters("eke nab"): b"\3"})
+    stale, no_set = six._replace(edits=9), Ruleset((Numbered(7, SIX_RULES[1]),), 6)
+    told = lambda *names: b"".join(bytes([len(name)]) + name for name in names)
+    typed = lambda text: told(*map(letters, text.split(",")))
+    knee, keen, nab = Spoken(b"\x6E\x69", (1, 6, 4), 2), Spoken(b"\x6B\x69\x6E", (2, 4, 6), 1), Refusal(3, 2)
+
+    def said(what, sheet, answers, steps, rooms=(256, 64), exceptions=NO_EXCEPTIONS, tables=(words, sets), rs=six):
+        check.equal(f"sheet, {what}", speak_sheet(rs, *tables, sheet, *rooms, exceptions), Sheet(tuple(answers), steps))
+
+    for what, text, answers, lefts, rights in [
+            ("one name", "knee", [knee], 5, 5), ("no letters", "", [Spoken(b"", ())], 1, 1), ("no letters twice", ",", [Spoken(b"", ())] * 2, 1, 2),
+            ("beginnings", "knee,keen,nab", [knee, keen, nab], 5 + 3 + 3, 5 + 5 + 4), ("equal names", "knee,knee", [knee] * 2, 5, 10),
+            ("not side by side", "knee,nab,keen,knee", [knee, nab, keen, knee], 5 + 3 + 3, 5 + 4 + 5 + 5),
+            ("a beginning of others", "kn,knee", [Spoken(b"\x6E", (1, 6), 1), knee], 5, 3 + 5),
+            ("words of several names", "e knee,knee", [Spoken(b"\x6E\x69", (3, 1, 6, 4), 3), knee], 1 + 1 + 4, 2 + 5 + 5),
+            ("words of no letters", " ,  ", [Spoken(b"", ())] * 2, 1, 5)]:
+        said(what, typed(text), answers, lefts + rights)
+    said("no names", b"", [], 0)
+    said("no names and no tables", b"", [], 0, tables=((), ()))
+    said("2 and 1 have no words", told(b"\5" * 65, letters("knee"), b"\5\x40"), [Refusal(2, 0), knee, Refusal(1, 1)], 10)
+    said("room for the first alone", typed("knee,knee"), [knee, Refusal(4, 2)], 15, (3, 64))
+    said("a refused name takes none", typed("keen,knee"), [Refusal(4, 3), knee], 8 + 10, (2, 64))
+    said("numbers left", typed("knee,keen,n"), [knee, Refusal(5, 3), Spoken(b"\x6E", (6,))], 5 + 3 + 1 + 12, (256, 4))
+    said("just enough", typed("knee,nab,keen"), [knee, nab, keen], 11 + 14, (5, 6))
+    said("a listed name", typed("knee,keen"), [Spoken(b"\1\2", ()), keen], 5 + 5, exceptions=listed)
+    said("a listed word", typed("knee keen,eke nab"), [Spoken(b"\1\2\x6B\x69\x6E", (2, 4, 6), 1), Spoken(b"\3", ())], 5 + 5, exceptions=listed)
+    said("listed names without tables", typed("knee,eke nab"), [Spoken(b"\1\2", ()), Spoken(b"\3", ())], 0, exceptions=listed, tables=((), ()))
+    said("2 and 1 without tables", told(b"\5" * 255, b"\0"), [Refusal(2, 0), Refusal(1, 0)], 0, tables=((), ()))
+    said("256 names", bytes(256), [Spoken(b"", ())] * 256, 1 + 256)
+
+    hurt = with_word(words, 4 + 64 + 14, 2), sets       # behind #, n leads out of the table
+    for what, got, wanted in [
+            ("24: 257 names", speak_sheet(six, words, sets, bytes(257), 0, 0), 24),
+            ("24: no bytes behind a length", speak_sheet(six, words, sets, typed("knee") + b"\1", 256, 64), 24),
+            ("24: a byte too few", speak_sheet(six, words, sets, typed("knee,keen")[:-1], 256, 64), 24),
+            ("24 before 0 and 17", speak_sheet(no_set, (), (), b"\1", 0, 0, None), 24),
+            ("0 before 17", speak_sheet(no_set, (), (), typed("knee"), 0, 0, None), 0),
+            ("17 before 16", speak_sheet(six, (), (), typed("knee"), 0, 0, None), 17),
+            ("0 of no names", speak_sheet(no_set, words, sets, b"", 0, 0), 0),
+            ("17 of no names", speak_sheet(six, words, sets, b"", 0, 0, None), 17),
+            ("16: no tables", speak_sheet(six, (), (), typed("knee"), 256, 64), 16),
+            ("22", speak_sheet(stale, words, sets, typed("knee"), 256, 64), 22),
+            ("22 behind listed names", speak_sheet(stale, words, sets, typed("knee,eke nab,nab"), 256, 64, listed), 22),
+            ("16 of a later name", speak_sheet(six, *hurt, typed("knee,keen,nab"), 256, 64), 16),
+            ("16 behind a name refused with 4", speak_sheet(six, *hurt, typed("knee,n"), 0, 0), 16),
+            ("16 at a letter", speak_sheet(six, words, array("Q", [1] * 80), typed("kn,ee"), 256, 64), 16)]:
+        check.equal("sheet, " + what, got, (wanted, 0))
+    said("nothing that leaves the tables", typed("knee,keen"), [knee, keen], 8 + 10, tables=hurt)
+
+
 def check_limits(check):
     """The documents' numbers, with those of the memory that a host lends, beside what follows here from the limits."""
     check.equal("state bounds", (MAX_LEFT_STATES, MAX_RIGHT_STATES), (2_049, 4_097))
@@ -1957,6 +2085,32 @@ def check_programs(check, six):
             ("build", "15FFFFFFFFFFFFFFFF", "0600010002"),
             ("walk", "16FFFFFFFFFFFFFFFF010000400B", "0400040001" + "6B" + "010001")]:
         check.equal("monitor, edits: " + what, held.answer(frame_line(bytes.fromhex(body))[:-1]), frame_line(bytes.fromhex(wanted)))
+    held = Monitor(SIX_FILE)
+    whole = "2B" + "FF" * 8 + "01000040"
+    for what, body, wanted in [
+            ("unbuilt", whole + "0105", ["0800001000000000"]),
+            ("no names", whole, ["06" + "00000000" + "0000"]),
+            ("a cut name", whole + "0205", ["0800001800000000"]),
+            ("fields cut short", whole[:-2], ["050D00000000"]),
+            ("read", "13", ["060006"]),
+            ("build", "15FFFFFFFFFFFFFFFF", ["0600020008"]),
+            ("knee, nab and keen", whole + "040B0E0505" + "030E0102" + "040B05050E",
+             ["06" + "00000019" + "0003", "04000000026E6903000100060004", "050300000002", "04000000036B696E03000200040006"]),
+            ("the count of the last", "27", ["0A01"]),
+            ("its phones", "1C", ["0A6E696B696E" + "EE" * 251]),
+            ("its numbers", "1D", ["0A000100060004000200040006" + "EEEE" * 58]),
+            ("less room", "2B" + "FF" * 8 + "00020040" + "010B" + "040B0E0505" + "010E",
+             ["06" + "0000000F" + "0003", "04000000016B010002", "050400000002", "04000000016E010006"]),
+            ("the count of the last spoken", "27", ["0A00"]),
+            ("none spoken", whole + "0140" + "0101", ["06" + "00000004" + "0002", "050100000000", "050300000001"]),
+            ("e", whole + "0105", ["06" + "00000004" + "0001", "040000000001" + "0003"]),
+            ("none spoken, a count before", whole + "0140", ["06" + "00000000" + "0001", "050100000000"]),
+            ("it stays", "27", ["0A01"]),
+            ("an edit", "1200010000", ["060006"]),
+            ("22", whole + "010E" + "0101", ["0800001600000000"]),
+            ("phones stay", "1C", ["0A6B6E6B696E" + "EE" * 251])]:
+        wanted = b"".join(frame_line(bytes.fromhex(line)) for line in wanted)
+        check.equal("monitor, sheets: " + what, held.answer(frame_line(bytes.fromhex(body))[:-1]), wanted)
     too_long = frame_line(bytes.fromhex("050200000000"))
     for digits, wanted in [(4_095, UNSOUND), (4_096, too_long), (4_097, UNSOUND), (4_098, UNSOUND)]:
         line = frame_line(b"\x17" + bytes(4) + b"\5" * (digits // 2 - 6))[:-1].ljust(digits, b"0")
@@ -1973,6 +2127,7 @@ def self_test():
     check_classes(check)
     check_list(check, six)
     check_stale(check, six)
+    check_sheets(check, six)
     check_limits(check)
     check_contexts(check)
     check_tables(check)

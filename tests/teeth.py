@@ -2,7 +2,7 @@
 """Does the comparison bite? Each planted fault in a copy of reference.py must show in some run, in the copy's own self-test where no
 program reaches it, or in conversations with lists stored over.
 
-    python3 tests/teeth.py [--count N] [--seed S]
+    python3 tests/teeth.py [--count N] [--seed S] [--only TEXT]
 """
 
 import argparse
@@ -91,8 +91,8 @@ FAULTS = [
     ("say's words", "SAY_WORDS = 32_768\n", "SAY_WORDS = 32_772\n", "say"),
     ("a refused read empties", "        return rs if isinstance(rs, Refusal) else self.edit(None, rs)\n",
      "        if isinstance(rs, Refusal):\n            self.hold(EMPTY)\n            return rs\n        return self.edit(None, rs)\n", "monitor"),
-    ("phones past the last cleared", "        self.phones[:len(answer.phones)] = answer.phones\n",
-     "        self.phones[:] = answer.phones.ljust(256, b'\\0')\n", "monitor"),
+    ("phones past the last cleared", "        self.phones[:len(phones)] = phones\n",
+     "        self.phones[:] = phones.ljust(256, b'\\0')\n", "monitor"),
     ("words past the needed cleared", "        self.words[:len(words)] = words\n",
      "        self.words[:len(words) + 1] = words + array('H', [0])\n", "monitor"),
     ("sets past the needed cleared", "        self.sets[:len(sets)] = sets\n",
@@ -163,14 +163,14 @@ FAULTS = [
      "            phones += listed.phones[word.letters]\n"
      "            contested += getattr(plain_word(Ruleset(tuple(Numbered(k, r) for k, r in enumerate(SIX_RULES, 1)), 6), word), 'contested', 0)\n",
      "monitor lists"),
-    ("no count of the walk", "        return self.spoken(answer, steps)\n",
-     "        return self.spoken(answer._replace(contested=self.contested), steps)\n", "monitor lists"),
+    ("no count of the walk", " else self.spoken(answer, steps)\n",
+     " else self.spoken(answer._replace(contested=self.contested), steps)\n", "monitor lists"),
     ("no count of the plain reading", " else self.spoken(answer, 0)\n",
      " else self.spoken(answer._replace(contested=self.contested), 0)\n", "monitor lists"),
     ("a listed name leaves the count", "        self.contested = answer.contested\n",
      "        self.contested = answer.contested if answer.numbers else self.contested\n", "monitor lists"),
-    ("a refused walk clears the count", "        if isinstance(answer, Refusal):\n            return frame_line(b\"\\x08\"",
-     "        if isinstance(answer, Refusal):\n            self.contested = 0\n            return frame_line(b\"\\x08\"", "monitor lists"),
+    ("a refused walk clears the count", "        return walk_refusal_line(answer, steps) if isinstance(answer, Refusal)",
+     "        self.contested = 0\n        return walk_refusal_line(answer, steps) if isinstance(answer, Refusal)", "monitor lists"),
     ("a refused reading clears the count", "        return answer if isinstance(answer, Refusal) else self.spoken(answer, 0)\n",
      "        self.contested = 0\n        return answer if isinstance(answer, Refusal) else self.spoken(answer, 0)\n", "monitor lists"),
     ("an edit clears the count", "        self.hold(rs)\n        return frame_line", "        self.hold(rs)\n        self.contested = 0\n        return frame_line",
@@ -394,6 +394,87 @@ FAULTS = [
     ("a word too many", "MONITOR_WORDS = ROWS", "MONITOR_WORDS = 1 + ROWS", "monitor alone"),
     ("a set word too many", "MONITOR_SETS = 8 * (", "MONITOR_SETS = 1 + 8 * (", "monitor alone"),
     ("a file of 27,438 bytes at most", "min(room, LONGEST_FILE)", "min(room, LONGEST_FILE - 1)", "monitor"),
+    # Sheets.
+    ("nothing shared", "    return len(beginnings) + ", "    return sum(len(word.letters) + 1 for word in words) + ", "monitor alone"),
+    ("shared with the word before alone", "    return len(beginnings) + ",
+     "    from os.path import commonprefix\n"
+     "    before = [b'', *(word.framed[:-1] for word in words)]\n"
+     "    beginnings = [1 for k, word in enumerate(words) for _ in range(len(word.letters) + 1 - len(commonprefix([before[k], before[k + 1]])))]\n"
+     "    return len(beginnings) + ", "monitor alone"),
+    ("shared within a name alone", "sheet_steps([word for name in names for word in table_words(name, listed)]))\n",
+     "sum(sheet_steps(table_words(name, listed)) for name in names))\n", "monitor alone"),
+    ("equal words alone are shared", "    return len(beginnings) + ", "    return sum(len(letters) + 1 for letters in {word.letters for word in words}) + ", "monitor alone"),
+    ("# shared by none", "    return len(beginnings) + ", "    return len(beginnings) + max(0, len(words) - 1) + ", "monitor alone"),
+    ("# not counted", "for length in range(1, len(word.framed))}\n", "for length in range(2, len(word.framed))}\n", "monitor alone"),
+    ("whole frames among the beginnings", "for length in range(1, len(word.framed))}\n", "for length in range(1, len(word.framed) + 1)}\n", "monitor alone"),
+    ("the empty beginning counted", "for length in range(1, len(word.framed))}\n", "for length in range(len(word.framed))}\n", "monitor alone"),
+    ("the right pass shared", "sum(len(word.letters) + 1 for word in words)\n", "sum(len(letters) + 1 for letters in {word.letters for word in words})\n", "monitor alone"),
+    ("endings shared", "sum(len(word.letters) + 1 for word in words)\n",
+     "len({word.framed[length:] for word in words for length in range(1, len(word.framed))})\n", "monitor alone"),
+    ("the left pass alone counted", "sum(len(word.letters) + 1 for word in words)\n", "0\n", "monitor alone"),
+    ("beginnings of listed words", "    return [word for word in words_of(name) if word.letters not in listed.phones]\n",
+     "    return words_of(name)\n", "monitor alone"),
+    ("words of listed names", " or bytes(name) in listed.phones:\n        return []\n", ":\n        return []\n", "monitor alone"),
+    ("words of names refused with 2 or 1", "    if name_refusal(name) or bytes(name) in", "    if bytes(name) in", "monitor alone"),
+    ("words of names refused with 1", "    if name_refusal(name) or bytes(name) in", "    if len(name) > MAX_NAME or bytes(name) in", "monitor alone"),
+    ("no words of names refused later", "    return Sheet(tuple(answers), sheet_steps([word for name in names for",
+     "    return Sheet(tuple(answers), sheet_steps([word for name, said in zip(names, answers) if isinstance(said, Spoken) for", "monitor alone"),
+    ("a refused name takes bytes", "        elif answer.number in (16, 22):\n",
+     "        elif answer.number == 4:\n            phone_room = 0\n        elif answer.number in (16, 22):\n", "monitor alone"),
+    ("a refused name takes numbers", "        elif answer.number in (16, 22):\n",
+     "        elif answer.number == 5:\n            number_room = 0\n        elif answer.number in (16, 22):\n", "monitor alone"),
+    ("a name without room ends the sheet", "        elif answer.number in (16, 22):\n",
+     "        elif answer.number in (4, 5):\n            answers += [answer] * (len(names) - len(answers))\n            break\n"
+     "        elif answer.number in (16, 22):\n", "monitor alone"),
+    ("16 of a later name answered singly", "        elif answer.number in (16, 22):\n", "        elif answer.number in (16, 22) and not answers:\n", "monitor alone"),
+    ("16 answered singly", "        elif answer.number in (16, 22):\n", "        elif answer.number == 22:\n", "monitor alone"),
+    ("22 answered singly", "        elif answer.number in (16, 22):\n", "        elif answer.number == 16:\n", "monitor alone"),
+    ("3 refuses the sheet", "        elif answer.number in (16, 22):\n", "        elif answer.number in (3, 16, 22):\n", "monitor alone"),
+    ("16 of names before one refused with 1", "        elif answer.number in (16, 22):\n",
+     "        elif answer.number in (16, 22) and not any(map(name_refusal, names)):\n", "monitor"),
+    ("all phones for each name", "            phone_room -= len(answer.phones)\n", "", "monitor alone"),
+    ("all numbers for each name", "            number_room -= len(answer.numbers)\n", "", "monitor alone"),
+    ("tables judged for every sheet", "    answers = []\n    for name in names:\n",
+     "    try:\n        judge_tables(rs, words, sets)\n    except Unusable as unusable:\n        return Refusal(unusable.number, 0)\n"
+     "    answers = []\n    for name in names:\n", "monitor alone"),
+    ("257 names", "        if len(names) == MAX_NAMES or", "        if len(names) > MAX_NAMES or", "monitor alone"),
+    ("255 names at most", "        if len(names) == MAX_NAMES or", "        if len(names) == MAX_NAMES - 1 or", "monitor alone"),
+    ("the first 256 names of more", "        if len(names) == MAX_NAMES or", "        if len(names) == MAX_NAMES:\n            break\n        if", "monitor alone"),
+    ("a cut name answered", " or len(name) < sheet[at]:\n", ":\n", "monitor alone"),
+    ("a cut name left out", " or len(name) < sheet[at]:\n            return None\n",
+     ":\n            return None\n        if len(name) < sheet[at]:\n            break\n", "monitor alone"),
+    ("a length without bytes left out", "    while at < len(sheet):\n        name", "    while at + (sheet[-1] > 0) < len(sheet):\n        name", "monitor"),
+    ("24 of a name of 65 bytes", " or len(name) < sheet[at]:\n", " or len(name) < sheet[at] or len(name) > MAX_NAME:\n", "monitor alone"),
+    ("24 of no names", "    if names is None:\n", "    if not names:\n", "monitor alone"),
+    ("24 after 0", "    if names is None:\n        return Refusal(24, 0)\n    if not is_ruleset(rs):\n        return Refusal(0, 0)\n",
+     "    if not is_ruleset(rs):\n        return Refusal(0, 0)\n    if names is None:\n        return Refusal(24, 0)\n", "monitor alone"),
+    ("24 after 17", "    if names is None:\n        return Refusal(24, 0)\n",
+     "    if names is None and is_ruleset(rs) and listed is None:\n        return Refusal(17, 0)\n    if names is None:\n        return Refusal(24, 0)\n",
+     "monitor"),
+    ("24 after 16", "    if names is None:\n        return Refusal(24, 0)\n",
+     "    if names is None and is_ruleset(rs) and listed is not None and len(words) < ROWS:\n        return Refusal(16, 0)\n"
+     "    if names is None:\n        return Refusal(24, 0)\n", "monitor"),
+    ("17 before 0 of a sheet", "        return Refusal(24, 0)\n    if not is_ruleset(rs):\n",
+     "        return Refusal(24, 0)\n    if listed is None:\n        return Refusal(17, 0)\n    if not is_ruleset(rs):\n", "monitor alone"),
+    ("24 with the names as its place", "        return Refusal(24, 0)\n", "        return Refusal(24, len(sheet))\n", "monitor alone"),
+    ("the steps of each name", "b\"\".join(answer_line(each, 0)", "b\"\".join(answer_line(each, answer.steps % 65536)", "monitor alone"),
+    ("steps in two bytes", "four(answer.steps) + two(", "two(answer.steps) + two(", "monitor alone"),
+    ("the spoken names counted", "+ two(len(answer.answers)))", "+ two(sum(isinstance(each, Spoken) for each in answer.answers)))", "monitor alone"),
+    ("a refused sheet with its steps", "            return walk_refusal_line(answer, 0)\n",
+     "            return walk_refusal_line(answer, 2 * len(sheet) if answer.number == 16 else 0)\n", "monitor alone"),
+    ("a refused sheet clears the count", "            return walk_refusal_line(answer, 0)\n",
+     "            self.contested = 0\n            return walk_refusal_line(answer, 0)\n", "monitor"),
+    ("a refused sheet writes what was said before", "            return walk_refusal_line(answer, 0)\n",
+     "            if answer.number == 16 and names_of(sheet)[0]:\n                self.phones[0] = 0x7F\n            return walk_refusal_line(answer, 0)\n", "monitor"),
+    ("phones of each name at the start", "        self.given(*(each for each in answer.answers if isinstance(each, Spoken)))\n",
+     "        for each in answer.answers:\n            if isinstance(each, Spoken):\n                self.given(each)\n", "monitor alone"),
+    ("the count of the whole sheet", "        for answer in spoken:\n            self.contested = answer.contested\n",
+     "        self.contested = min(255, sum(answer.contested for answer in spoken)) if spoken else self.contested\n", "monitor alone"),
+    ("the count of the first name", "        for answer in spoken:\n", "        for answer in spoken[:1]:\n", "monitor alone"),
+    ("a sheet without spoken names clears the count", "        for answer in spoken:\n", "        self.contested = 0\n        for answer in spoken:\n", "monitor alone"),
+    ("a sheet lent more than there is", "sheet,\n                             min(phone_room, SAY_PHONES), min(number_room, SAY_NUMBERS)",
+     "sheet,\n                             phone_room, min(number_room, SAY_NUMBERS)", "monitor"),
+    ("2B without lent numbers", "0x2B: (sheet, 4, 4, 2, 2)", "0x2B: (lambda self, *fields: self.sheet(*fields, 64, b''), 4, 4, 2)", "monitor alone"),
     # The exceptions list.
     ("a listed name by the rules", "    phones = listed.phones.get(bytes(name))\n", "    phones = None\n", "monitor lists"),
     ("a listed name by a walk with steps", "    if answer:\n        return answer, 0\n",
@@ -526,11 +607,14 @@ def main():
     parser = argparse.ArgumentParser(description=__doc__, formatter_class=argparse.RawDescriptionHelpFormatter)
     parser.add_argument("--count", type=int, default=300)
     parser.add_argument("--seed", type=int, default=1)
+    parser.add_argument("--only", metavar="TEXT", default="", help="only faults with this text in their name or their lines")
     given = parser.parse_args()
     counts = {kind: given.count // 10 if kind == "lists" else given.count for kind in generate.CASES}     # those are long
     cases = {kind: list(generate.runs(kind, count, given.seed)) for kind, count in counts.items()}
     passed = failed = 0
     for what, old, new, kinds in FAULTS:
+        if given.only not in what + old:
+            continue
         module = faulty(old, new)
         for kind in kinds.split():
             if kind == "alone":
