@@ -9,6 +9,7 @@ mod header;
 mod lists;
 mod paper;
 mod refusals;
+mod sheets;
 mod stale;
 mod threads;
 mod words;
@@ -25,7 +26,7 @@ type Case = fn(&mut Tally, &mut Random);
 
 pub fn fixed(tally: &mut Tally) {
     let random = &mut Random::new(1);
-    let cases: [(&str, Case); 13] = [
+    let cases: [(&str, Case); 14] = [
         ("the header's sizes", header::header),
         ("the paper's marks", paper::paper),
         ("the paper's refusals", refusals::refusals),
@@ -38,6 +39,7 @@ pub fn fixed(tally: &mut Tally) {
         ("letter classes", classes::classes),
         ("tables from before an edit", stale::stale),
         ("contexts of four", contexts::contexts),
+        ("sheets", sheets::sheets),
         ("threads", threads::threads),
     ];
     for (subject, case) in cases {

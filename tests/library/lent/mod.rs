@@ -7,6 +7,7 @@ mod files;
 pub mod lists;
 mod memory;
 mod names;
+mod sheets;
 mod tables;
 
 pub use edits::{add, check, clear, drop, edits, set_class, shift};
@@ -14,6 +15,7 @@ pub use files::{read_file, write_file};
 pub use lists::List;
 pub use memory::Lent;
 pub use names::{read_name, read_own_bytes, speak, speak_many, Heard, Room};
+pub use sheets::{speak_sheet, Work};
 pub use tables::{build, Compiled};
 
 use crate::reference::{Answer, ACCEPTED};
@@ -41,7 +43,7 @@ pub fn version() -> u16 {
 }
 
 /// The codes that the header names with each call, in rising order.
-pub const NAMED: [(&str, &[u8]); 18] = [
+pub const NAMED: [(&str, &[u8]); 20] = [
     ("clear", &[0, 255]),
     ("check", &[0, 255]),
     ("add", &[0, 6, 7, 10, 20, 21, 23, 255]),
@@ -60,4 +62,6 @@ pub const NAMED: [(&str, &[u8]); 18] = [
     ("speak", &[0, 1, 2, 3, 4, 5, 16, 17, 22, 255]),
     ("speak_many", &[0, 17, 255]),
     ("speak_many's reply", &[1, 2, 3, 4, 5, 16, 22, 255]),
+    ("speak_sheet", &[0, 11, 12, 15, 16, 17, 22, 24, 255]),
+    ("speak_sheet's reply", &[1, 2, 3, 4, 5, 255]),
 ];

@@ -34,12 +34,12 @@ impl Room {
         (self.phones.contents(), self.numbers.contents())
     }
 
-    fn want(&mut self, phones: &[u8], numbers: &[u16]) {
+    pub fn want(&mut self, phones: &[u8], numbers: &[u16]) {
         self.phones.want(phones);
         self.numbers.want(numbers);
     }
 
-    fn check(&self, tally: &mut Tally, call: &str) {
+    pub fn check(&self, tally: &mut Tally, call: &str) {
         self.phones.check(tally, &format!("{call}'s phones"));
         self.numbers.check(tally, &format!("{call}'s numbers"));
     }
@@ -67,7 +67,7 @@ pub struct Heard {
 }
 
 /// The ruleset and the list that are lent; 0 comes before 17, and both before all else.
-fn judged<'a>(image: &Lent<u8>, list: &'a List) -> Answer<(Ruleset, &'a Exceptions)> {
+pub fn judged<'a>(image: &Lent<u8>, list: &'a List) -> Answer<(Ruleset, &'a Exceptions)> {
     match (layout::decode(image.contents()), list.held()) {
         (None, _) => refuse(0, 0),
         (_, None) => refuse(17, 0),

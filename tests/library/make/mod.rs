@@ -6,4 +6,5 @@ pub mod images;
 pub mod lists;
 pub mod names;
 pub mod rules;
+pub mod sheets;
 pub mod tables;

@@ -1,6 +1,6 @@
 //! Ways to make the reference wrong on purpose, to see that the trials notice: the paper's "Ways to be
 //! wrong that pass a short trial", two more, and ways to mistake the exceptions list and its memory, names of
-//! several words, contested letters, letter classes, the edit count and the limit of contexts.
+//! several words, contested letters, letter classes, the edit count, the limit of contexts and sheets.
 
 use std::sync::OnceLock;
 
@@ -130,6 +130,44 @@ pub enum Break {
     BoundaryUncounted,
     /// A context has one symbol less than it may have.
     ShortContexts,
+    /// The words of a sheet share the left pass with the word before alone.
+    SharedBefore,
+    /// They share # alone.
+    Unshareable,
+    /// They do not share #.
+    BoundaryUnshared,
+    /// Equal words of a sheet share the right pass.
+    EqualOnce,
+    /// The listed words of a sheet count too.
+    ListedPassed,
+    /// The words of a sheet's refused names do not count.
+    RefusedUnpassed,
+    /// The replies of a sheet have their steps.
+    SheetSteps,
+    /// A name of a sheet that is refused with 4 takes all that is left.
+    RefusedTakes,
+    /// 16 of a sheet's later names is answered singly.
+    LaterSingly,
+    /// 22 of a sheet's names is answered singly.
+    StaleSingly,
+    /// The tables are judged for every sheet.
+    SheetJudged,
+    /// A sheet may have one name more.
+    MoreNames,
+    /// A sheet ends at a name that is cut short.
+    CutLeft,
+    /// 24 comes after 0 and 17.
+    SheetLate,
+    /// The memory to work in is judged before the ruleset and the list.
+    WorkFirst,
+    /// The memory to work in may hold anything.
+    AnyBlank,
+    /// All that is lent to work in must be zero.
+    AllBlank,
+    /// A sheet longer than any of sound names needs more to work in.
+    LongSheet,
+    /// A sheet with room for fewer replies is not refused.
+    RepliesCut,
     /// Memory in which a free word is not 0 is no list.
     FreeWords,
     /// Memory that has all cells is a list, however short.
@@ -154,7 +192,7 @@ pub enum Break {
     ZeroPhone,
 }
 
-pub const BREAKS: [(&str, Break); 73] = [
+pub const BREAKS: [(&str, Break); 92] = [
     ("early", Break::Early),
     ("longest", Break::Longest),
     ("inside", Break::Inside),
@@ -217,6 +255,25 @@ pub const BREAKS: [(&str, Break); 73] = [
     ("long-right-held", Break::LongRightHeld),
     ("boundary-uncounted", Break::BoundaryUncounted),
     ("short-contexts", Break::ShortContexts),
+    ("shared-before", Break::SharedBefore),
+    ("unshareable", Break::Unshareable),
+    ("boundary-unshared", Break::BoundaryUnshared),
+    ("equal-once", Break::EqualOnce),
+    ("listed-passed", Break::ListedPassed),
+    ("refused-unpassed", Break::RefusedUnpassed),
+    ("sheet-steps", Break::SheetSteps),
+    ("refused-takes", Break::RefusedTakes),
+    ("later-singly", Break::LaterSingly),
+    ("stale-singly", Break::StaleSingly),
+    ("sheet-judged", Break::SheetJudged),
+    ("more-names", Break::MoreNames),
+    ("cut-left", Break::CutLeft),
+    ("sheet-late", Break::SheetLate),
+    ("work-first", Break::WorkFirst),
+    ("any-blank", Break::AnyBlank),
+    ("all-blank", Break::AllBlank),
+    ("long-sheet", Break::LongSheet),
+    ("replies-cut", Break::RepliesCut),
     ("free-words", Break::FreeWords),
     ("short-list", Break::ShortList),
     ("later-successor", Break::LaterSuccessor),

@@ -1,11 +1,12 @@
 //! Many names in one call, as the header tells it.
 
 use super::exceptions::Exceptions;
+use super::reading::Said;
 use super::ruleset::Ruleset;
 use super::walk::walk;
-use super::ACCEPTED;
+use super::{Answer, ACCEPTED};
 
-#[derive(Default)]
+#[derive(Default, Debug)]
 pub struct Many {
     pub phones: Vec<u8>,
     pub numbers: Vec<u16>,
@@ -14,6 +15,26 @@ pub struct Many {
 
 /// Code, phones given or place, numbers given, steps, contested letters.
 pub const REPLY: usize = 5;
+
+impl Many {
+    /// What the names so far leave of so many phones and numbers.
+    pub fn left(&self, phones_lent: usize, numbers_lent: usize) -> (usize, usize) {
+        (phones_lent - self.phones.len(), numbers_lent - self.numbers.len())
+    }
+
+    /// One name more is answered.
+    pub fn answer(&mut self, answer: Answer<Said>, steps: usize) {
+        match answer {
+            Ok(said) => {
+                let (phones, numbers) = (said.phones.len(), said.numbers.len());
+                self.replies.extend([ACCEPTED as usize, phones, numbers, steps, said.contested]);
+                self.phones.extend(said.phones);
+                self.numbers.extend(said.numbers);
+            }
+            Err(refused) => self.replies.extend([refused.number as usize, refused.place, 0, steps, 0]),
+        }
+    }
+}
 
 /// Each name is lent what the names before it left of the phones and numbers.
 pub fn speak_many(
@@ -35,19 +56,9 @@ pub fn speak_many(
         }
         let (name, following) = after.split_at(length as usize);
         rest = following;
-        let (phones_left, numbers_left) =
-            (phones_lent - many.phones.len(), numbers_lent - many.numbers.len());
-        match walk(set, list, words, sets, name, phones_left, numbers_left) {
-            (Ok(said), steps) => {
-                let (phones, numbers) = (said.phones.len(), said.numbers.len());
-                many.replies.extend([ACCEPTED as usize, phones, numbers, steps, said.contested]);
-                many.phones.extend(said.phones);
-                many.numbers.extend(said.numbers);
-            }
-            (Err(refused), steps) => {
-                many.replies.extend([refused.number as usize, refused.place, 0, steps, 0]);
-            }
-        }
+        let (phones_left, numbers_left) = many.left(phones_lent, numbers_lent);
+        let (answer, steps) = walk(set, list, words, sets, name, phones_left, numbers_left);
+        many.answer(answer, steps);
     }
     many
 }

@@ -14,6 +14,7 @@ pub mod many;
 pub mod reading;
 pub mod rule;
 pub mod ruleset;
+pub mod sheet;
 pub mod tables;
 pub mod walk;
 

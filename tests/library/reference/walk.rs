@@ -98,7 +98,7 @@ fn spoken(
 }
 
 /// 16 where the words and set words are too few for their L and R, or one of these is zero.
-fn usable(words: &[u16], sets: &[u64]) -> Answer<()> {
+pub fn usable(words: &[u16], sets: &[u64]) -> Answer<()> {
     let &[_, _, left, right, ..] = words else {
         return refuse(16, 0);
     };

@@ -7,6 +7,7 @@ mod files;
 mod full_lists;
 mod lists;
 mod many;
+mod sheets;
 mod tables;
 mod walks;
 
@@ -15,7 +16,7 @@ use crate::tally::Tally;
 
 type Trial = fn(&mut Tally, &mut Random);
 
-const TRIALS: [(&str, Trial); 11] = [
+const TRIALS: [(&str, Trial); 12] = [
     ("edits", edits::edits),
     ("images", edits::images),
     ("files", files::files),
@@ -27,6 +28,7 @@ const TRIALS: [(&str, Trial); 11] = [
     ("lists", lists::changes),
     ("full lists", full_lists::full),
     ("damaged lists", damaged_lists::damaged),
+    ("sheets", sheets::sheets),
 ];
 
 /// A round has a seed of its own, so that it can be repeated alone.
