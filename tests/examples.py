@@ -1,7 +1,7 @@
 #!/usr/bin/env python3
 """The example rulesets: the .hex files are what their readable sources say, and each name sounds
 as its .names file says, by plain reading and by walk; with letter classes and written out alike. The
-examples of docs/MONITOR.md: one conversation, answered as it stands there. The tools' limits are those of
+example sheet takes the steps that it says. The examples of docs/MONITOR.md: one conversation, answered as it stands there. The tools' limits are those of
 the reference."""
 
 import os
@@ -89,6 +89,19 @@ def check_classes(check, alphabets):
                 (alphabets["basque"].letters, alphabets["basque"].phones))
 
 
+def check_sheet(check, name, alphabet):
+    """A sheet: each name sounds as it says there, and the steps of all together and one by one are those that it tells."""
+    rs, given = check_names(check, name, alphabet, name + ".sheet")
+    words, sets = ref.build(rs, ref.SAY_WORDS, ref.SAY_SETS)
+    names = [alphabet.name(typed) for typed in given]
+    said = ref.speak_sheet(rs, words, sets, b"".join(bytes([len(each)]) + each for each in names), 256 * len(names), 64 * len(names))
+    check.equal(name + ".sheet is spoken", isinstance(said, ref.Sheet), True)
+    check.equal(name + ".sheet, as one by one", [(each.phones, each.contested) for each in said.answers], list(given.values()))
+    singly = sum(ref.walk(rs, words, sets, each, 256, 64)[1] for each in names)
+    told = f"; {len(names)} names: {said.steps} steps together, {singly} one by one"
+    check.equal(name + ".sheet tells its steps", example_text(name + ".sheet").splitlines()[1], told)
+
+
 def main():
     check = ref.Check()
     check.equal("the limits of the tools", tuple(ruletext.LIMITS.values()), ref.ROOMS)
@@ -99,6 +112,7 @@ def main():
         check.equal(name + ".hex is its source's", example(name + ".hex"), ruletext.rule_file(rules, alphabets[name].classes))
     check.equal("six.hex", example("six.hex"), ref.SIX_FILE)
     check_classes(check, alphabets)
+    check_sheet(check, "basque", alphabets["basque"])
     check_names(check, "silent_e", alphabets["silent_e"], "silent_e.names")
     print(f"{check.passed} passed, {check.failed} failed")
     return 1 if check.failed else 0

@@ -80,6 +80,15 @@ FILES = {       # in the folder that the tools are called in
     "places.sh": fake_monitor("0800080300000003", "0A02"),
     "speaks.sh": fake_monitor("0400080000010006", "0A00"),
     "answers.sh": fake_monitor("0800080300000002", "06"),
+    "some.sheet": "knee ; a joint\n\nnab\n_\n".encode(),
+    "latin.sheet": "knee\nça\n".encode(),
+    "long.sheet": b"k" * 256,
+    "spoken.sh": b"printf '255 0 20 3 26\\n255 2 2 110 105 3 1 6 4\\n3 2\\n255 0 0 0\\n'\n",
+    "bytes.sh": b"printf '255 0 %d 3 0\\n3 1\\n3 1\\n3 1\\n' $(od -An -tu1 | tr -d ' ')\n",
+    "refused.sh": b"echo 24 0 0 0 0\n",
+    "lines.sh": b"echo 13 38\n",
+    "few.sh": b"printf '255 0 20 2 26\\n3 2\\n3 2\\n'\n",
+    "fails.sh": b"exit 3\n",
 }
 
 
@@ -231,6 +240,26 @@ def contested(tools):
                  err="speak: 1 answers to 1 names and their counts\n")
 
 
+def sheets(tools):
+    """A file of names as one sheet, by programs that tell numbers: what tools/sheet.c tells, tests/sheet_tool.py tries."""
+    sheet = lambda program, name="some.sheet": ["speak.py", "--sheet", name, "--program", f"sh {program}"]
+    tools.expect(sheet("spoken.sh"), 0, KNEE.replace(", 10 steps", "") + NAB + "_ -> nothing by no rules\n3 names: 20 steps together, 26 one by one\n")
+    # Lengths before letters: the numbers are the sheet's own bytes.
+    refused = "refused 3 at 1: no rule fits the letter at that position\n"
+    tools.expect(sheet("bytes.sh"), 0, f"knee -> {refused}nab -> {refused}_ -> {refused}3 names: 411145531412163 steps together, 0 one by one\n")
+    tools.expect(sheet("refused.sh"), 0, "the sheet -> refused 24 at 0: the sheet has more than 256 names, or its last name is cut short\n")
+    tools.expect(sheet("lines.sh"), 2, err=f"speak: {programs.example('six.hex')}: refused 13 at 38: {UNSOUND} (line 3)\n")
+    tools.expect(sheet("few.sh"), 1, err="speak: 2 answers to 3 names\n")
+    tools.expect(sheet("fails.sh"), 1, err="speak: the program ended with 3\n")
+    tools.expect(sheet("spoken.sh", "missing"), 2, err="speak: missing: No such file or directory\n")
+    tools.expect(sheet("spoken.sh", "latin.sheet"), 2, err="speak: ça: no letter for 'ç' (U+00E7 LATIN SMALL LETTER C WITH CEDILLA)\n")
+    tools.expect(sheet("spoken.sh", "long.sheet"), 2, err=f"speak: {'k' * 256}: a length has one byte\n")
+    for more in (["knee"], ["--names", "some.names"], ["--contested"]):
+        status, out, err = tools.run(sheet("spoken.sh") + more)
+        tools.compare(more, (status, out, err.splitlines()[-1]),
+                      (2, "", "speak.py: error: --sheet takes no other names, and does not show contested letters"))
+
+
 def rule_texts(tools):
     """Every rule of the examples, printed and typed again, is the same rule."""
     for name in ("six", "basque", "basque_classes", "silent_e"):
@@ -322,7 +351,8 @@ def monitor(tools):
             ("show readout 2 255", "2300000002FFDC"), ("clear list", "24DC"), ("lend 35885", "2500008C2D22"), ("lend all", "25FFFFFFFFDF"),
             ("store unit 1 0xFF", "2600000001000000FFDA"), ("contested", "27D9"), ("repeat 2 remove @", "210101DD\n210102DC"),
             ("repeat 1 exception @@ = @61", "20040101010101016175"), ("class \\40 a e", "2840010592"), ("class \\40", "284098"),
-            ("class k ba", "280B0201CA"), ("edits", "29D7"), ("edits 0", "2A00000000D6"), ("edits 0x10002", "2A00010002D3"), ("add 0 \\40 [k] = 61", "10000001010001400B6141")]:
+            ("class k ba", "280B0201CA"), ("sheet knee,n", "2BFFFFFFFFFFFFFFFF01000040040B0E0505010E66"), ("sheet", "2BFFFFFFFFFFFFFFFF010000409C"),
+            ("sheet k n , words=1 sets=2 phones=3 numbers=4", "2B000000010000000200030004030B3F0E0070"), ("edits", "29D7"), ("edits 0", "2A00000000D6"), ("edits 0x10002", "2A00010002D3"), ("add 0 \\40 [k] = 61", "10000001010001400B6141")]:
         tools.expect(["monitor.py", "--frames"], 0, frames + "\n", given=text.encode())
     tools.expect(["monitor.py"], 0, "> exception k n = 61\ndone, names 1, states 4\n> exception \\1D = 6263\ndone, names 2, states 5\n"
                                     "> exceptions\nk n = 61\n\\1D = 62 63\n> plain k_n\n61 by no rules, 0 steps\n"
@@ -356,6 +386,15 @@ def monitor(tools):
                  "> show words 0 4\n0: FFFF FFFF 0002 0008\n> say kn\n6E by rules 1 6, 6 steps\n"
                  "> drop 1\nrefused 23 at 0: the last edit count, 4,294,967,295, is reached\n> clear\ndone\n> edits\nedit count 0\n",
                  given=b"read\nbuild\nedits\nmove 1 0\nedits\nsay kn\nedits 0xFFFFFFFF\nbuild\nshow words 0 4\nsay kn\ndrop 1\nclear\nedits\n")
+    tools.expect(["monitor.py", "--rules", "six.hex"], 0,
+                 "> read\ndone, last 6\n> build\ndone, 2 left and 8 right states, 644 words, 80 set words\n> sheet knee, nab, eke knee\n"
+                 "done, 29 steps, 3 names\n6E 69 by rules 1 6 4\nrefused 3 at 2: no rule fits the letter at that position\n"
+                 "65 6B 6E 69 by rules 5 2 3 1 6 4\n> contested\n3 contested\n> sheet knee, knee phones=3\ndone, 15 steps, 2 names\n"
+                 "6E 69 by rules 1 6 4\nrefused 4 at 2: more phones than the lent bytes hold\n> sheet\ndone, 0 steps, 0 names\n"
+                 "> sheet knee words=3\nrefused 16 at 0: the tables are unusable (0 steps)\n"
+                 "> frame 2B FFFFFFFF FFFFFFFF 0100 0040 01\nrefused 24 at 0: the sheet has more than 256 names, or its last name is cut short (0 steps)\n",
+                 given=b"read\nbuild\nsheet knee, nab, eke knee\ncontested\nsheet knee, knee phones=3\nsheet\nsheet knee words=3\n"
+                       b"frame 2B FFFFFFFF FFFFFFFF 0100 0040 01\n")
     tools.expect(["monitor.py", "--rules", os.path.join(tools.root, "examples", "basque.hex")], 0,
                  "> exception ñ = 61\ndone, names 1, states 2\n> exceptions\nñ = 61 [a]\n", given="exception ñ = 61\nexceptions\n".encode())
     names = "".join(f"{letter}{letter}{letter} = 61 62 63\n" for letter in "abcdefghijklmnopqrstuvwxyz")
@@ -375,7 +414,7 @@ def monitor(tools):
                         ("set_class \\40 a", "unknown command set_class: see help"), ("add 0 [k] <v> = 61", "no class <v> is defined above"),
                         ("exception knee 61", "write exception NAME = PHONES"),
                         ("exception k = 6", "'6' is not bytes in hexadecimal, two digits each"),
-                        (f"exception {'k' * 256} = 61", "a length has one byte"), ("clear all", "clear or clear list"),
+                        (f"exception {'k' * 256} = 61", "a length has one byte"), (f"sheet k,{'k' * 256}", "a length has one byte"), ("clear all", "clear or clear list"),
                         ("lend some", "'some' is no number"), ("lend 4294967296", "4294967296 does not fit into 4 bytes"),
                         ("store list 0 0", "store word, store set or store unit"), ("exceptions now", "exceptions has other fields: see help"),
                         ("contested knee", "contested has other fields: see help"), ("edits 1 2", "edits has other fields: see help"),
@@ -515,7 +554,7 @@ def main():
             with open(os.path.join(folder, name), "wb") as file:
                 file.write(data)
         tools = Tools(ROOT, folder)
-        for part in (names, rule_files, contested, rule_texts, readable_rules, monitor, typed_names, terminal, time_left):
+        for part in (names, rule_files, contested, sheets, rule_texts, readable_rules, monitor, typed_names, terminal, time_left):
             part(tools)
         print(f"tools: {tools.passed + proving(other)} passed")
 

@@ -41,6 +41,11 @@ def only_lent(typed, **defaults):
     return lent
 
 
+def sheet_names(typed):
+    """The names of a sheet as typed, with commas between them."""
+    return [name.strip() for name in " ".join(typed).split(",")] if typed else []
+
+
 class Commands:
     """One method a command: its words to the bytes of its frame."""
 
@@ -84,6 +89,11 @@ class Commands:
     def plain(self, *typed):
         name, (phones, numbers) = lent_of(typed, phones=256, numbers=64)
         return b"\x17" + two(phones) + two(numbers) + self.alphabet.name(" ".join(name))
+
+    def sheet(self, *typed):
+        names, (room, set_room, phones, numbers) = lent_of(typed, words=ALL, sets=ALL, phones=256, numbers=64)
+        return (b"\x2B" + four(room) + four(set_room) + two(phones) + two(numbers)
+                + frames.sheet_of([self.alphabet.name(name) for name in sheet_names(names)]))
 
     def store(self, what, index, value):
         if what == "word":

@@ -2,7 +2,7 @@
 
 import re
 
-from inputs import Failure
+from inputs import Failure, Mistake
 
 REFUSALS = {
     0: "this is no ruleset: over 512 rules, classes written out, a broken shape or class, or numbers equal or outside 1 to last",
@@ -28,6 +28,7 @@ REFUSALS = {
     21: "there would be over 512 rules, classes written out",
     22: "the tables are from before an edit of the rules",
     23: "the last edit count, 4,294,967,295, is reached",
+    24: "the sheet has more than 256 names, or its last name is cut short",
 }
 
 
@@ -122,11 +123,28 @@ def spoken_of(body):
     return number_of(body[1:3]), phones, [number_of(rest[k:k + 2]) for k in range(1, len(rest), 2)]
 
 
-def spoken_text(body, alphabet):
-    steps, phones, numbers = spoken_of(body)
+def said_text(phones, numbers, alphabet):
     said = phones_text(phones, alphabet) or "nothing"
     by = {0: "no rules", 1: "rule "}.get(len(numbers), "rules ") + " ".join(map(str, numbers))
-    return f"{said} by {by}, {steps} steps"
+    return f"{said} by {by}"
+
+
+def spoken_text(body, alphabet):
+    steps, phones, numbers = spoken_of(body)
+    return f"{said_text(phones, numbers, alphabet)}, {steps} steps"
+
+
+def sheet_of(names):
+    """The bytes of a sheet: each name behind its length."""
+    if any(len(name) > 255 for name in names):
+        raise Mistake("a length has one byte")
+    return b"".join(bytes([len(name)]) + name for name in names)
+
+
+def sheet_text(line, alphabet):
+    """A line that answers a name of a sheet, in words; the steps are the sheet's."""
+    body = body_of(line)
+    return said_text(*spoken_of(body)[1:], alphabet) if body[0] == 0x04 else refusal_text(*refusal_of(line))
 
 
 def answer_text(line, alphabet):

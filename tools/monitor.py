@@ -9,6 +9,7 @@
     write [bytes=N]               build [words=N] [sets=N]
     say NAME [words=N] [sets=N] [phones=N] [numbers=N]      the walk through the tables
     plain NAME [phones=N] [numbers=N]                       the plain reading
+    sheet NAME, NAME, .. [words=N] [sets=N] [phones=N] [numbers=N]      a whole transect by walk: names that begin alike share steps
     contested                     how many letters of the last name spoken were contested: more than one rule fits there
     store word INDEX VALUE        store set INDEX VALUE
     show words INDEX COUNT        show sets INDEX COUNT
@@ -83,6 +84,8 @@ def done_text(kind, data):
     fields = [number_of(data[k:k + 2]) for k in range(0, len(data), 2)]
     if kind == 0x22:
         return f"done, {number_of(data)} bytes"
+    if kind == 0x2B:
+        return f"done, {number_of(data[:4])} steps, {number_of(data[4:])} names"
     if len(fields) == 2 and kind == 0x15:
         lefts, rights = fields
         states = lefts + rights
@@ -141,6 +144,9 @@ def converse(child, text, alphabet):
     if text == "exceptions" and answer.startswith(b"06"):
         asked = commands.read_out_lines(number_of(frames.body_of(answer)[1:]))
         return listed_text(b"".join(frames.body_of(exchanged(child, line))[1:] for line in asked), alphabet)
+    if text.split()[0] == "sheet" and answer.startswith(b"06"):
+        count = number_of(frames.body_of(answer)[5:])
+        return "\n".join([answer_text(sent, answer, alphabet), *(frames.sheet_text(answer_line(child), alphabet) for _ in range(count))])
     if not answer.startswith(b"01"):
         return answer_text(sent, answer, alphabet)
     return (answer + rest_of_file(child)).decode().rstrip("\n")

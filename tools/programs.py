@@ -11,6 +11,7 @@ import progress
 from inputs import Failure, Mistake
 
 ROOT = os.path.dirname(os.path.dirname(os.path.realpath(__file__)))
+LIBRARY = "host"    # the crate that is no program
 PATIENCE = 5        # seconds; what was proved before is looked through in one
 
 
@@ -19,8 +20,8 @@ def example(name):
 
 
 def built(name):
-    """Where a checked program is linked to."""
-    return os.path.join(ROOT, "target", "bin", name)
+    """Where a checked program is linked to, or the library that hosts link."""
+    return os.path.join(ROOT, "target", *(("staticlib", "libhost.a") if name == LIBRARY else ("bin", name)))
 
 
 def command(text, name):
@@ -51,8 +52,9 @@ def prove(name):
     """Proves and builds a program. What was proved before is not proved again, and nothing is said."""
     crates, patience = crates_of(name), PATIENCE if os.path.exists(built(name)) else 0
     headline = f"Proving and building `{name}` from its sources. This is done once and takes some minutes."
+    verb = "staticlib" if name == LIBRARY else "check"
     try:
-        child = subprocess.Popen(["rt", "check", name], cwd=ROOT, stdin=subprocess.DEVNULL, stdout=subprocess.PIPE,
+        child = subprocess.Popen(["rt", verb, name], cwd=ROOT, stdin=subprocess.DEVNULL, stdout=subprocess.PIPE,
                                  stderr=subprocess.STDOUT, text=True, errors="backslashreplace")
     except FileNotFoundError:
         raise Mistake("`rt`, the Rattle toolchain, is not on the PATH; tools/speak.py needs none where "
@@ -64,9 +66,24 @@ def prove(name):
             shown.count.hear(line)
     if child.returncode:
         sys.stderr.writelines(lines)
-        raise Failure(f"`{name}` is not proved: rt check ended with {child.returncode}")
+        raise Failure(f"`{name}` is not proved: rt {verb} ended with {child.returncode}")
     if not os.path.exists(built(name)):
         raise Failure(f"`{name}` was proved before, but {built(name)} is gone: remove {os.path.join(ROOT, 'target')} and try again")
+
+
+def linked(source, folder):
+    """A program of tools/, compiled and linked with the library into a folder, as a command."""
+    library = os.environ.get("PIRROZKETA_LIBRARY") or built(LIBRARY)
+    if not os.path.exists(library):
+        raise Mistake(f"no library at {library}: `rt staticlib {LIBRARY}` in {ROOT} proves and builds it, or name a program with --program")
+    program, compiler = os.path.join(folder, "linked"), os.environ.get("CC") or "gcc"
+    try:
+        done = subprocess.run([compiler, "-O2", "-I", os.path.join(ROOT, "host"), os.path.join(ROOT, "tools", source), library, "-o", program])
+    except FileNotFoundError:
+        raise Mistake(f"no C compiler {compiler}") from None
+    if done.returncode:
+        raise Failure(f"{source} is not compiled")
+    return [program]
 
 
 @contextlib.contextmanager

@@ -13,6 +13,12 @@
         2 n   applied 6: [n] = 6E
       * 3 ee  applied 4: [ee] = 69 | over 5: [e] = 65
 
+    tools/try --sheet examples/basque.sheet --rules examples/basque.hex
+
+--sheet speaks all names of a file as one sheet, at most 256: the beginnings that their words share are looked up once. The last line
+tells the steps of the sheet and those of its names one by one. It needs a C compiler and the library that hosts link (crate `host`),
+with which it links tools/sheet.c; PIRROZKETA_LIBRARY may name one.
+
 --contested is for those who write rules: each letter that reading reaches, with the rules that fit there in
 their order. The first is applied; * marks the letters with more than one, where the name leans on that order.
 They are found in the rule file here, and held against what the program `monitor` says of the name.
@@ -40,6 +46,7 @@ TABLE_WORDS = 32_768        # words that `say` has for its tables
 TABLE_SETS = 4_096          # and set words
 PHONES, NUMBERS = 256, 64   # that `say` has for a name
 LONGEST_LINE = 4_096        # digits of a line that `monitor` takes
+ACCEPTED = 255              # the library's code for what is not refused
 
 
 def arguments():
@@ -50,11 +57,16 @@ def arguments():
     parser.add_argument("--rules", metavar="FILE", default=programs.example("six.hex"),
                         help="a rule file, NAME.hex (NAME.rules beside it tells letters, sounds and names of classes), "
                              "or readable rules (tools/rules2hex.py --help); default: examples/six.hex")
+    parser.add_argument("--sheet", metavar="FILE", help="a file of names to speak as one sheet")
     parser.add_argument("--contested", action="store_true",
                         help="show the rules that fit at each letter, and how many letters have more than one")
     parser.add_argument("--program", metavar="PATH",
-                        help="what to run, unproved; default: target/bin/say, with --contested target/bin/monitor")
-    return parser.parse_args()
+                        help="what to run, unproved; default: target/bin/say, with --contested target/bin/monitor, with --sheet "
+                             "tools/sheet.c and the library")
+    given = parser.parse_args()
+    if given.sheet is not None and (given.name or given.names is not None or given.contested):
+        parser.error("--sheet takes no other names, and does not show contested letters")
+    return given
 
 
 def names_in(text):
@@ -204,9 +216,63 @@ class ContestedSpeaker(Speaker):
         return "\n".join([text, *fitting.listing(reached, self.alphabet)])
 
 
+class SheetSpeaker:
+    """tools/sheet.c, which has the library speak a sheet."""
+
+    def __init__(self, command, folder, alphabet):
+        self.command, self.folder, self.alphabet = command, folder, alphabet
+
+    def run(self, sheet):
+        """The program's lines, as numbers."""
+        done = subprocess.run(self.command, cwd=self.folder, input=sheet, stdout=subprocess.PIPE)
+        if done.returncode:
+            raise Failure(f"the program ended with {done.returncode}")
+        return [list(map(int, line.split())) for line in done.stdout.splitlines()]
+
+    def text(self, code, *told):
+        """The answer to a name: a place or, where it is spoken, its contested letters, its phones and its numbers."""
+        if code != ACCEPTED:
+            return frames.refusal_text(code, *told)
+        _, count, *rest = told
+        return frames.said_text(rest[:count], rest[count + 1:], self.alphabet)
+
+    def bytes_of(self, name):
+        """A name behind its length."""
+        try:
+            return frames.sheet_of([self.alphabet.name(name)])
+        except Mistake as mistake:
+            raise Mistake(f"{name}: {mistake}") from None
+
+    def speak(self, names, rule_file, rules):
+        (code, place, *told), *answers = self.run(b"".join(map(self.bytes_of, names)))
+        if not told:
+            raise Mistake(f"{rules}: {frames.refusal_text(code, place)} ({about_rule_file(rule_file, code, place)})")
+        steps, count, singly = told
+        if code != ACCEPTED:
+            print(f"the sheet -> {frames.refusal_text(code, place)}")
+            return 0
+        if not len(names) == count == len(answers):
+            raise Failure(f"{len(answers)} answers to {len(names)} names")
+        for name, answer in zip(names, answers):
+            print(f"{name} -> {self.text(*answer)}")
+        print(f"{count} names: {steps} steps together, {singly} one by one")
+        return 0
+
+
+def speak_sheet(given, alphabet, rule_file, prove):
+    names = names_in(inputs.read_text(given.sheet))
+    if prove and not given.program:
+        programs.prove(programs.LIBRARY)
+    with programs.folder_with(rule_file) as folder:
+        command = programs.command(given.program, "") if given.program else programs.linked("sheet.c", folder)
+        return SheetSpeaker(command, folder, alphabet).speak(names, rule_file, given.rules)
+
+
 def main(prove=False):
     given = arguments()
     alphabet, rule_file = ruletext.load_rules(given.rules)
+    if given.sheet is not None:
+        return speak_sheet(given, alphabet, rule_file, prove)
     names = names_given(given)
     kind = ContestedSpeaker if given.contested else Speaker
     if prove and not given.program:
