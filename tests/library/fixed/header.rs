@@ -11,6 +11,7 @@ use crate::reference::image::{HEAD, IMAGE, LITERAL, LITERALS, MASK, MASKS, NUMBE
 use crate::reference::many::REPLY;
 use crate::reference::rule::{CONTEXT, PHONES, RULE, STARTS, TARGET};
 use crate::reference::ruleset::MOST_RULES;
+use crate::reference::sheet::{kept_needed, tree_needed, MOST_NAMES};
 use crate::reference::tables::{sets_needed, words_needed, MOST_LEFT, MOST_RIGHT};
 use crate::tally::Tally;
 use std::ffi::CStr;
@@ -18,7 +19,7 @@ use std::ffi::CStr;
 const TEXT: &str = include_str!("../../../host/pirrozketa.h");
 
 pub fn header(tally: &mut Tally, _: &mut Random) {
-    let own: [(&CStr, usize); 24] = [
+    let own: [(&CStr, usize); 27] = [
         (c"CONTEXT", CONTEXT),
         (c"TARGET", TARGET),
         (c"RULE_PHONES", PHONES),
@@ -43,6 +44,9 @@ pub fn header(tally: &mut Tally, _: &mut Random) {
         (c"NUMBERS", 64),
         (c"FILE", LONGEST),
         (c"READ_OUT", READ_OUT),
+        (c"SHEET_NAMES", MOST_NAMES),
+        (c"TREE", tree_needed(usize::MAX)),
+        (c"KEPT", kept_needed(usize::MAX)),
     ];
     for (name, size) in own {
         let name_text = name.to_string_lossy();
