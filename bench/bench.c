@@ -456,6 +456,115 @@ static void checked_rows(int n)
     printf("| (b) of which the check of the ruleset | %.0f ns | | |\n", check_time());
 }
 
+/* ---- sheets: the names of one together, by pirrozketa_speak_many, and one by one */
+
+enum { BEGINNINGS = 16, ENDINGS = PIRROZKETA_SHEET_NAMES / BEGINNINGS };
+
+static uint8_t sheet[PIRROZKETA_SHEET_NAMES * (1 + PIRROZKETA_NAME)];
+static uint16_t tree[PIRROZKETA_TREE];
+static uint32_t kept[PIRROZKETA_KEPT];
+
+/* A name as typed at a place of the sheet, and the place after it. */
+static size_t put_name(size_t at, const char *beginning, const char *ending)
+{
+    size_t first = strlen(beginning), length = first + strlen(ending);
+    sheet[at] = (uint8_t)length;
+    for (size_t i = 0; i < length; i++)
+        sheet[at + 1 + i] = (uint8_t)((i < first ? beginning[i] : ending[i - first]) - 'a' + 1);
+    return at + 1 + length;
+}
+
+/* Every beginning with every ending. */
+static size_t names_alike(void)
+{
+    static const char *const beginnings[BEGINNINGS] = { "etxe", "etxa", "mendi", "menda", "iturri", "iturra", "aran", "arri", "baso", "basa",
+                                                        "zubi", "zuba", "haitz", "haitza", "garai", "gara" };
+    static const char *const endings[ENDINGS] = { "berri", "zahar", "goiti", "behere", "alde", "ondo", "garai", "buru", "gain", "pe", "arte",
+                                                  "txo", "tegi", "eta", "larre", "aga" };
+    size_t at = 0;
+    for (int k = 0; k < BEGINNINGS; k++)
+        for (int j = 0; j < ENDINGS; j++)
+            at = put_name(at, beginnings[k], endings[j]);
+    return at;
+}
+
+static size_t random_names(int length)
+{
+    char name[PIRROZKETA_NAME + 1] = { 0 };
+    size_t at = 0;
+    for (int k = 0; k < PIRROZKETA_SHEET_NAMES; k++) {
+        for (int i = 0; i < length; i++)
+            name[i] = "aeioubdgzrntsk"[draw(14)];
+        at = put_name(at, name, "");
+    }
+    return at;
+}
+
+static void speak_sheet(const struct loaded *loaded, size_t length)
+{
+    accept(pirrozketa_speak_sheet(loaded->image, PIRROZKETA_IMAGE, list, PIRROZKETA_LIST, loaded->words, PIRROZKETA_WORDS, loaded->sets,
+           PIRROZKETA_SETS, sheet, length, phones, sizeof phones, numbers, sizeof numbers / 2, replies, sizeof replies / sizeof *replies, tree,
+           PIRROZKETA_TREE, kept, PIRROZKETA_KEPT, &place, &steps, &count), "a sheet is refused");
+    must(count == PIRROZKETA_SHEET_NAMES, "names are not all answered");
+}
+
+static void speak_lot(const struct loaded *loaded, size_t length)
+{
+    speak_by(loaded->image, loaded->words, loaded->sets, sheet, length, PIRROZKETA_SHEET_NAMES);
+}
+
+static void speak_singly(const struct loaded *loaded, size_t length)
+{
+    for (size_t at = 0; at < length; at += 1 + (size_t)sheet[at])
+        accept(pirrozketa_speak(loaded->image, PIRROZKETA_IMAGE, list, PIRROZKETA_LIST, loaded->words, PIRROZKETA_WORDS, loaded->sets,
+               PIRROZKETA_SETS, sheet + at + 1, sheet[at], said, sizeof said, by, PIRROZKETA_NUMBERS, &given, &applied, &steps, &contested),
+               "a name is refused");
+}
+
+static void sheet_row(const char *what, const struct loaded *loaded, size_t length)
+{
+    static uint8_t lot_phones[sizeof phones];
+    static uint16_t lot_numbers[sizeof numbers / 2];
+    double together = 1e18, lot = 1e18, one_by_one = 1e18;
+    size_t singly = 0;
+    memset(phones, 0, sizeof phones);
+    memset(numbers, 0, sizeof numbers);
+    speak_lot(loaded, length);
+    memcpy(lot_phones, phones, sizeof phones);
+    memcpy(lot_numbers, numbers, sizeof numbers);
+    for (int k = 0; k < PIRROZKETA_SHEET_NAMES; k++) {
+        must(PIRROZKETA_OK(replies[PIRROZKETA_REPLY * k]), "a name is refused");
+        singly += replies[PIRROZKETA_REPLY * k + 3];
+    }
+    memset(phones, 0, sizeof phones);
+    memset(numbers, 0, sizeof numbers);
+    speak_sheet(loaded, length);
+    must(!memcmp(lot_phones, phones, sizeof phones) && !memcmp(lot_numbers, numbers, sizeof numbers), "the answers of a sheet differ");
+    const size_t shared = steps;
+    for (int round = 0; round < ROUNDS; round++) {
+        TIME(together, 1e3, speak_sheet(loaded, length))
+        TIME(lot, 1e3, speak_lot(loaded, length))
+        TIME(one_by_one, 1e3, speak_singly(loaded, length))
+    }
+    printf("| %s | %.1f µs | %.1f µs | %.1f µs | %.2f | %zu | %zu |\n", what, together, lot, one_by_one, together / lot, shared, singly);
+}
+
+/* By the Basque rules, written out. No slower than many at once is the aim where names begin alike. */
+static void sheet_rows(void)
+{
+    char what[80];
+    load(&written, "examples/basque.hex");
+    printf("\n| %d names, %u rules | the sheet | many at once | one by one | sheet to many | steps of the sheet | steps one by one |\n",
+           PIRROZKETA_SHEET_NAMES, (unsigned)written.base.count);
+    printf("|---|---|---|---|---|---|---|\n");
+    size_t length = names_alike();
+    snprintf(what, sizeof what, "%d beginnings, %d endings, %.1f letters", BEGINNINGS, ENDINGS,
+             (double)(length - PIRROZKETA_SHEET_NAMES) / PIRROZKETA_SHEET_NAMES);
+    sheet_row(what, &written, length);
+    sheet_row("random, 9 letters", &written, random_names(9));
+    sheet_row("random, 64 letters", &written, random_names(PIRROZKETA_NAME));
+}
+
 /* Given a folder with what bench/italian.py makes, Italian names too. */
 int main(int argc, char **argv)
 {
@@ -554,5 +663,6 @@ int main(int argc, char **argv)
     if (argc > 1)
         italian_rows(argv[1]);
     check_rows();
+    sheet_rows();
     return 0;
 }
