@@ -203,7 +203,7 @@ fn orders(tally: &mut Tally, random: &mut Random) {
     let none = Compiled::any(0, 0, random);
     let knee = typed("knee,kn");
     let cut = [&knee[..], &[1]].concat();
-    let (tree, kept) = (4 * (knee.len() + 2), knee.len());
+    let (tree, kept) = (4 * (knee.len() + 1), knee.len());
     type Lengths = (usize, usize, usize);
     let cases: [(&Lent<u8>, &List, &[u8], Lengths, (u8, usize)); 8] = [
         (&broken, &no_list, &cut, (0, 0, 0), (24, 0)),
@@ -230,7 +230,7 @@ fn memory(tally: &mut Tally, random: &mut Random) {
     for sheet in [vec![], vec![0], typed("knee,keen,nab"), vec![5; 6], [[255; 256]; 256].concat()] {
         let bytes = sheet.len().min(256 * 65);
         let (tree, kept, names) = (
-            4 * (bytes + 2),
+            4 * (bytes + 1),
             bytes,
             if sheet.is_empty() { 0 } else { sheet.len().div_ceil(1 + sheet[0] as usize) },
         );

@@ -39,7 +39,7 @@ fn worked_on(sheet: usize) -> usize {
 
 /// How many words of `tree` and of `kept` a sheet of so many bytes needs.
 pub fn tree_needed(sheet: usize) -> usize {
-    4 * (worked_on(sheet) + 2)
+    4 * (worked_on(sheet) + 1)
 }
 
 pub fn kept_needed(sheet: usize) -> usize {
