@@ -23,7 +23,7 @@ use Rattle.reading.proofs.NameWords.{end-most, starts-first, starts-next, word-
 use Rattle.reading.proofs.NameReading.{WordsRead, words-read-begin, words-read-next, words-read-stop, words-read-end}
 use Rattle.reading.proofs.WordReading.{part-frame, part-long, listed-part, read-part}
 use Rattle.tables.specs.Words.{setSize}
-use Rattle.table_reading.specs.Letters.{choicesBy, Bounded, suffix, between, WordRead, Held, Tells, NameRead}
+use Rattle.table_reading.specs.Letters.{choicesBy, Bounded, suffix, between, WordRead, Held, Tells, NameRead, FewParts}
 
 -- ---- one word
 
@@ -55,6 +55,9 @@ module _ (image ss : List ℕ) (base : ℕ) (name : Str) (found left right : Lis
     pub near : b ≤ suc (length name)
     pub started : b ≤ length name → Starts name b
     pub whole : (list : List ℕ) (read : Str → Reading) → Tells image ss base name found left right list read → WordsRead image list (saysOf list) read name ps count b
+
+  pub few-so-far : (ps : List ℕ) (count b : ℕ) → NameGoing ps count b → FewParts name (Rules count)
+  few-so-far ps count b s k q = let x : count ≡ k = cc in omega (arith, s .few, s .near)
 
   pub name-begin : (ps : List ℕ) → length ps ≡ frameSize → NameGoing ps 0 0
   name-begin ps l = record {

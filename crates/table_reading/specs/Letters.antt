@@ -101,3 +101,7 @@ abbrev pub NameRead : List ℕ → List ℕ → ℕ → Str → List ℕ → Lis
 NameRead image ss base name found left right ps r =
     (list : List ℕ) (read : Str → Reading) → Tells image ss base name found left right list read
     → ReadOn image list [] (readWords (saysOf list) read (wordsIn name)) frameSize ps r
+
+-- no more parts than letters, and one more
+abbrev pub FewParts : Str → Reached → Type 0
+FewParts name r = (k : ℕ) → r ≡ Rules k → k ≤ length name + 1

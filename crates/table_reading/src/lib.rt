@@ -12,7 +12,7 @@ ghost use Rattle.image.specs.Image.{totalOf, valid};
 ghost use Rattle.speech.specs.Words.{frameOf};
 ghost use Rattle.speech.specs.Places.{frameSize, ReadBy};
 ghost use Rattle.tables.specs.Words.{setSize};
-ghost use Rattle.table_reading.specs.Letters.{foundOf, lowestShared, countShared, choiceBy, Chooses, choicesBy, Bounded, suffix, between, WordRead, Held, NameRead};
+ghost use Rattle.table_reading.specs.Letters.{foundOf, lowestShared, countShared, choiceBy, Chooses, choicesBy, Bounded, suffix, between, WordRead, Held, NameRead, FewParts};
 
 // The lowest place that two sets share.
 enum Found {
@@ -214,7 +214,7 @@ pub fn read_words(
     parts: &mut [u32],
 ) -> Reached
     requires { ⌜ (valid (now image) ≡ true) × SoundName (now name) × (now frame ≡ frameOf (now name)) × (length (now found) ≡ frameSize) × (length (now left) ≡ frameSize) × (length (now right) ≡ frameSize) × Held (length (now sets)) «right_sets» (now name) (now found) (now left) (now right) × (length (now parts) ≡ frameSize) ⌝ }
-    ensures sized { λ r. ⌜ length (now (parts .exit)) ≡ frameSize ⌝ }
+    ensures few { λ r. ⌜ FewParts (now (name .entry)) r ⌝ }
     ensures read { λ r. ⌜ NameRead (now (image .entry)) (now (sets .entry)) «right_sets» (now (name .entry)) (now (found .entry)) (now (left .entry)) (now (right .entry)) (now (parts .exit)) r ⌝ }
 {
     let mut count = 0;

@@ -7,7 +7,7 @@ use borrow.Author.Needs.{needs}
 use Rattle.reading.proofs.NameWords.{frame-length}
 use Rattle.reading.proofs.NameReading.{not-rules-by}
 use Rattle.reading.proofs.WordReading.{part-inside}
-use Rattle.table_reading.proofs.WordsRead.{NameGoing, name-begin, name-word, name-bounded, name-next, name-stop, name-end}
+use Rattle.table_reading.proofs.WordsRead.{NameGoing, name-begin, name-word, name-bounded, name-next, name-stop, name-end, few-so-far}
 use native.Mathlib.Omega.{arith}
 use Rattle.table_reading.proofs.read_words.Statement.{statement}
 use Rattle.table_reading.proofs.read_words.Tie as tie
@@ -40,7 +40,12 @@ same-length : tie.Need-same-length Inv-loop μ-loop
 same-length c = c .before .before .before .read-word .ensures .sized ∙ (c .before .before .before .before .before .before .before .before .loop .inv .sized ∙ sym (c .before .before .before .before .before .before .before .before .before .before .before .before .before .before .before .before .before .pre .7))
 
 returns : tie.Need-returns Inv-loop μ-loop
-returns c = (c .before .before .before .read-word .ensures .sized ∙ c .before .before .before .before .before .before .before .before .loop .inv .sized, name-stop (c .before .before .before .before .before .before .before .before .before .before .before .before .before .before .before .before .before .args .image .now) (c .before .before .before .before .before .before .before .before .before .before .before .before .before .before .before .before .before .args .sets .now) (c .before .before .before .before .before .before .before .before .before .before .before .before .before .before .before .before .before .args .right-sets) (c .before .before .before .before .before .before .before .before .before .before .before .before .before .before .before .before .before .args .name .now) (c .before .before .before .before .before .before .before .before .before .before .before .before .before .before .before .before .before .args .found .now) (c .before .before .before .before .before .before .before .before .before .before .before .before .before .before .before .before .before .args .left .now) (c .before .before .before .before .before .before .before .before .before .before .before .before .before .before .before .before .before .args .right .now) (c .before .before .before .before .before .before .before .before .before .before .before .before .before .before .before .before .before .pre .0) (c .before .before .before .before .before .before .before .before .before .before .before .before .before .before .before .before .before .pre .1) (c .before .before .before .before .before .before .before .before .before .before .before .before .before .before .before .before .before .args .frame .now) (c .before .before .before .before .before .before .before .before .before .before .before .before .before .before .before .before .before .pre .2) (c .before .before .before .before .before .before .before .before .loop .parts) (c .before .before .before .before .before .before .before .before .loop .count) (c .before .before .before .before .before .before .before .before .loop .from) (c .before .before .before .before .before .before .before .before .loop .inv) (omega arith) _ (c .before .before .before .before .before .before .word-end .ensures) _ _ (c .before .before .before .read-word .ensures) (not-rules-by (c .before .before .before .read-word .result) (c .match .keys2)))
+returns c =
+    let st = c .before .before .before .before .before .before .before .before .before .before .before .before .before .before .before .before .before in
+    let a = st .args in
+    let k = c .before .before .before .before .before .before .before .before .loop in
+    let never = not-rules-by (c .before .before .before .read-word .result) (c .match .keys2) in
+    ((λ k q. absurd (never k q)), name-stop (a .image .now) (a .sets .now) (a .right-sets) (a .name .now) (a .found .now) (a .left .now) (a .right .now) (st .pre .0) (st .pre .1) (a .frame .now) (st .pre .2) (k .parts) (k .count) (k .from) (k .inv) (omega arith) _ (c .before .before .before .before .before .before .word-end .ensures) _ _ (c .before .before .before .read-word .ensures) never)
 
 loop-less : tie.Need-loop-less Inv-loop μ-loop
 loop-less c = omega (arith, c .before .before .before .before .before .before .before .before .word-end .ensures)
@@ -52,7 +57,11 @@ same-length-2 : tie.Need-same-length-2 Inv-loop μ-loop
 same-length-2 c = c .before .loop .inv .sized ∙ sym (c .before .before .before .before .before .before .before .before .before .before .pre .7)
 
 returns-2 : tie.Need-returns-2 Inv-loop μ-loop
-returns-2 c = (c .before .loop .inv .sized, name-end (c .before .before .before .before .before .before .before .before .before .before .args .image .now) (c .before .before .before .before .before .before .before .before .before .before .args .sets .now) (c .before .before .before .before .before .before .before .before .before .before .args .right-sets) (c .before .before .before .before .before .before .before .before .before .before .args .name .now) (c .before .before .before .before .before .before .before .before .before .before .args .found .now) (c .before .before .before .before .before .before .before .before .before .before .args .left .now) (c .before .before .before .before .before .before .before .before .before .before .args .right .now) (c .before .before .before .before .before .before .before .before .before .before .pre .0) (c .before .before .before .before .before .before .before .before .before .before .pre .1) (c .before .before .before .before .before .before .before .before .before .before .args .frame .now) (c .before .before .before .before .before .before .before .before .before .before .pre .2) (c .before .loop .parts) (c .before .loop .count) (c .before .loop .from) (c .before .loop .inv) (omega arith))
+returns-2 c =
+    let st = c .before .before .before .before .before .before .before .before .before .before in
+    let a = st .args in
+    let k = c .before .loop in
+    (few-so-far (a .image .now) (a .sets .now) (a .right-sets) (a .name .now) (a .found .now) (a .left .now) (a .right .now) (k .parts) (k .count) (k .from) (k .inv), name-end (a .image .now) (a .sets .now) (a .right-sets) (a .name .now) (a .found .now) (a .left .now) (a .right .now) (st .pre .0) (st .pre .1) (a .frame .now) (st .pre .2) (k .parts) (k .count) (k .from) (k .inv) (omega arith))
 
 pub read-words-spec : {M : Type 1} → statement M
 read-words-spec =
