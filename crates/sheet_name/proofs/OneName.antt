@@ -9,34 +9,32 @@ use Rattle.rules.proofs.Cases.{byBool}
 use Rattle.rules.specs.Names.{SoundName}
 use Rattle.image.specs.Image.{editsOf}
 use Rattle.fitting.specs.Fitting.{Str}
-use Rattle.speech.specs.Speech.{Outcome, atOnce}
-use Rattle.speech.specs.Places.{frameSize}
+use Rattle.speech.specs.Speech.{atOnce}
 use Rattle.speech.specs.declared.Reached.{Reached}
 use Rattle.speech.specs.declared.Reached.the-variants.{BadTables}
 use Rattle.tables.specs.Words.{rightSets}
 use Rattle.tables.proofs.Truth.{clash}
 use Rattle.passes.specs.Passes.{leftRowsOf, Memory, Sized}
-use Rattle.table_reading.specs.Letters.{Held, NameRead}
+use Rattle.table_reading.specs.Letters.{Held, NameRead, FewParts}
 use Rattle.walk.specs.Walked.{FitsAs}
 use Rattle.walk.proofs.Walked as W
 use Rattle.prefix_tree.specs.declared.SharedStep.{SharedStep}
 use Rattle.sheet_passes.specs.Passing.{passOf, HoldsSome, NameShares, NameShared}
-use Rattle.sheet_name.specs.Judging.{throughOf, FrameJudged}
+use Rattle.sheet_name.specs.Judging.{FrameJudged}
 
-module _ (words sets : List ℕ) (l r : ℕ) (fit stale : Bool) (image : List ℕ) (fits-as : FitsAs words sets l r (editsOf image) fit stale) (list : List ℕ) (name : Str) (sound : SoundName name)
-    (t : List ℕ) (n steps : ℕ) (g : HoldsSome fit (leftRowsOf words l) t n) (m : Memory) (t′ : List ℕ) (p : SharedStep) (o : NameShared words l r fit list name m t n steps t′ p) where
+module _ {words sets : List ℕ} {l r : ℕ} {fit stale : Bool} (image : List ℕ) (fits-as : FitsAs words sets l r (editsOf image) fit stale) {list : List ℕ} {name : Str} (sound : SoundName name)
+    {t : List ℕ} {n steps : ℕ} (g : HoldsSome fit (leftRowsOf words l) t n) {m : Memory} {t′ : List ℕ} {p : SharedStep} (o : NameShared words l r fit list name m t n steps t′ p) where
   here : NameShares words l r fit list name m t′ p (g .strings)
   here = o .shares (g .strings) (g .holds)
 
   pub sized-here : Sized m
   sized-here = here .passed .sized
 
-  pub judged-refused : p .usable ≡ false → (parts : List ℕ) → length parts ≡ frameSize
+  pub judged-refused : p .usable ≡ false → (parts : List ℕ)
       → FrameJudged words sets l r fit stale image list name t n steps t′ parts (record { usable = false; nodes = 0; steps = 0; reached = BadTables })
-  judged-refused e parts s =
+  judged-refused e parts =
       record {
         sized = o .sized;
-        parts-sized = s;
         refused = λ _. byBool stale
             (λ b. sym (W.through-stale image words sets l r fit stale fits-as list name sound m (passOf p (here .taken)) (here .passed) e b) ∙ sym (ap (λ (x : Bool). atOnce (cond x 22 16) 0) b))
             (λ b. sym (W.through-unusable image words sets l r fit stale fits-as list name sound m (passOf p (here .taken)) (here .passed) e b) ∙ sym (ap (λ (x : Bool). atOnce (cond x 22 16) 0) b));
@@ -53,15 +51,15 @@ module _ (words sets : List ℕ) (l r : ℕ) (fit stale : Bool) (image : List �
     pub held-here : Held (length sets) base name (m .found) (m .left) (m .right)
     held-here = W.states-held image words sets l r fit stale fits-as list name sound m (passOf p (here .taken)) (here .passed) e base is
 
-    pub judged-read : (parts : List ℕ) → length parts ≡ frameSize → (x : Reached) → NameRead image sets base name (m .found) (m .left) (m .right) parts x
+    pub judged-read : (parts : List ℕ) (x : Reached) → FewParts name x → NameRead image sets base name (m .found) (m .left) (m .right) parts x
         → FrameJudged words sets l r fit stale image list name t n steps t′ parts (record { usable = true; nodes = p .nodes; steps = p .steps; reached = x })
-    judged-read parts s x q =
+    judged-read parts x few q =
         record {
           sized = o .sized;
-          parts-sized = s;
           refused = λ y. clash refl y;
           read = λ _. record {
             parted = W.parts-read image words sets l r fit stale fits-as list name sound m (passOf p (here .taken)) (here .passed) e base is parts x q;
+            few = few;
             taken = here .taken;
             says = W.through-read image words sets l r fit stale fits-as list name sound m (passOf p (here .taken)) (here .passed) e base is parts x q;
           };

@@ -17,12 +17,13 @@ use Rattle.speech.specs.Speech.{Outcome, speaks, declines, atOnce, answered, ju
 use Rattle.speech.specs.declared.Reached.{Reached}
 use Rattle.speech.specs.declared.Reached.the-variants.{Rules, Uncovered, BadTables}
 use Rattle.speech.specs.Places.{frameSize, EndsBy, PartsIn, partsReading, Parted}
+use Rattle.tables.specs.Steps.{hashed, rightSteps}
 use Rattle.tables.specs.Walk.{walkThrough}
 use Rattle.passes.specs.Passes.{leftRowsOf}
+use Rattle.table_reading.specs.Letters.{FewParts}
 use Rattle.walk.specs.Walked.{compiledWith}
 use Rattle.prefix_tree.specs.Tree.{Tree}
 use Rattle.prefix_tree.specs.Sharing.{Holds}
-use Rattle.sheet_passes.specs.Passing.{hashed, rightSteps}
 use Rattle.sheet_name.specs.declared.Judged.{Judged}
 use Rattle.sheet_name.specs.declared.Judgement.{Judgement}
 
@@ -33,6 +34,7 @@ throughOf words sets l r image list name = walkThrough (compiledWith words sets 
 -- how its reading ended, with the parts in memory
 pub record Read (words sets : List ℕ) (l r : ℕ) (image list : List ℕ) (name : Str) (parts : List ℕ) (x : Judged) : Type 0 where
   pub parted : Parted image list frameSize parts (x .reached)
+  pub few : FewParts name (x .reached)
   pub taken : ℕ
   pub says : answered (partsReading image list parts (x .reached)) taken ≡ throughOf words sets l r image list name
 
@@ -42,7 +44,6 @@ SharesAll words l list name t n t′ x =
 
 pub record FrameJudged (words sets : List ℕ) (l r : ℕ) (fit stale : Bool) (image list : List ℕ) (name : Str) (t : List ℕ) (n steps : ℕ) (t′ parts′ : List ℕ) (x : Judged) : Type 0 where
   pub sized : length t′ ≡ length t
-  pub parts-sized : length parts′ ≡ frameSize
   pub refused : x .usable ≡ false → throughOf words sets l r image list name ≡ atOnce (cond stale 22 16) 0
   pub read : x .usable ≡ true → Read words sets l r image list name parts′ x
   pub tree : x .usable ≡ true → fit ≡ true → Tree t′ (x .nodes) l
@@ -127,7 +128,7 @@ pub record NameJudged (words sets : List ℕ) (l r : ℕ) (fit : Bool) (image li
   pub refused : 0 < x .refusal → sheetRefusal (outcomeOf words sets l r image list name) ≡ declined (x .refusal) 0
   pub goes : x .refusal ≡ 0 → sheetRefusal (outcomeOf words sets l r image list name) ≡ accepted
   pub kept : x .refusal ≡ 0 → Kept image list name (x .end) parts (outcomeOf words sets l r image list name)
-  pub kept-few : x .refusal ≡ 0 → partsIn (x .end) ≤ roomOf name
+  pub kept-few : partsIn (x .end) ≤ roomOf name
   pub tree : x .refusal ≡ 0 → fit ≡ true → Tree t′ (x .nodes) l
   pub steps-are : x .refusal ≡ 0 → x .steps + n ≡ steps + x .nodes + rightSteps (tableWords (saysOf list) name)
   pub few : x .refusal ≡ 0 → x .nodes ≤ n + roomOf name

@@ -1,11 +1,11 @@
-// A whole sheet of names answered together (document 02, request 8).
+// What a name of a sheet comes to, judged before anything is written (document 02, request 8).
 use exceptions::Ending;
 use rules::Answer;
 use speech::Reached;
 ghost use mathlib.Core.Path.{_≡_};
 ghost use mathlib.Core.Bool.{true};
-ghost use Prim.Native.Nat.{_+_, _*_, _<_, _≤_};
-ghost use lib.ListN.{length};
+ghost use Prim.Native.Nat.{_+_, _*_, _≤_};
+ghost use lib.ListN.{length, take};
 ghost use Rattle.rules.specs.Names.{SoundName};
 ghost use Rattle.exceptions.specs.Judging.{KnownList};
 ghost use Rattle.image.specs.Image.{valid, editsOf};
@@ -13,9 +13,9 @@ ghost use Rattle.speech.specs.Words.{frameOf};
 ghost use Rattle.speech.specs.Places.{Unsaid, frameSize, EndsBy};
 ghost use Rattle.passes.specs.Passes.{maxSteps, leftRowsOf};
 ghost use Rattle.walk.specs.Walked.{FitsAs};
-ghost use Rattle.prefix_tree.specs.Tree.{nodeSize};
+ghost use Rattle.prefix_tree.specs.Tree.{Room};
 ghost use Rattle.sheet_passes.specs.Passing.{HoldsSome};
-ghost use Rattle.sheet_name.specs.Judging.{FrameJudged, settled, NameJudged};
+ghost use Rattle.sheet_name.specs.Judging.{FrameJudged, partsIn, roomOf, settled, NameJudged};
 
 // What the words of a name came to: whether no state was out of range, how many nodes the tree has, how many entries have been looked up, and how
 // reading ended.
@@ -43,7 +43,7 @@ fn judge_frame<'a>(
     steps: usize,
     parts: &mut [u32],
 ) -> Judged
-    requires { ⌜ FitsAs (now words) (now sets) «left_states» «right_states» (editsOf (now image)) fit stale × (valid (now image) ≡ true) × Unsaid (now list) (now name) × (now frame ≡ frameOf (now name)) × HoldsSome fit (leftRowsOf (now words) «left_states») (now tree) nodes × (nodes + 2 * frameSize ≤ 65536) × (nodeSize * (nodes + (length (now name) + 2)) ≤ length (now tree)) × (steps + 4 * frameSize ≤ maxSteps) × (length (now parts) ≡ frameSize) ⌝ }
+    requires { ⌜ FitsAs (now words) (now sets) «left_states» «right_states» (editsOf (now image)) fit stale × (valid (now image) ≡ true) × Unsaid (now list) (now name) × (now frame ≡ frameOf (now name)) × HoldsSome fit (leftRowsOf (now words) «left_states») (now tree) nodes × Room (now tree) (nodes + (length (now name) + 1)) × (steps + 4 * frameSize ≤ maxSteps) × (length (now parts) ≡ frameSize) ⌝ }
     ensures { λ r. ⌜ FrameJudged (now (words .entry)) (now (sets .entry)) «left_states» «right_states» fit stale (now (image .entry)) (now (list .entry)) (now (name .entry)) (now (tree .entry)) nodes steps (now (tree .exit)) (now (parts .exit)) r ⌝ }
 {
     let mut found = [0u16; reading::MAX_FRAME];
@@ -92,8 +92,25 @@ fn judge_frame<'a>(
     }
 }
 
-// What a name of the sheet came to: the number of the refusal of the whole sheet, 0 where there is none; the nodes and the steps; how reading ended, as a
-// number, 0 for a name that sends no word through the tables.
+// How reading ended, as a number: one more than the rules applied, or, from this on, the position of a letter without a rule; 0 for a name that sends no
+// word through the tables.
+pub const UNCOVERED: usize = reading::MAX_FRAME + 2;
+
+// How many parts are kept with such a number.
+pub fn parts_in(end: u32) -> usize
+    ensures { λ r. ⌜ r ≡ partsIn end ⌝ }
+{
+    let n = numbers::wide32(end);
+    if UNCOVERED <= n {
+        return 0;
+    }
+    if n == 0 {
+        return 0;
+    }
+    n - 1
+}
+
+// What a name of the sheet came to: the number of the refusal of the whole sheet, 0 where there is none; the nodes and the steps; how reading ended.
 pub struct Judgement {
     pub refusal: u8,
     pub nodes: usize,
@@ -127,7 +144,7 @@ fn settle(x: Judged, stale: bool) -> Judgement
             refusal: 0,
             nodes: x.nodes,
             steps: x.steps,
-            end: (i + 1000) as u32,
+            end: (i + UNCOVERED) as u32,
         },
         Reached::BadTables => Judgement {
             refusal: 16,
@@ -154,8 +171,8 @@ fn judge_words<'a>(
     steps: usize,
     parts: &mut [u32],
 ) -> Judgement
-    requires { ⌜ FitsAs (now words) (now sets) «left_states» «right_states» (editsOf (now image)) fit stale × (valid (now image) ≡ true) × Unsaid (now list) (now name) × HoldsSome fit (leftRowsOf (now words) «left_states») (now tree) nodes × (nodes + 2 * frameSize ≤ 65536) × (nodeSize * (nodes + (length (now name) + 2)) ≤ length (now tree)) × (steps + 4 * frameSize ≤ maxSteps) × (length (now parts) ≡ frameSize) ⌝ }
-    ensures { λ r. ⌜ NameJudged (now (words .entry)) (now (sets .entry)) «left_states» «right_states» fit (now (image .entry)) (now (list .entry)) (now (name .entry)) (now (tree .entry)) nodes steps (now (tree .exit)) (now (parts .exit)) r ⌝ }
+    requires { ⌜ FitsAs (now words) (now sets) «left_states» «right_states» (editsOf (now image)) fit stale × (valid (now image) ≡ true) × Unsaid (now list) (now name) × HoldsSome fit (leftRowsOf (now words) «left_states») (now tree) nodes × Room (now tree) (nodes + (length (now name) + 1)) × (steps + 4 * frameSize ≤ maxSteps) × (length (now parts) ≡ frameSize) ⌝ }
+    ensures { λ r. ⌜ NameJudged (now (words .entry)) (now (sets .entry)) «left_states» «right_states» fit (now (image .entry)) (now (list .entry)) (now (name .entry)) (now (tree .entry)) nodes steps (now (tree .exit)) (take (partsIn (r .end)) (now (parts .exit))) r ⌝ }
 {
     let mut frame = [0u8; reading::MAX_FRAME];
     reading::words::lay_frame(name, &mut frame);
@@ -195,8 +212,8 @@ fn judge_sound<'a>(
     steps: usize,
     parts: &mut [u32],
 ) -> Judgement
-    requires { ⌜ FitsAs (now words) (now sets) «left_states» «right_states» (editsOf (now image)) fit stale × (valid (now image) ≡ true) × KnownList (now list) × SoundName (now name) × HoldsSome fit (leftRowsOf (now words) «left_states») (now tree) nodes × (nodes + 2 * frameSize ≤ 65536) × (nodeSize * (nodes + (length (now name) + 2)) ≤ length (now tree)) × (steps + 4 * frameSize ≤ maxSteps) × (length (now parts) ≡ frameSize) ⌝ }
-    ensures { λ r. ⌜ NameJudged (now (words .entry)) (now (sets .entry)) «left_states» «right_states» fit (now (image .entry)) (now (list .entry)) (now (name .entry)) (now (tree .entry)) nodes steps (now (tree .exit)) (now (parts .exit)) r ⌝ }
+    requires { ⌜ FitsAs (now words) (now sets) «left_states» «right_states» (editsOf (now image)) fit stale × (valid (now image) ≡ true) × KnownList (now list) × SoundName (now name) × HoldsSome fit (leftRowsOf (now words) «left_states») (now tree) nodes × Room (now tree) (nodes + (length (now name) + 1)) × (steps + 4 * frameSize ≤ maxSteps) × (length (now parts) ≡ frameSize) ⌝ }
+    ensures { λ r. ⌜ NameJudged (now (words .entry)) (now (sets .entry)) «left_states» «right_states» fit (now (image .entry)) (now (list .entry)) (now (name .entry)) (now (tree .entry)) nodes steps (now (tree .exit)) (take (partsIn (r .end)) (now (parts .exit))) r ⌝ }
 {
     let found = exceptions::end_state(list, name);
     match found {
@@ -240,8 +257,8 @@ pub fn judge_name<'a>(
     steps: usize,
     parts: &mut [u32],
 ) -> Judgement
-    requires { ⌜ FitsAs (now words) (now sets) «left_states» «right_states» (editsOf (now image)) fit stale × (valid (now image) ≡ true) × KnownList (now list) × HoldsSome fit (leftRowsOf (now words) «left_states») (now tree) nodes × (nodes + 2 * frameSize ≤ 65536) × (nodeSize * (nodes + (length (now name) + 2)) ≤ length (now tree)) × (steps + 4 * frameSize ≤ maxSteps) × (length (now parts) ≡ frameSize) ⌝ }
-    ensures { λ r. ⌜ NameJudged (now (words .entry)) (now (sets .entry)) «left_states» «right_states» fit (now (image .entry)) (now (list .entry)) (now (name .entry)) (now (tree .entry)) nodes steps (now (tree .exit)) (now (parts .exit)) r ⌝ }
+    requires { ⌜ FitsAs (now words) (now sets) «left_states» «right_states» (editsOf (now image)) fit stale × (valid (now image) ≡ true) × KnownList (now list) × HoldsSome fit (leftRowsOf (now words) «left_states») (now tree) nodes × Room (now tree) (nodes + roomOf (now name)) × (steps + 4 * frameSize ≤ maxSteps) × (length (now parts) ≡ frameSize) ⌝ }
+    ensures { λ r. ⌜ NameJudged (now (words .entry)) (now (sets .entry)) «left_states» «right_states» fit (now (image .entry)) (now (list .entry)) (now (name .entry)) (now (tree .entry)) nodes steps (now (tree .exit)) (take (partsIn (r .end)) (now (parts .exit))) r ⌝ }
 {
     let judged = rules::judge_name(name);
     match judged {

@@ -7,47 +7,35 @@ use Rattle.sheet_name.proofs.Settling as S
 use borrow.Author.Needs.{needs}
 use Rattle.sheet_name.proofs.judge_sound.Statement.{statement}
 use Rattle.sheet_name.proofs.judge_sound.Tie as tie
-use Rattle.sheet_name.proofs.judge_sound.Reads as reads
-use Rattle.sheet_name.proofs.judge_sound.Lts as lts
-use Rattle.exceptions.proofs.end_state.Reads as end-state-reads
-use Rattle.sheet_name.proofs.judge_words.Reads as judge-words-reads
 
--- src/lib.rt:201:9
 end-state-requires : tie.Need-end-state-requires
 end-state-requires c κs = search needs
 
--- src/lib.rt:203:29
 enum-told : tie.Need-enum-told
 enum-told c = search needs
 
--- src/lib.rt:219:13
 enum-told-2 : tie.Need-enum-told-2
 enum-told-2 c = search needs
 
--- src/lib.rt:209:27
 judge-words-requires : tie.Need-judge-words-requires
 judge-words-requires c κs =
     let st = c .before .before .before .before .before .before .before .before .before .before .before .before in
     let e = subst (λ (x : Ending). EndsInList (st .args .list .now) (st .args .name .now) x) (c .before .before .enum-told2 .given .1) (c .before .before .before .before .end-state .ensures) in
-    (st .pre .0, st .pre .1, record { known = st .pre .2; sound = st .pre .3; absent = e }, st .pre .4, st .pre .5, st .pre .6, st .pre .7, st .pre .8)
+    (st .pre .0, st .pre .1, record { known = st .pre .2; sound = st .pre .3; absent = e }, st .pre .4, st .pre .5, st .pre .6, st .pre .7)
 
--- src/lib.rt:183:1
 returns : tie.Need-returns
 returns c =
     let st = c .before .before .before .before .before .before .before .before .before .before in
     let a = st .args in
     let e = subst (λ (x : Ending). EndsInList (a .list .now) (a .name .now) x) (c .enum-told .given .1) (c .before .before .end-state .ensures) in
-    S.sent-listed (a .words .now) (a .sets .now) (a .left-states) (a .right-states) (a .fit) (a .image .now) (a .list .now) (a .name .now) (a .tree .now) (a .nodes) (a .steps) (st .pre .4) _ (st .pre .8) (st .pre .3) (e .2)
+    S.sent-listed (a .words .now) (a .sets .now) (a .left-states) (a .right-states) (a .fit) (a .image .now) (a .list .now) (a .name .now) (a .tree .now) (a .nodes) (a .steps) (st .pre .4) (st .pre .3) (e .2)
 
--- src/lib.rt:183:1
 same-length : tie.Need-same-length
 same-length c = search needs
 
--- src/lib.rt:183:1
 same-length-2 : tie.Need-same-length-2
 same-length-2 c = search needs
 
--- src/lib.rt:183:1
 returns-2 : tie.Need-returns-2
 returns-2 c = search needs
 
