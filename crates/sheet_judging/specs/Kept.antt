@@ -1,19 +1,19 @@
 -- How far the judging of a sheet has come, and what is kept of its names.
 -- Assumes nothing.
-use Prim.Native.Nat.{ℕ, _+_, _-_, _*_, _≤_, _<_}
+use Prim.Native.Nat.{ℕ, _+_, _-_, _≤_, _<_}
 use mathlib.Core.Path.{_≡_}
-use mathlib.Core.Bool.{Bool, true}
-use mathlib.Core.List.{List, [], _∷_, _++_}
+use mathlib.Core.Bool.{Bool}
+use mathlib.Core.List.{List, []}
 use lib.ListN.{length, getD, take, drop, set}
 use Rattle.rules.specs.Refusals.{accepted, declined}
 use Rattle.exceptions.specs.Judging.{saysOf}
 use Rattle.fitting.specs.Fitting.{Str}
 use Rattle.speech.specs.Speech.{Outcome}
-use Rattle.speech.specs.Places.{frameSize}
+use Rattle.tables.specs.Steps.{prefixesOf, rightSteps}
 use Rattle.prefix_tree.specs.Tree.{firstOf, stateOf}
-use Rattle.sheet_passes.specs.Passing.{rightSteps}
+use Rattle.many_names.specs.Names.{namesIn, nameAt}
 use Rattle.sheet_name.specs.Judging.{partsIn, outcomeOf, Kept, NameJudged}
-use Rattle.sheet_judging.specs.Sheet.{namesIn, sheetWords, prefixesOf, firstRefusal}
+use Rattle.sheet_judging.specs.Sheet.{sheetWords, firstRefusal}
 use Rattle.sheet_judging.specs.declared.Judging.{Judging}
 
 -- the parts that are kept of name j: as many as go with the way its reading ended, from its start on
@@ -23,10 +23,6 @@ partsOf ends starts kept j = take (partsIn (getD ends j 0)) (drop (getD starts j
 -- and they lie in the lent memory
 abbrev pub PartsAt : List ℕ → List ℕ → List ℕ → ℕ → Type 0
 PartsAt ends starts kept j = getD starts j 0 + partsIn (getD ends j 0) ≤ length kept
-
--- name i of the sheet, that starts after the length byte at `at`
-abbrev pub nameAt : List ℕ → ℕ → Str
-nameAt sheet at = take (getD sheet at 0) (drop (at + 1) sheet)
 
 -- the root of the tree, which has no child and state 0
 pub record Root (t : List ℕ) : Type 0 where
@@ -43,7 +39,7 @@ module _ (words sets : List ℕ) (l r : ℕ) (fit : Bool) (image list sheet : Li
     pub ends-now : ends′ ≡ set ends (p .count) end
     pub starts-now : starts′ ≡ set starts (p .count) (p .kept)
     pub kept-sized : length kept′ ≡ length kept
-    pub kept-before : (j : ℕ) → j < p .kept → getD kept′ j 0 ≡ getD kept j 0
+    pub kept-before : take (p .kept) kept′ ≡ take (p .kept) kept
     pub judged : NameJudged words sets l r fit image list (nameAt sheet (p .at)) t (p .nodes) (p .steps) t′ (take (partsIn end) (drop (p .kept) kept′))
         (record { refusal = p′ .refusal; nodes = p′ .nodes; steps = p′ .steps; end = end })
 

@@ -1,16 +1,20 @@
-// A walk sheet: all its names answered together (document 02, request 8).
+// All names of a walk sheet judged, before anything is written (document 02, request 8).
 ghost use mathlib.Core.Path.{_≡_};
 ghost use mathlib.Core.Bool.{true};
 ghost use Prim.Native.Nat.{_+_, _*_, _<_, _≤_};
 ghost use lib.ListN.{length, getD};
+ghost use lib.Seq.{paste};
+ghost use Rattle.rules.specs.Limits.{maxNames};
 ghost use Rattle.exceptions.specs.Judging.{KnownList};
 ghost use Rattle.image.specs.Image.{valid, editsOf};
 ghost use Rattle.speech.specs.Places.{frameSize};
 ghost use Rattle.passes.specs.Passes.{maxSteps, leftRowsOf};
 ghost use Rattle.walk.specs.Walked.{FitsAs};
-ghost use Rattle.prefix_tree.specs.Tree.{nodeSize};
+ghost use Rattle.prefix_tree.specs.Tree.{nodeSize, maxNodes, Room};
 ghost use Rattle.sheet_passes.specs.Passing.{HoldsSome};
-ghost use Rattle.sheet_judging.specs.Sheet.{maxNames, hasNext};
+ghost use Rattle.many_names.specs.Names.{nameAt};
+ghost use Rattle.sheet_name.specs.Judging.{roomOf};
+ghost use Rattle.sheet_judging.specs.Sheet.{workRoom};
 ghost use Rattle.sheet_judging.specs.Kept.{Root, NextJudged, SheetJudged};
 
 // How far the judging has come: the place in the sheet, the names judged, the parts kept, the nodes of the tree, the entries looked up, and the refusal of
@@ -24,25 +28,19 @@ pub struct Judging {
     pub refusal: u8,
 }
 
-// Whether fewer than `limit` names have been taken and a whole name, after its length, lies from `at` on.
-pub fn has_next(names: &[u8], at: usize, count: usize, limit: usize) -> bool
-    requires { ⌜ at ≤ length (now names) ⌝ }
-    ensures { λ r. ⌜ r ≡ hasNext (now (names .entry)) at count limit ⌝ }
+// The first `n` parts are stored from `from` on.
+fn keep(kept: &mut [u32], from: usize, parts: &[u32], n: usize)
+    requires { ⌜ (from + n ≤ length (now kept)) × (n ≤ length (now parts)) ⌝ }
+    ensures { λ _. ⌜ now (kept .exit) ≡ paste (now (kept .entry)) from (now (parts .entry)) n ⌝ }
 {
-    if limit <= count {
-        return false;
+    let mut i = 0;
+    while i < n {
+        kept[from + i] = parts[i];
+        i += 1;
     }
-    if names.len() <= at {
-        return false;
-    }
-    let left = names.len() - at - 1;
-    if left < numbers::wide(names[at]) {
-        return false;
-    }
-    true
 }
 
-// The next name is judged; its parts and how its reading ended are kept.
+// The next name is judged; how its reading ended and its parts are kept, after those of the names before.
 fn judge_next<'a>(
     words: &'a [u16],
     sets: &'a [u64],
@@ -55,18 +53,19 @@ fn judge_next<'a>(
     sheet: &[u8],
     tree: &mut [u16],
     ends: &mut [u32],
-    parts: &mut [u32],
+    starts: &mut [u32],
+    kept: &mut [u32],
     p: Judging,
 ) -> Judging
-    requires { ⌜ FitsAs (now words) (now sets) «left_states» «right_states» (editsOf (now image)) fit stale × (valid (now image) ≡ true) × KnownList (now list) × (p .at + 1 + getD (now sheet) (p .at) 0 ≤ length (now sheet)) × HoldsSome fit (leftRowsOf (now words) «left_states») (now tree) (p .nodes) × (p .nodes + 2 * frameSize ≤ 65536) × (nodeSize * (p .nodes + (getD (now sheet) (p .at) 0 + 2)) ≤ length (now tree)) × (p .steps + 4 * frameSize ≤ maxSteps) × (p .count < length (now ends)) × (p .count < maxNames) × (frameSize * p .count + frameSize ≤ length (now parts)) ⌝ }
-    ensures { λ r. ⌜ NextJudged (now (words .entry)) (now (sets .entry)) «left_states» «right_states» fit (now (image .entry)) (now (list .entry)) (now (sheet .entry)) (now (tree .entry)) (now (ends .entry)) (now (parts .entry)) p (now (tree .exit)) (now (ends .exit)) (now (parts .exit)) r ⌝ }
+    requires { ⌜ FitsAs (now words) (now sets) «left_states» «right_states» (editsOf (now image)) fit stale × (valid (now image) ≡ true) × KnownList (now list) × (p .at + 1 + getD (now sheet) (p .at) 0 ≤ length (now sheet)) × HoldsSome fit (leftRowsOf (now words) «left_states») (now tree) (p .nodes) × Room (now tree) (p .nodes + roomOf (nameAt (now sheet) (p .at))) × (p .steps + 4 * frameSize ≤ maxSteps) × (p .count < maxNames) × (p .count < length (now ends)) × (p .count < length (now starts)) × (p .kept ≤ maxNodes) × (p .kept + roomOf (nameAt (now sheet) (p .at)) ≤ length (now kept)) ⌝ }
+    ensures { λ r. ⌜ NextJudged (now (words .entry)) (now (sets .entry)) «left_states» «right_states» fit (now (image .entry)) (now (list .entry)) (now (sheet .entry)) (now (tree .entry)) (now (ends .entry)) (now (starts .entry)) (now (kept .entry)) p (now (tree .exit)) (now (ends .exit)) (now (starts .exit)) (now (kept .exit)) r ⌝ }
 {
     let at = p.at;
     let start = at + 1;
     let end = start + numbers::wide(sheet[at]);
     let i = p.count;
-    let from = reading::MAX_FRAME * i;
-    let to = from + reading::MAX_FRAME;
+    let from = p.kept;
+    let mut parts = [0u32; reading::MAX_FRAME];
     let x = sheet_name::judge_name(
         words,
         sets,
@@ -80,12 +79,16 @@ fn judge_next<'a>(
         tree,
         p.nodes,
         p.steps,
-        &mut parts[from..to],
+        &mut parts,
     );
+    let n = sheet_name::parts_in(x.end);
+    keep(kept, from, &parts, n);
     ends[i] = x.end;
+    starts[i] = from as u32;
     Judging {
         at: end,
         count: i + 1,
+        kept: from + n,
         nodes: x.nodes,
         steps: x.steps,
         refusal: x.refusal,
@@ -106,19 +109,21 @@ pub fn judge_sheet<'a>(
     limit: usize,
     tree: &mut [u16],
     ends: &mut [u32],
-    parts: &mut [u32],
+    starts: &mut [u32],
+    kept: &mut [u32],
 ) -> Judging
-    requires { ⌜ FitsAs (now words) (now sets) «left_states» «right_states» (editsOf (now image)) fit stale × (valid (now image) ≡ true) × KnownList (now list) × Root (now tree) × (nodeSize * (length (now sheet) + 2) ≤ length (now tree)) × (limit ≤ maxNames) × (limit ≤ length (now ends)) × (frameSize * limit ≤ length (now parts)) ⌝ }
-    ensures { λ r. ⌜ SheetJudged (now (words .entry)) (now (sets .entry)) «left_states» «right_states» fit (now (image .entry)) (now (list .entry)) (now (sheet .entry)) limit (now (tree .entry)) (now (ends .entry)) (now (parts .entry)) (now (tree .exit)) (now (ends .exit)) (now (parts .exit)) r ⌝ }
+    requires { ⌜ FitsAs (now words) (now sets) «left_states» «right_states» (editsOf (now image)) fit stale × (valid (now image) ≡ true) × KnownList (now list) × Root (now tree) × (nodeSize * (workRoom (now sheet) + 1) ≤ length (now tree)) × (workRoom (now sheet) ≤ length (now kept)) × (limit ≤ maxNames) × (limit ≤ length (now ends)) × (limit ≤ length (now starts)) ⌝ }
+    ensures { λ r. ⌜ SheetJudged (now (words .entry)) (now (sets .entry)) «left_states» «right_states» fit (now (image .entry)) (now (list .entry)) (now (sheet .entry)) limit (now (tree .entry)) (now (ends .entry)) (now (starts .entry)) (now (kept .entry)) (now (tree .exit)) (now (ends .exit)) (now (starts .exit)) (now (kept .exit)) r ⌝ }
 {
     let mut p = Judging {
         at: 0,
         count: 0,
+        kept: 0,
         nodes: 1,
         steps: 0,
         refusal: 0,
     };
-    while has_next(sheet, p.at, p.count, limit) {
+    while many_names::has_next(sheet, p.at, p.count, limit) {
         p = judge_next(
             words,
             sets,
@@ -131,7 +136,8 @@ pub fn judge_sheet<'a>(
             sheet,
             &mut *tree,
             &mut *ends,
-            &mut *parts,
+            &mut *starts,
+            &mut *kept,
             p,
         );
         if p.refusal != 0 {
