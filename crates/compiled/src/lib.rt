@@ -37,7 +37,7 @@ pub fn state_count(words: &[u16], at: usize) -> usize
 }
 
 // The lent tables with their state counts as read from the words. Whether they are usable is the walk's to say, with 16 and 22.
-fn compile<'a>(words: &'a [u16], sets: &'a [u64]) -> Compiled<'a>
+pub fn compile<'a>(words: &'a [u16], sets: &'a [u64]) -> Compiled<'a>
     ensures { λ r. ⌜ r ≡ compiledOf (words .entry) (sets .entry) ⌝ }
 {
     let left_states = state_count(words, tables::LEFT_COUNT);

@@ -1,36 +1,66 @@
 -- The whole call: what each refusal is, and that the memory worked in is as it was.
 -- Assumes nothing.
-use mathlib.Core.Path.{_≡_, refl, sym, ap, ap₂, _∙_}
-use Prim.Native.Nat.{ℕ, _*_, _≤_, _<_}
+use mathlib.Core.Path.{_≡_, sym, ap, ap₂, _∙_}
+use Prim.Native.Nat.{ℕ, _+_, _*_, _≤_, _<_}
 use native.Mathlib.Omega.{arith}
 use mathlib.Core.Bool.{Bool, true, false, cond}
 use mathlib.Core.List.{List, _++_}
 use lib.Dec.{leb}
 use lib.ListN.{length, take, drop, take-append-drop}
-use borrow.Author.Tests.{le-leb, lt-leb}
-use Rattle.exceptions.specs.Layout.{wordsOf, phonesFor}
-use Rattle.exceptions.specs.Judging.{isList, Listing, listingOf, saysOf}
+use lib.Seq.{length-take-le}
+use borrow.Author.Tests.{le-leb, lt-leb, leb-true}
+use Rattle.rules.specs.Limits.{maxName, maxNames}
+use Rattle.rules.proofs.Cases.{byBool}
+use Rattle.rules.specs.Refusals.{refusalNumber, refusalPlace}
+use Rattle.rules.specs.declared.Answer.the-variants.{Refused}
+use Rattle.rules.specs.declared.Refusal.{Refusal}
+use Rattle.rules.specs.declared.Refusal.the-variants.{NotRuleset, WordsRoom, SetsRoom, FileRoom, BadList, BadSheet}
+use Rattle.exceptions.specs.Judging.{isList, Listing, listingOf}
 use Rattle.image.specs.Image.{valid}
 use Rattle.fitting.specs.Fitting.{Str}
-use Rattle.speech.specs.Speech.{Outcome}
-use Rattle.speech.specs.Places.{frameSize}
 use Rattle.speech.proofs.Call.{listing-some, listing-none}
 use Rattle.speech.proofs.Lookup.{says-all}
-use Rattle.sheet_judging.specs.Sheet.{maxNames, namesIn, soundSheet}
-use Rattle.sheet_answers.specs.Many.{replySize}
-use Rattle.sheet.specs.Sheet.{SheetSaid, sheetSaid, refusedSheet, judgedSheet, alone, zeros, treeSize, partsSize, repliesSize, withList, withMemory, spokenSheet}
+use Rattle.tables.specs.Words.{Compiled}
+use Rattle.prefix_tree.specs.Tree.{nodeSize}
+use Rattle.many_names.specs.Names.{namesIn, soundSheet}
+use Rattle.many_names.specs.Many.{replySize}
+use Rattle.many_names.proofs.Sizes.{names-few, names-enough}
+use Rattle.sheet_judging.specs.Sheet.{workRoom}
+use Rattle.sheet.specs.Zeros.{zeros}
+use Rattle.sheet.specs.Sheet.{SheetSaid, sheetSaid, refusedSheet, judgedSheet, alone, treeSize, keptSize, repliesSize, Ready, namesThrough, withList, withMemory, sheetThrough}
 use Rattle.sheet.specs.declared.SheetAnswer.{SheetAnswer}
-use Rattle.sheet.proofs.Sizes.{names-few, names-enough}
+use Rattle.sheet.proofs.Zeros.{zeros-room, zeros-all}
 
-pub few-names : (sheet : List ℕ) (limit : ℕ) → limit ≡ length (namesIn maxNames sheet) → limit ≤ maxNames
-few-names sheet limit is = omega (arith, names-few maxNames sheet)
+-- the answer that refuses a sheet
+abbrev pub refusing : Refusal → SheetAnswer
+refusing x = record { answer = Refused x; steps = 0; names = 0 }
 
-pub limit-names : (sheet : List ℕ) (limit : ℕ) → limit ≡ length (namesIn maxNames sheet) → namesIn limit sheet ≡ namesIn maxNames sheet
-limit-names sheet limit is = names-enough limit maxNames sheet (omega arith) (few-names sheet limit is)
+module _ (replies phones numbers : List ℕ) where
+  pub refused-as : (x : Refusal) (r : SheetAnswer) → r ≡ refusing x → sheetSaid r replies phones numbers ≡ refusedSheet (refusalNumber x) (refusalPlace x) replies phones numbers
+  refused-as x r h = ap (λ (y : SheetAnswer). sheetSaid y replies phones numbers) h
+
+-- ---- as many names as there are
+
+module _ (sheet : List ℕ) (limit : ℕ) (is : limit ≡ length (namesIn maxNames sheet)) where
+  pub few-names : limit ≤ maxNames
+  few-names = omega (arith, names-few maxNames sheet)
+
+  pub limit-names : namesIn limit sheet ≡ namesIn maxNames sheet
+  limit-names = names-enough limit maxNames sheet (omega arith) few-names
 
 -- ---- the memory
 
-module _ (sheet tree parts replies phones numbers : List ℕ) (x : SheetSaid) (limit : ℕ) (is : limit ≡ length (namesIn maxNames sheet)) where
+pub room-few : (sheet : List ℕ) (room : ℕ) → room ≡ workRoom sheet → room ≤ maxNames * (maxName + 1)
+room-few sheet room is =
+    byBool (leb (length sheet) (maxNames * (maxName + 1)))
+    (λ b.
+    let e : room ≡ length sheet = is ∙ ap (λ (t : Bool). cond t (length sheet) (maxNames * (maxName + 1))) b in
+    omega (arith, leb-true (length sheet) (maxNames * (maxName + 1)) b))
+    (λ b.
+    let e : room ≡ maxNames * (maxName + 1) = is ∙ ap (λ (t : Bool). cond t (length sheet) (maxNames * (maxName + 1))) b in
+    omega arith)
+
+module _ (sheet tree kept replies phones numbers : List ℕ) (x : SheetSaid) (room limit : ℕ) (work : room ≡ workRoom sheet) (is : limit ≡ length (namesIn maxNames sheet)) where
   abbrev names : List Str
   names = namesIn maxNames sheet
 
@@ -38,73 +68,91 @@ module _ (sheet tree parts replies phones numbers : List ℕ) (x : SheetSaid) (l
   lacking n p = refusedSheet n p replies phones numbers
 
   abbrev from : Bool → Bool → Bool → SheetSaid
-  from a b c = cond a (cond b (cond c x (lacking 15 (repliesSize names))) (lacking 12 (partsSize names))) (lacking 11 (treeSize sheet))
+  from a b c = cond a (cond b (cond c x (lacking 15 (repliesSize names))) (lacking 12 (keptSize sheet))) (lacking 11 (treeSize sheet))
 
-  parts-are : zeros (frameSize * limit) parts ≡ zeros (partsSize names) parts
-  parts-are = ap (λ (k : ℕ). zeros (frameSize * k) parts) is
+  tree-is : nodeSize * (room + 2) ≡ treeSize sheet
+  tree-is = ap (λ (k : ℕ). nodeSize * (k + 2)) work
 
-  told : (n p q : ℕ) → p ≡ q → (r : SheetAnswer) → r ≡ record { code = n; place = p; steps = 0; count = 0 } → sheetSaid r replies phones numbers ≡ lacking n q
-  told n p q e r h = ap (λ (y : SheetAnswer). sheetSaid y replies phones numbers) h ∙ ap (λ (k : ℕ). lacking n k) e
+  replies-are : replySize * limit ≡ repliesSize names
+  replies-are = ap (λ (k : ℕ). replySize * k) is
 
-  pub lacks-tree : zeros (treeSize sheet) tree ≡ false → (r : SheetAnswer) → r ≡ record { code = 11; place = treeSize sheet; steps = 0; count = 0 }
-      → sheetSaid r replies phones numbers ≡ withMemory sheet names tree parts x replies phones numbers
-  lacks-tree e r h = told 11 (treeSize sheet) (treeSize sheet) refl r h ∙ sym (ap (λ (a : Bool). from a (zeros (partsSize names) parts) (leb (repliesSize names) (length replies))) e)
+  pub lacks-tree : zeros (nodeSize * (room + 2)) tree ≡ false → (r : SheetAnswer) → r ≡ refusing (WordsRoom (nodeSize * (room + 2)))
+      → sheetSaid r replies phones numbers ≡ withMemory sheet names tree kept x replies phones numbers
+  lacks-tree e r h =
+      refused-as replies phones numbers (WordsRoom (nodeSize * (room + 2))) r h ∙ ap (lacking 11) tree-is
+      ∙ sym (ap (λ (a : Bool). from a (zeros (keptSize sheet) kept) (leb (repliesSize names) (length replies))) (ap (λ (k : ℕ). zeros k tree) (sym tree-is) ∙ e))
 
-  module _ (t : zeros (treeSize sheet) tree ≡ true) where
-    pub lacks-parts : zeros (frameSize * limit) parts ≡ false → (r : SheetAnswer) → r ≡ record { code = 12; place = frameSize * limit; steps = 0; count = 0 }
-        → sheetSaid r replies phones numbers ≡ withMemory sheet names tree parts x replies phones numbers
-    lacks-parts e r h =
-        told 12 (frameSize * limit) (partsSize names) (ap (λ (k : ℕ). frameSize * k) is) r h
-        ∙ sym (ap₂ (λ (a b : Bool). from a b (leb (repliesSize names) (length replies))) t (sym parts-are ∙ e))
+  module _ (t : zeros (nodeSize * (room + 2)) tree ≡ true) where
+    with-kept : (b : Bool) → zeros room kept ≡ b → withMemory sheet names tree kept x replies phones numbers ≡ from true b (leb (repliesSize names) (length replies))
+    with-kept b e =
+        ap₂ (λ (a b : Bool). from a b (leb (repliesSize names) (length replies)))
+        (ap (λ (k : ℕ). zeros k tree) (sym tree-is) ∙ t) (ap (λ (k : ℕ). zeros k kept) (sym work) ∙ e)
 
-    module _ (s : zeros (frameSize * limit) parts ≡ true) where
-      given : (c : Bool) → leb (repliesSize names) (length replies) ≡ c → withMemory sheet names tree parts x replies phones numbers ≡ from true true c
-      given c e = ap₂ (λ (a b : Bool). from a b (leb (repliesSize names) (length replies))) t (sym parts-are ∙ s) ∙ ap (from true true) e
+    pub lacks-kept : zeros room kept ≡ false → (r : SheetAnswer) → r ≡ refusing (SetsRoom room)
+        → sheetSaid r replies phones numbers ≡ withMemory sheet names tree kept x replies phones numbers
+    lacks-kept e r h = refused-as replies phones numbers (SetsRoom room) r h ∙ ap (lacking 12) work ∙ sym (with-kept false e)
 
-      pub lacks-replies : length replies < replySize * limit → (r : SheetAnswer) → r ≡ record { code = 15; place = replySize * limit; steps = 0; count = 0 }
-          → sheetSaid r replies phones numbers ≡ withMemory sheet names tree parts x replies phones numbers
+    module _ (s : zeros room kept ≡ true) where
+      with-replies : (c : Bool) → leb (repliesSize names) (length replies) ≡ c → withMemory sheet names tree kept x replies phones numbers ≡ from true true c
+      with-replies c e = with-kept true s ∙ ap (from true true) e
+
+      pub lacks-replies : length replies < replySize * limit → (r : SheetAnswer) → r ≡ refusing (FileRoom (replySize * limit))
+          → sheetSaid r replies phones numbers ≡ withMemory sheet names tree kept x replies phones numbers
       lacks-replies l r h =
-          let e : replySize * limit ≡ repliesSize names = ap (λ (k : ℕ). replySize * k) is in
-          told 15 (replySize * limit) (repliesSize names) e r h ∙ sym (given false (lt-leb (repliesSize names) (length replies) (omega arith)))
+          refused-as replies phones numbers (FileRoom (replySize * limit)) r h ∙ ap (lacking 15) replies-are
+          ∙ sym (with-replies false (lt-leb (repliesSize names) (length replies) (omega (arith, replies-are))))
 
-      pub has-memory : replySize * limit ≤ length replies → (y : SheetSaid) → y ≡ x → y ≡ withMemory sheet names tree parts x replies phones numbers
-      has-memory l y h =
-          let e : replySize * limit ≡ repliesSize names = ap (λ (k : ℕ). replySize * k) is in
-          h ∙ sym (given true (le-leb (repliesSize names) (length replies) (omega arith)))
+      pub has-memory : replySize * limit ≤ length replies → (y : SheetSaid) → y ≡ x → y ≡ withMemory sheet names tree kept x replies phones numbers
+      has-memory l y h = h ∙ sym (with-replies true (le-leb (repliesSize names) (length replies) (omega (arith, replies-are))))
 
 pub put-front : (n : ℕ) (s z : List ℕ) → z ≡ take n s → z ++ drop n s ≡ s
 put-front n s z e = ap (λ (y : List ℕ). y ++ drop n s) e ∙ take-append-drop n s
 
+-- zero memory of these sizes is all that the names ask
+pub ready : (image list sheet replies tree kept : List ℕ) (room limit : ℕ) → room ≡ workRoom sheet → limit ≡ length (namesIn maxNames sheet) → valid image ≡ true → isList list ≡ true
+    → replySize * limit ≤ length replies → zeros (nodeSize * (room + 2)) tree ≡ true → zeros room kept ≡ true
+    → Ready image list sheet limit replies (take (nodeSize * (room + 2)) tree) (take room kept)
+ready image list sheet replies tree kept room limit work is v e l t k =
+    let z = zeros-all (nodeSize * (room + 2)) tree t in
+    record {
+      sound = v;
+      listed = e;
+      few = few-names sheet limit is;
+      replies-room = l;
+      tree-room = omega (arith, work, length-take-le (nodeSize * (room + 2)) tree (zeros-room (nodeSize * (room + 2)) tree t));
+      kept-room = omega (arith, work, length-take-le room kept (zeros-room room kept k));
+      root = record { childless = z .each _; state-is = z .each _ };
+    }
+
 -- ---- the order of refusals
 
-module _ (image list words sets sheet tree parts replies phones numbers : List ℕ) where
+module _ (c : Compiled) (image list sheet tree kept replies phones numbers : List ℕ) where
   abbrev all : SheetSaid
-  all = spokenSheet image (listingOf list) words sets sheet tree parts replies phones numbers
+  all = sheetThrough c image (listingOf list) sheet tree kept replies phones numbers
 
-  abbrev with : Listing → (Str → Str) → SheetSaid
-  with l m = withMemory sheet (namesIn maxNames sheet) tree parts (judgedSheet (alone image l words sets) m (namesIn maxNames sheet) replies phones numbers) replies phones numbers
+  abbrev with : (Str → Str) → SheetSaid
+  with m =
+      withMemory sheet (namesIn maxNames sheet) tree kept (judgedSheet c (alone c image (listingOf list)) m (namesIn maxNames sheet) replies phones numbers) replies phones numbers
 
   abbrev by : Bool → Bool → Listing → SheetSaid
-  by a b l = cond a (cond b (withList l (refusedSheet 17 0 replies phones numbers) (with (listingOf list))) (refusedSheet 0 0 replies phones numbers)) (refusedSheet 24 0 replies phones numbers)
+  by a b l = cond a (cond b (withList l (refusedSheet 17 0 replies phones numbers) with) (refusedSheet 0 0 replies phones numbers)) (refusedSheet 24 0 replies phones numbers)
 
-  said : (n : ℕ) (r : SheetAnswer) → r ≡ record { code = n; place = 0; steps = 0; count = 0 } → sheetSaid r replies phones numbers ≡ refusedSheet n 0 replies phones numbers
-  said n r h = ap (λ (y : SheetAnswer). sheetSaid y replies phones numbers) h
-
-  pub cut-sheet : soundSheet maxNames sheet ≡ false → (r : SheetAnswer) → r ≡ record { code = 24; place = 0; steps = 0; count = 0 } → sheetSaid r replies phones numbers ≡ all
-  unfolding spokenSheet
-  cut-sheet e r h = said 24 r h ∙ sym (ap (λ (a : Bool). by a (valid image) (listingOf list)) e)
+  pub cut-sheet : soundSheet maxNames sheet ≡ false → (r : SheetAnswer) → r ≡ refusing (BadSheet 0) → sheetSaid r replies phones numbers ≡ all
+  unfolding sheetThrough
+  cut-sheet e r h = refused-as replies phones numbers (BadSheet 0) r h ∙ sym (ap (λ (a : Bool). by a (valid image) (listingOf list)) e)
 
   module _ (ok : soundSheet maxNames sheet ≡ true) where
-    pub no-ruleset : valid image ≡ false → (r : SheetAnswer) → r ≡ record { code = 0; place = 0; steps = 0; count = 0 } → sheetSaid r replies phones numbers ≡ all
-    unfolding spokenSheet
-    no-ruleset e r h = said 0 r h ∙ sym (ap₂ (λ (a b : Bool). by a b (listingOf list)) ok e)
+    pub no-rules : valid image ≡ false → (r : SheetAnswer) → r ≡ refusing (NotRuleset 0) → sheetSaid r replies phones numbers ≡ all
+    unfolding sheetThrough
+    no-rules e r h = refused-as replies phones numbers (NotRuleset 0) r h ∙ sym (ap₂ (λ (a b : Bool). by a b (listingOf list)) ok e)
 
     module _ (v : valid image ≡ true) where
-      pub no-list : isList list ≡ false → (r : SheetAnswer) → r ≡ record { code = 17; place = 0; steps = 0; count = 0 } → sheetSaid r replies phones numbers ≡ all
-      unfolding spokenSheet
-      no-list e r h = said 17 r h ∙ sym (ap₂ (λ (a b : Bool). by a b (listingOf list)) ok v ∙ ap (by true true) (listing-none list e))
+      pub no-list : isList list ≡ false → (r : SheetAnswer) → r ≡ refusing (BadList 0) → sheetSaid r replies phones numbers ≡ all
+      unfolding sheetThrough
+      no-list e r h =
+          refused-as replies phones numbers (BadList 0) r h ∙ sym (ap₂ (λ (a b : Bool). by a b (listingOf list)) ok v ∙ ap (by true true) (listing-none list e))
 
-      pub whole-sheet : isList list ≡ true → (y : SheetSaid) → y ≡ with (listingOf list) (saysOf list) → y ≡ all
-      unfolding spokenSheet
-      whole-sheet e y h =
-          h ∙ ap (with (listingOf list)) (says-all list e) ∙ sym (ap₂ (λ (a b : Bool). by a b (listingOf list)) ok v ∙ ap (by true true) (listing-some list e))
+      pub whole-sheet : isList list ≡ true → (y : SheetSaid)
+          → y ≡ withMemory sheet (namesIn maxNames sheet) tree kept (namesThrough c image list sheet maxNames replies phones numbers) replies phones numbers → y ≡ all
+      unfolding sheetThrough
+      whole-sheet e y h = h ∙ ap with (says-all list e) ∙ sym (ap₂ (λ (a b : Bool). by a b (listingOf list)) ok v ∙ ap (by true true) (listing-some list e))

@@ -1,7 +1,7 @@
 -- Memory that is all zero: the test of it, clearing it, and that it is then as it was.
 -- Assumes nothing.
-use mathlib.Core.Path.{_≡_, refl, sym, ap, ap₂, _∙_, subst}
-use Prim.Native.Nat.{ℕ, zero, suc, _+_, _-_, _≤_, _<_}
+use mathlib.Core.Path.{_≡_, refl, sym, ap, _∙_}
+use Prim.Native.Nat.{ℕ, zero, suc, _+_, _≤_, _<_}
 use native.Mathlib.Omega.{arith}
 use native.Mathlib.Decide.{decLe}
 use native.Mathlib.Numerals.{add-one}
@@ -11,9 +11,9 @@ use lib.Dec.{leb, eqb, eqb→eq}
 use lib.ListN.{length, getD, take, drop, set, length-set}
 use lib.Seq.{drop-cons, getD-take, getD-set-same, getD-set-other, ext-getD, length-take-le, drop-length}
 use borrow.Author.Tests.{le-leb, lt-leb, ne-eqb, eq-eqb, leb-true}
-use Rattle.rules.proofs.Cases.{byBool, and-l, and-r}
-use Rattle.tables.proofs.Truth.{clash, true-eq}
-use Rattle.sheet.specs.Sheet.{allZero, zeros, AllZero, Cleared}
+use Rattle.rules.proofs.Cases.{and-l, and-r}
+use Rattle.tables.proofs.Truth.{true-eq}
+use Rattle.sheet.specs.Zeros.{allZero, zeros, AllZero, Cleared}
 
 -- ---- the test
 

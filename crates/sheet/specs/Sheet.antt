@@ -1,26 +1,31 @@
 -- A whole transect in one go: document 02, request 8. What a call that answers a sheet gives: whether it is refused, the one count, how many names were
 -- answered, their replies, and the lent phones and numbers after it.
 -- Assumes nothing.
-use Prim.Native.Nat.{ℕ, _+_, _-_, _*_}
+use Prim.Native.Nat.{ℕ, _+_, _*_, _≤_}
 use mathlib.Core.Path.{_≡_}
-use mathlib.Core.Bool.{Bool, true, cond, _&&_}
-use mathlib.Core.List.{List, [], _∷_}
+use mathlib.Core.Bool.{true, cond}
+use mathlib.Core.List.{List}
 use mathlib.Core.Option.{none, some}
 use lib.Dec.{leb, eqb}
-use lib.ListN.{length, getD, take}
+use lib.ListN.{length}
 use Rattle.rules.specs.Memory.{over}
-use Rattle.rules.specs.Limits.{maxName, maxNames}
+use Rattle.rules.specs.Limits.{maxNames}
 use Rattle.rules.specs.Refusals.{Reply, accepted, declined, replyOf}
-use Rattle.exceptions.specs.Judging.{Listing}
+use Rattle.rules.specs.declared.Refusal.{Refusal}
+use Rattle.rules.specs.declared.Refusal.the-variants.{BadTables, StaleTables}
+use Rattle.exceptions.specs.Judging.{Listing, isList, listingOf, saysOf}
 use Rattle.image.specs.Image.{valid, editsOf, literalsOf}
 use Rattle.fitting.specs.Fitting.{Str}
 use Rattle.speech.specs.Speech.{Outcome, judgedCall}
 use Rattle.tables.specs.Words.{Compiled, compiledFrom}
 use Rattle.tables.specs.Walk.{sharedSteps, walkThrough}
 use Rattle.prefix_tree.specs.Tree.{nodeSize}
-use Rattle.sheet_judging.specs.Sheet.{namesIn, soundSheet, sheetWords, firstRefusal}
-use Rattle.sheet_answers.specs.Many.{replySize, Lot, each}
+use Rattle.many_names.specs.Names.{namesIn, soundSheet}
+use Rattle.many_names.specs.Many.{replySize, each}
+use Rattle.sheet_judging.specs.Sheet.{sheetWords, firstRefusal, workRoom}
+use Rattle.sheet_judging.specs.Kept.{Root}
 use Rattle.sheet_answers.specs.Answers.{saidBy}
+use Rattle.sheet.specs.Zeros.{zeros}
 use Rattle.sheet.specs.declared.SheetAnswer.{SheetAnswer}
 
 pub record SheetSaid : Type 0 where
@@ -60,47 +65,25 @@ orElse (declined n p) x replies phones numbers = refusedSheet n p replies phones
 abbrev pub judgedSheet : Compiled → (Str → Outcome) → (Str → Str) → List Str → List ℕ → List ℕ → List ℕ → SheetSaid
 judgedSheet c f m names replies phones numbers = orElse (firstRefusal f names) (answeredSheet c f m names replies phones numbers) replies phones numbers
 
+-- that refusal, from its number
+abbrev pub tablesRefusal : ℕ → Refusal
+tablesRefusal n = cond (eqb n 22) (StaleTables 0) (BadTables 0)
+
 -- what a name comes to alone, before the lent memory is looked at
 abbrev pub alone : Compiled → List ℕ → Listing → Str → Outcome
 alone c image l name = judgedCall image l name (walkThrough c (editsOf image) (literalsOf image) name)
 
--- ---- memory to work in: zero words, which are zero again afterwards
-
-abbrev pub allZero : List ℕ → Bool
-allZero [] = true
-allZero (x ∷ s) = eqb x 0 && allZero s
-
--- the first n words are there, and are 0
-abbrev pub zeros : ℕ → List ℕ → Bool
-zeros n s = leb n (length s) && allZero (take n s)
-
-pub record AllZero (s : List ℕ) : Type 0 where
-  pub each : (k : ℕ) → getD s k 0 ≡ 0
-
-pub record Cleared (s s′ : List ℕ) : Type 0 where
-  pub sized : length s′ ≡ length s
-  pub zero-now : AllZero s′
-
--- bytes of a sheet for which nodes and parts are needed: no name of more than maxName bytes has words
-abbrev pub workRoom : List ℕ → ℕ
-workRoom sheet = cond (leb (length sheet) (maxNames * (maxName + 1))) (length sheet) (maxNames * (maxName + 1))
+-- ---- memory to work in
 
 -- words for the tree and for the kept parts, and numbers for the replies
 abbrev pub treeSize : List ℕ → ℕ
-treeSize sheet = nodeSize * (workRoom sheet + 2)
+treeSize sheet = nodeSize * (workRoom sheet + 1)
 
 abbrev pub keptSize : List ℕ → ℕ
 keptSize sheet = workRoom sheet
 
 abbrev pub repliesSize : List Str → ℕ
 repliesSize names = replySize * length names
-
--- ---- the whole call
-
--- 17, for memory that is no list, or else what follows
-abbrev pub withList : Listing → SheetSaid → ((Str → Str) → SheetSaid) → SheetSaid
-withList none bad x = bad
-withList (some m) bad x = x m
 
 -- 11, 12 and 15 for too little memory to work in and too few replies
 abbrev pub withMemory : List ℕ → List Str → List ℕ → List ℕ → SheetSaid → List ℕ → List ℕ → List ℕ → SheetSaid
@@ -110,6 +93,28 @@ withMemory sheet names tree kept x replies phones numbers =
     (cond (leb (repliesSize names) (length replies)) x (refusedSheet 15 (repliesSize names) replies phones numbers))
     (refusedSheet 12 (keptSize sheet) replies phones numbers))
     (refusedSheet 11 (treeSize sheet) replies phones numbers)
+
+-- ---- the names, once all that refuses a sheet before them is past
+
+-- what is known then: a ruleset, a list, and room for so many names
+pub record Ready (image list sheet : List ℕ) (limit : ℕ) (replies tree kept : List ℕ) : Type 0 where
+  pub sound : valid image ≡ true
+  pub listed : isList list ≡ true
+  pub few : limit ≤ maxNames
+  pub replies-room : replySize * limit ≤ length replies
+  pub tree-room : treeSize sheet ≤ length tree
+  pub kept-room : keptSize sheet ≤ length kept
+  pub root : Root tree
+
+abbrev pub namesThrough : Compiled → List ℕ → List ℕ → List ℕ → ℕ → List ℕ → List ℕ → List ℕ → SheetSaid
+namesThrough c image list sheet limit = judgedSheet c (alone c image (listingOf list)) (saysOf list) (namesIn limit sheet)
+
+-- ---- the whole call
+
+-- 17, for memory that is no list, or else what follows
+abbrev pub withList : Listing → SheetSaid → ((Str → Str) → SheetSaid) → SheetSaid
+withList none bad x = bad
+withList (some m) bad x = x m
 
 -- A sheet through a compiled ruleset: 24 before all else; 0; 17; the memory; then the first 16 or 22 that a name alone would get; else each name has
 -- its answer.

@@ -1,28 +1,49 @@
-// A whole sheetSaid in one go (document 02, request 8).
+// A whole transect in one go (document 02, request 8): the names of a walk sheet answered together, sent through a compiled ruleset.
+use compiled::Compiled;
+use rules::Answer;
+use rules::Refusal;
 ghost use mathlib.Core.Path.{_≡_};
 ghost use mathlib.Core.Bool.{true};
-ghost use Prim.Native.Nat.{_+_, _*_, _<_, _≤_};
 ghost use lib.ListN.{length};
-ghost use Rattle.exceptions.specs.Judging.{isList, saysOf, listingOf};
+ghost use Rattle.rules.specs.Limits.{maxNames};
+ghost use Rattle.exceptions.specs.Judging.{isList, listingOf};
 ghost use Rattle.image.specs.Image.{valid, editsOf};
-ghost use Rattle.speech.specs.Places.{frameSize};
-ghost use Rattle.walk.specs.Walked.{FitsAs};
-ghost use Rattle.prefix_tree.specs.Tree.{nodeSize};
-ghost use Rattle.sheet_name.specs.Judging.{outcomeOf};
-ghost use Rattle.sheet_judging.specs.Sheet.{maxNames, namesIn, soundSheet};
-ghost use Rattle.sheet_judging.specs.Kept.{Root};
-ghost use Rattle.sheet_answers.specs.Many.{replySize};
-ghost use Rattle.sheet.specs.Sheet.{sheetSaid, judgedSheet, alone, zeros, AllZero, Cleared, withMemory, spokenSheet};
+ghost use Rattle.tables.specs.Words.{compiledFrom};
+ghost use Rattle.walk.specs.Walked.{FitsAs, compiledWith};
+ghost use Rattle.many_names.specs.Names.{namesIn};
+ghost use Rattle.sheet_judging.specs.Sheet.{workRoom};
+ghost use Rattle.sheet.specs.Zeros.{zeros, AllZero, Cleared};
+ghost use Rattle.sheet.specs.Sheet.{sheetSaid, tablesRefusal, Ready, namesThrough, withMemory, spokenSheet};
 
-// The most names of a sheet.
-pub const MAX_NAMES: usize = 256;
-
-// The answer to a sheet: 255 or the number of its refusal with the place, the one count of entries looked up, and how many names were answered.
+// The answer to a sheet, the one count of entries looked up, and how many names were answered.
 pub struct SheetAnswer {
-    pub code: u8,
-    pub place: usize,
+    pub answer: Answer,
     pub steps: usize,
-    pub count: usize,
+    pub names: usize,
+}
+
+// A refusal of the sheet.
+fn refused(x: Refusal) -> SheetAnswer
+    ensures { λ r. ⌜ r ≡ record { answer = Answer.Refused x; steps = 0; names = 0 } ⌝ }
+{
+    let answer = Answer::Refused(x);
+    SheetAnswer {
+        answer,
+        steps: 0,
+        names: 0,
+    }
+}
+
+// ---- the names
+
+// 16 or 22, which a name alone would get.
+fn tables_refusal(number: u8) -> Refusal
+    ensures { λ r. ⌜ r ≡ tablesRefusal number ⌝ }
+{
+    if number == 22 {
+        return Refusal::StaleTables(0);
+    }
+    Refusal::BadTables(0)
 }
 
 // The names of a sheet are judged, then answered, by tables of which the lengths and the edit count were looked at.
@@ -41,12 +62,13 @@ fn answer_fit<'a>(
     numbers: &mut [u16],
     replies: &mut [usize],
     tree: &mut [u16],
-    parts: &mut [u32],
+    kept: &mut [u32],
 ) -> SheetAnswer
-    requires { ⌜ FitsAs (now words) (now sets) «left_states» «right_states» (editsOf (now image)) fit stale × (valid (now image) ≡ true) × (isList (now list) ≡ true) × Root (now tree) × (nodeSize * (length (now sheet) + 2) ≤ length (now tree)) × (limit ≤ maxNames) × (frameSize * limit ≤ length (now parts)) × (replySize * limit ≤ length (now replies)) ⌝ }
-    ensures { λ r. ⌜ sheetSaid r (now (replies .exit)) (now (phones .exit)) (now (numbers .exit)) ≡ judgedSheet (outcomeOf (now (words .entry)) (now (sets .entry)) «left_states» «right_states» (now (image .entry)) (now (list .entry))) (saysOf (now (list .entry))) (namesIn limit (now (sheet .entry))) (now (replies .entry)) (now (phones .entry)) (now (numbers .entry)) ⌝ }
+    requires { ⌜ FitsAs (now words) (now sets) «left_states» «right_states» (editsOf (now image)) fit stale × Ready (now image) (now list) (now sheet) limit (now replies) (now tree) (now kept) ⌝ }
+    ensures { λ r. ⌜ sheetSaid r (now (replies .exit)) (now (phones .exit)) (now (numbers .exit)) ≡ namesThrough (compiledWith (now (words .entry)) (now (sets .entry)) «left_states» «right_states») (now (image .entry)) (now (list .entry)) (now (sheet .entry)) limit (now (replies .entry)) (now (phones .entry)) (now (numbers .entry)) ⌝ }
 {
-    let mut ends = [0u32; MAX_NAMES];
+    let mut ends = [0u32; rules::MAX_NAMES];
+    let mut starts = [0u32; rules::MAX_NAMES];
     let p = sheet_judging::judge_sheet(
         words,
         sets,
@@ -60,62 +82,153 @@ fn answer_fit<'a>(
         limit,
         tree,
         &mut ends,
-        &mut *parts,
+        &mut starts,
+        &mut *kept,
     );
     if p.refusal != 0 {
-        return SheetAnswer {
-            code: p.refusal,
-            place: 0,
-            steps: 0,
-            count: 0,
-        };
+        return refused(tables_refusal(p.refusal));
     }
-    let count = sheet_answers::answer_sheet(
+    let names = sheet_answers::answer_sheet(
         image,
         list,
         sheet,
         limit,
         &ends,
-        parts,
+        &starts,
+        kept,
         phones,
         numbers,
         replies,
     );
     SheetAnswer {
-        code: rules::ACCEPTED,
-        place: 0,
+        answer: Answer::Accepted,
         steps: p.steps,
-        count,
+        names,
     }
 }
 
-// ---- the names of a sheet
-
-// Whether a sheet is sound, and how many names it has.
-struct SheetSize {
-    sound: bool,
-    count: usize,
-}
-
-// 24: no name is cut short, and there are no more than 256.
-fn size_of(sheet: &[u8]) -> SheetSize
-    ensures sound { λ r. ⌜ r .sound ≡ soundSheet maxNames (now (sheet .entry)) ⌝ }
-    ensures count { λ r. ⌜ r .count ≡ length (namesIn maxNames (now (sheet .entry))) ⌝ }
-    ensures few { λ r. ⌜ (r .sound ≡ true → length (now (sheet .entry)) ≤ 65536) ⌝ }
+// The tables are judged once for the whole sheet.
+fn answer_tables<'a>(
+    words: &'a [u16],
+    sets: &'a [u64],
+    left_states: usize,
+    right_states: usize,
+    image: &[u8],
+    list: &[u32],
+    sheet: &[u8],
+    limit: usize,
+    phones: &mut [u8],
+    numbers: &mut [u16],
+    replies: &mut [usize],
+    tree: &mut [u16],
+    kept: &mut [u32],
+) -> SheetAnswer
+    requires { ⌜ Ready (now image) (now list) (now sheet) limit (now replies) (now tree) (now kept) ⌝ }
+    ensures { λ r. ⌜ sheetSaid r (now (replies .exit)) (now (phones .exit)) (now (numbers .exit)) ≡ namesThrough (compiledWith (now (words .entry)) (now (sets .entry)) «left_states» «right_states») (now (image .entry)) (now (list .entry)) (now (sheet .entry)) limit (now (replies .entry)) (now (phones .entry)) (now (numbers .entry)) ⌝ }
 {
-    let mut at: usize = 0;
-    let mut count: usize = 0;
-    while sheet_judging::has_next(sheet, at, count, MAX_NAMES) {
-        at = at + 1 + numbers::wide(sheet[at]);
-        count += 1;
-    }
-    let sound = at == sheet.len();
-    SheetSize { sound, count }
+    let long = walk::lengths_fit(words, sets, left_states, right_states);
+    let stale = walk::other_count(words, long, image::edit_count(image));
+    let fit = walk::can_pass(long, stale);
+    answer_fit(
+        words,
+        sets,
+        left_states,
+        right_states,
+        fit,
+        stale,
+        image,
+        list,
+        sheet,
+        limit,
+        phones,
+        numbers,
+        replies,
+        tree,
+        kept,
+    )
+}
+
+// ---- the compiled ruleset
+
+// The thin entry: the names of a sheet are sent through a compiled ruleset, which is taken apart for the covered functions.
+fn speak<'a>(
+    compiled: Compiled<'a>,
+    image: &[u8],
+    list: &[u32],
+    sheet: &[u8],
+    limit: usize,
+    phones: &mut [u8],
+    numbers: &mut [u16],
+    replies: &mut [usize],
+    tree: &mut [u16],
+    kept: &mut [u32],
+) -> SheetAnswer
+    requires { ⌜ Ready (now image) (now list) (now sheet) limit (now replies) (now tree) (now kept) ⌝ }
+    ensures { λ r. ⌜ sheetSaid r (now (replies .exit)) (now (phones .exit)) (now (numbers .exit)) ≡ namesThrough (compiledWith (now (compiled .entry .words)) (now (compiled .entry .sets)) (compiled .entry .«left_states») (compiled .entry .«right_states»)) (now (image .entry)) (now (list .entry)) (now (sheet .entry)) limit (now (replies .entry)) (now (phones .entry)) (now (numbers .entry)) ⌝ }
+{
+    answer_tables(
+        compiled.words,
+        compiled.sets,
+        compiled.left_states,
+        compiled.right_states,
+        image,
+        list,
+        sheet,
+        limit,
+        phones,
+        numbers,
+        replies,
+        tree,
+        kept,
+    )
+}
+
+// Plain parameters only: the words are compiled once, and all names are sent through.
+fn speak_words<'a>(
+    words: &'a [u16],
+    sets: &'a [u64],
+    image: &[u8],
+    list: &[u32],
+    sheet: &[u8],
+    limit: usize,
+    phones: &mut [u8],
+    numbers: &mut [u16],
+    replies: &mut [usize],
+    tree: &mut [u16],
+    kept: &mut [u32],
+) -> SheetAnswer
+    requires { ⌜ Ready (now image) (now list) (now sheet) limit (now replies) (now tree) (now kept) ⌝ }
+    ensures { λ r. ⌜ sheetSaid r (now (replies .exit)) (now (phones .exit)) (now (numbers .exit)) ≡ namesThrough (compiledFrom (now (words .entry)) (now (sets .entry))) (now (image .entry)) (now (list .entry)) (now (sheet .entry)) limit (now (replies .entry)) (now (phones .entry)) (now (numbers .entry)) ⌝ }
+{
+    let compiled = compiled::compile(words, sets);
+    speak(
+        compiled,
+        image,
+        list,
+        sheet,
+        limit,
+        phones,
+        numbers,
+        replies,
+        tree,
+        kept,
+    )
 }
 
 // ---- memory to work in
 
-// Whether the first n words are there and are 0.
+// Bytes of a sheet for which nodes and parts are needed.
+fn work_room(sheet: &[u8]) -> usize
+    ensures { λ r. ⌜ r ≡ workRoom (now (sheet .entry)) ⌝ }
+{
+    let most = rules::MAX_NAMES * (rules::MAX_NAME + 1);
+    if most < sheet.len() {
+        return most;
+    }
+    sheet.len()
+}
+
+// Whether the first n words are there and are 0. All are looked at, which is faster than to stop at the first that is not.
 fn zero_words(s: &[u16], n: usize) -> bool
     ensures { λ r. ⌜ r ≡ zeros n (now (s .entry)) ⌝ }
 {
@@ -171,141 +284,88 @@ fn clear_parts(s: &mut [u32])
     }
 }
 
-// ---- the call
-
-// The tables are judged once for the whole sheet.
-fn answer_tables<'a>(
-    image: &[u8],
-    list: &[u32],
-    words: &'a [u16],
-    sets: &'a [u64],
-    sheet: &[u8],
-    limit: usize,
-    phones: &mut [u8],
-    numbers: &mut [u16],
-    replies: &mut [usize],
-    tree: &mut [u16],
-    parts: &mut [u32],
-) -> SheetAnswer
-    requires { ⌜ (valid (now image) ≡ true) × (isList (now list) ≡ true) × Root (now tree) × (nodeSize * (length (now sheet) + 2) ≤ length (now tree)) × (limit ≤ maxNames) × (frameSize * limit ≤ length (now parts)) × (replySize * limit ≤ length (now replies)) ⌝ }
-    ensures { λ r. ⌜ sheetSaid r (now (replies .exit)) (now (phones .exit)) (now (numbers .exit)) ≡ judgedSheet (alone (now (image .entry)) (listingOf (now (list .entry))) (now (words .entry)) (now (sets .entry))) (saysOf (now (list .entry))) (namesIn limit (now (sheet .entry))) (now (replies .entry)) (now (phones .entry)) (now (numbers .entry)) ⌝ }
-{
-    let left_states = compiled::state_count(words, tables::LEFT_COUNT);
-    let right_states = compiled::state_count(words, tables::RIGHT_COUNT);
-    let long = walk::lengths_fit(words, sets, left_states, right_states);
-    let stale = walk::other_count(words, long, image::edit_count(image));
-    let fit = walk::can_pass(long, stale);
-    answer_fit(
-        words,
-        sets,
-        left_states,
-        right_states,
-        fit,
-        stale,
-        image,
-        list,
-        sheet,
-        limit,
-        phones,
-        numbers,
-        replies,
-        tree,
-        parts,
-    )
-}
-
 // Zero memory is worked in, and is zero again.
 fn answer_clear<'a>(
-    image: &[u8],
-    list: &[u32],
     words: &'a [u16],
     sets: &'a [u64],
+    image: &[u8],
+    list: &[u32],
     sheet: &[u8],
     limit: usize,
     phones: &mut [u8],
     numbers: &mut [u16],
     replies: &mut [usize],
     tree: &mut [u16],
-    parts: &mut [u32],
+    kept: &mut [u32],
 ) -> SheetAnswer
-    requires { ⌜ (valid (now image) ≡ true) × (isList (now list) ≡ true) × AllZero (now tree) × AllZero (now parts) × (nodeSize * (length (now sheet) + 2) ≤ length (now tree)) × (limit ≤ maxNames) × (frameSize * limit ≤ length (now parts)) × (replySize * limit ≤ length (now replies)) ⌝ }
-    ensures answer { λ r. ⌜ sheetSaid r (now (replies .exit)) (now (phones .exit)) (now (numbers .exit)) ≡ judgedSheet (alone (now (image .entry)) (listingOf (now (list .entry))) (now (words .entry)) (now (sets .entry))) (saysOf (now (list .entry))) (namesIn limit (now (sheet .entry))) (now (replies .entry)) (now (phones .entry)) (now (numbers .entry)) ⌝ }
+    requires { ⌜ Ready (now image) (now list) (now sheet) limit (now replies) (now tree) (now kept) × AllZero (now tree) × AllZero (now kept) ⌝ }
+    ensures answer { λ r. ⌜ sheetSaid r (now (replies .exit)) (now (phones .exit)) (now (numbers .exit)) ≡ namesThrough (compiledFrom (now (words .entry)) (now (sets .entry))) (now (image .entry)) (now (list .entry)) (now (sheet .entry)) limit (now (replies .entry)) (now (phones .entry)) (now (numbers .entry)) ⌝ }
     ensures tree { λ _. ⌜ now (tree .exit) ≡ now (tree .entry) ⌝ }
-    ensures parts { λ _. ⌜ now (parts .exit) ≡ now (parts .entry) ⌝ }
+    ensures kept { λ _. ⌜ now (kept .exit) ≡ now (kept .entry) ⌝ }
 {
-    let answer = answer_tables(
-        image,
-        list,
+    let answer = speak_words(
         words,
         sets,
+        image,
+        list,
         sheet,
         limit,
         phones,
         numbers,
         replies,
         &mut *tree,
-        &mut *parts,
+        &mut *kept,
     );
     clear_words(tree);
-    clear_parts(parts);
+    clear_parts(kept);
     answer
 }
 
-// A refusal of the sheet.
-fn refused(code: u8, place: usize) -> SheetAnswer
-    ensures { λ r. ⌜ r ≡ record { code = code; place = place; steps = 0; count = 0 } ⌝ }
-{
-    SheetAnswer {
-        code,
-        place,
-        steps: 0,
-        count: 0,
-    }
-}
+// ---- the call
 
 // A sound sheet with a ruleset and a list: 11 and 12 for the memory to work in, 15 for the replies.
 fn speak_sound<'a>(
-    image: &[u8],
-    list: &[u32],
     words: &'a [u16],
     sets: &'a [u64],
+    image: &[u8],
+    list: &[u32],
     sheet: &[u8],
     limit: usize,
     phones: &mut [u8],
     numbers: &mut [u16],
     replies: &mut [usize],
     tree: &mut [u16],
-    parts: &mut [u32],
+    kept: &mut [u32],
 ) -> SheetAnswer
-    requires { ⌜ (valid (now image) ≡ true) × (isList (now list) ≡ true) × (limit ≡ length (namesIn maxNames (now sheet))) × (length (now sheet) ≤ 65536) ⌝ }
-    ensures answer { λ r. ⌜ sheetSaid r (now (replies .exit)) (now (phones .exit)) (now (numbers .exit)) ≡ withMemory (now (sheet .entry)) (namesIn maxNames (now (sheet .entry))) (now (tree .entry)) (now (parts .entry)) (judgedSheet (alone (now (image .entry)) (listingOf (now (list .entry))) (now (words .entry)) (now (sets .entry))) (saysOf (now (list .entry))) (namesIn maxNames (now (sheet .entry))) (now (replies .entry)) (now (phones .entry)) (now (numbers .entry))) (now (replies .entry)) (now (phones .entry)) (now (numbers .entry)) ⌝ }
+    requires { ⌜ (valid (now image) ≡ true) × (isList (now list) ≡ true) × (limit ≡ length (namesIn maxNames (now sheet))) ⌝ }
+    ensures answer { λ r. ⌜ sheetSaid r (now (replies .exit)) (now (phones .exit)) (now (numbers .exit)) ≡ withMemory (now (sheet .entry)) (namesIn maxNames (now (sheet .entry))) (now (tree .entry)) (now (kept .entry)) (namesThrough (compiledFrom (now (words .entry)) (now (sets .entry))) (now (image .entry)) (now (list .entry)) (now (sheet .entry)) maxNames (now (replies .entry)) (now (phones .entry)) (now (numbers .entry))) (now (replies .entry)) (now (phones .entry)) (now (numbers .entry)) ⌝ }
     ensures tree { λ _. ⌜ now (tree .exit) ≡ now (tree .entry) ⌝ }
-    ensures parts { λ _. ⌜ now (parts .exit) ≡ now (parts .entry) ⌝ }
+    ensures kept { λ _. ⌜ now (kept .exit) ≡ now (kept .entry) ⌝ }
 {
-    let nodes = prefix_tree::NODE * (sheet.len() + 2);
+    let room = work_room(sheet);
+    let nodes = prefix_tree::NODE * (room + 1);
     if !zero_words(tree, nodes) {
-        return refused(11, nodes);
+        return refused(Refusal::WordsRoom(nodes));
     }
-    let slots = reading::MAX_FRAME * limit;
-    if !zero_parts(parts, slots) {
-        return refused(12, slots);
+    if !zero_parts(kept, room) {
+        return refused(Refusal::SetsRoom(room));
     }
-    let room = 5 * limit;
-    if replies.len() < room {
-        return refused(15, room);
+    let size = many_names::REPLY * limit;
+    if replies.len() < size {
+        return refused(Refusal::FileRoom(size));
     }
     answer_clear(
-        image,
-        list,
         words,
         sets,
+        image,
+        list,
         sheet,
         limit,
         phones,
         numbers,
         replies,
         &mut tree[..nodes],
-        &mut parts[..slots],
+        &mut kept[..room],
     )
 }
 
@@ -320,33 +380,33 @@ pub fn speak_sheet<'a>(
     numbers: &mut [u16],
     replies: &mut [usize],
     tree: &mut [u16],
-    parts: &mut [u32],
+    kept: &mut [u32],
 ) -> SheetAnswer
-    ensures answer { λ r. ⌜ sheetSaid r (now (replies .exit)) (now (phones .exit)) (now (numbers .exit)) ≡ spokenSheet (now (image .entry)) (listingOf (now (list .entry))) (now (words .entry)) (now (sets .entry)) (now (sheet .entry)) (now (tree .entry)) (now (parts .entry)) (now (replies .entry)) (now (phones .entry)) (now (numbers .entry)) ⌝ }
+    ensures answer { λ r. ⌜ sheetSaid r (now (replies .exit)) (now (phones .exit)) (now (numbers .exit)) ≡ spokenSheet (now (image .entry)) (listingOf (now (list .entry))) (now (words .entry)) (now (sets .entry)) (now (sheet .entry)) (now (tree .entry)) (now (kept .entry)) (now (replies .entry)) (now (phones .entry)) (now (numbers .entry)) ⌝ }
     ensures tree { λ _. ⌜ now (tree .exit) ≡ now (tree .entry) ⌝ }
-    ensures parts { λ _. ⌜ now (parts .exit) ≡ now (parts .entry) ⌝ }
+    ensures kept { λ _. ⌜ now (kept .exit) ≡ now (kept .entry) ⌝ }
 {
-    let size = size_of(sheet);
+    let size = many_names::size_of(sheet);
     if !size.sound {
-        return refused(24, 0);
+        return refused(Refusal::BadSheet(0));
     }
     if !image::is_ruleset(image) {
-        return refused(0, 0);
+        return refused(Refusal::NotRuleset(0));
     }
     if !exceptions::is_list(list) {
-        return refused(17, 0);
+        return refused(Refusal::BadList(0));
     }
     speak_sound(
-        image,
-        list,
         words,
         sets,
+        image,
+        list,
         sheet,
         size.count,
         phones,
         numbers,
         replies,
         tree,
-        parts,
+        kept,
     )
 }

@@ -7,8 +7,6 @@ use borrow.Author.Needs.{needs}
 use native.Mathlib.Omega.{arith}
 use Rattle.sheet.proofs.clear_words.Statement.{statement}
 use Rattle.sheet.proofs.clear_words.Tie as tie
-use Rattle.sheet.proofs.clear_words.Reads as reads
-use Rattle.sheet.proofs.clear_words.Lts as lts
 
 abbrev Inv-loop : tie.InvT-loop
 Inv-loop s₀ i₀ s i = Z.Clearing s₀ s i

@@ -8,8 +8,6 @@ use borrow.Author.Needs.{needs}
 use native.Mathlib.Omega.{arith}
 use Rattle.sheet.proofs.zero_parts.Statement.{statement}
 use Rattle.sheet.proofs.zero_parts.Tie as tie
-use Rattle.sheet.proofs.zero_parts.Reads as reads
-use Rattle.sheet.proofs.zero_parts.Lts as lts
 
 abbrev Inv-loop : tie.InvT-loop
 Inv-loop s n zero₀ i₀ zero i = Z.Zeroing s n i zero

@@ -8,8 +8,6 @@ use borrow.Author.Needs.{needs}
 use native.Mathlib.Omega.{arith}
 use Rattle.sheet.proofs.zero_words.Statement.{statement}
 use Rattle.sheet.proofs.zero_words.Tie as tie
-use Rattle.sheet.proofs.zero_words.Reads as reads
-use Rattle.sheet.proofs.zero_words.Lts as lts
 
 abbrev Inv-loop : tie.InvT-loop
 Inv-loop s n zero₀ i₀ zero i = Z.Zeroing s n i zero
