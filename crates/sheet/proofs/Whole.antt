@@ -70,19 +70,19 @@ module _ (sheet tree kept replies phones numbers : List ℕ) (x : SheetSaid) (ro
   abbrev from : Bool → Bool → Bool → SheetSaid
   from a b c = cond a (cond b (cond c x (lacking 15 (repliesSize names))) (lacking 12 (keptSize sheet))) (lacking 11 (treeSize sheet))
 
-  tree-is : nodeSize * (room + 2) ≡ treeSize sheet
-  tree-is = ap (λ (k : ℕ). nodeSize * (k + 2)) work
+  tree-is : nodeSize * (room + 1) ≡ treeSize sheet
+  tree-is = ap (λ (k : ℕ). nodeSize * (k + 1)) work
 
   replies-are : replySize * limit ≡ repliesSize names
   replies-are = ap (λ (k : ℕ). replySize * k) is
 
-  pub lacks-tree : zeros (nodeSize * (room + 2)) tree ≡ false → (r : SheetAnswer) → r ≡ refusing (WordsRoom (nodeSize * (room + 2)))
+  pub lacks-tree : zeros (nodeSize * (room + 1)) tree ≡ false → (r : SheetAnswer) → r ≡ refusing (WordsRoom (nodeSize * (room + 1)))
       → sheetSaid r replies phones numbers ≡ withMemory sheet names tree kept x replies phones numbers
   lacks-tree e r h =
-      refused-as replies phones numbers (WordsRoom (nodeSize * (room + 2))) r h ∙ ap (lacking 11) tree-is
+      refused-as replies phones numbers (WordsRoom (nodeSize * (room + 1))) r h ∙ ap (lacking 11) tree-is
       ∙ sym (ap (λ (a : Bool). from a (zeros (keptSize sheet) kept) (leb (repliesSize names) (length replies))) (ap (λ (k : ℕ). zeros k tree) (sym tree-is) ∙ e))
 
-  module _ (t : zeros (nodeSize * (room + 2)) tree ≡ true) where
+  module _ (t : zeros (nodeSize * (room + 1)) tree ≡ true) where
     with-kept : (b : Bool) → zeros room kept ≡ b → withMemory sheet names tree kept x replies phones numbers ≡ from true b (leb (repliesSize names) (length replies))
     with-kept b e =
         ap₂ (λ (a b : Bool). from a b (leb (repliesSize names) (length replies)))
@@ -110,16 +110,16 @@ put-front n s z e = ap (λ (y : List ℕ). y ++ drop n s) e ∙ take-append-drop
 
 -- zero memory of these sizes is all that the names ask
 pub ready : (image list sheet replies tree kept : List ℕ) (room limit : ℕ) → room ≡ workRoom sheet → limit ≡ length (namesIn maxNames sheet) → valid image ≡ true → isList list ≡ true
-    → replySize * limit ≤ length replies → zeros (nodeSize * (room + 2)) tree ≡ true → zeros room kept ≡ true
-    → Ready image list sheet limit replies (take (nodeSize * (room + 2)) tree) (take room kept)
+    → replySize * limit ≤ length replies → zeros (nodeSize * (room + 1)) tree ≡ true → zeros room kept ≡ true
+    → Ready image list sheet limit replies (take (nodeSize * (room + 1)) tree) (take room kept)
 ready image list sheet replies tree kept room limit work is v e l t k =
-    let z = zeros-all (nodeSize * (room + 2)) tree t in
+    let z = zeros-all (nodeSize * (room + 1)) tree t in
     record {
       sound = v;
       listed = e;
       few = few-names sheet limit is;
       replies-room = l;
-      tree-room = omega (arith, work, length-take-le (nodeSize * (room + 2)) tree (zeros-room (nodeSize * (room + 2)) tree t));
+      tree-room = omega (arith, work, length-take-le (nodeSize * (room + 1)) tree (zeros-room (nodeSize * (room + 1)) tree t));
       kept-room = omega (arith, work, length-take-le room kept (zeros-room room kept k));
       root = record { childless = z .each _; state-is = z .each _ };
     }

@@ -150,7 +150,7 @@ answer-clear-requires c κs =
     let t = sym (c .before .before .before .before .before .before .before .before .before .before .zero-words .ensures) ∙ not-false _ (c .before .before .before .before .before .before .before .before .before .if1 .left) in
     let k = sym (c .before .before .before .before .before .before .before .zero-parts .ensures) ∙ not-false _ (c .before .before .before .before .before .before .if2 .left) in (
       W.ready (a .image .now) (a .list .now) (a .sheet .now) (a .replies .now) (a .tree .now) (a .kept .now) (w .result) (a .limit) (w .ensures) (st .pre .2) (st .pre .0) (st .pre .1) (c .before .before .before .before .before .if3 .left) t k,
-      Z.zeros-all (nodeSize * (w .result + 2)) (a .tree .now) t,
+      Z.zeros-all (nodeSize * (w .result + 1)) (a .tree .now) t,
       Z.zeros-all (w .result) (a .kept .now) k,
     )
 
@@ -187,7 +187,7 @@ returns-4 c =
       W.has-memory (a .sheet .now) (a .tree .now) (a .kept .now) (a .replies .now) (a .phones .now) (a .numbers .now)
           (namesThrough (compiledFrom (a .words .now) (a .sets .now)) (a .image .now) (a .list .now) (a .sheet .now) maxNames (a .replies .now) (a .phones .now) (a .numbers .now))
           (w .result) (a .limit) (w .ensures) (st .pre .2) t k (c .before .before .before .before .before .before .before .before .before .before .before .before .before .before .before .before .if3 .left) _ (o .0 ∙ limited),
-      (W.put-front (nodeSize * (w .result + 2)) (a .tree .now) _ (o .1 .0), W.put-front (w .result) (a .kept .now) _ (o .1 .1)),
+      (W.put-front (nodeSize * (w .result + 1)) (a .tree .now) _ (o .1 .0), W.put-front (w .result) (a .kept .now) _ (o .1 .1)),
     )
 
 pub speak-sound-spec : {M : Type 1} → statement M
