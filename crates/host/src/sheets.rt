@@ -33,7 +33,16 @@ pub extern "C" fn pirrozketa_speak_sheet<'a>(
     ensures kept { λ _. ⌜ now (kept .exit) ≡ now (kept .entry) ⌝ }
 {
     let told = sheet::speak_sheet(
-        image, list, words, sets, sheet, phones, numbers, replies, tree, kept,
+        image,
+        list,
+        words,
+        sets,
+        sheet,
+        phones,
+        numbers,
+        replies,
+        tree,
+        kept,
     );
     *steps = told.steps;
     *names = told.names;
