@@ -10,6 +10,7 @@ use Rattle.numbers.specs.Numbers.{bytes2, bytes4}
 use Rattle.rules.specs.Memory.{over}
 use Rattle.rules.specs.Refusals.{Reply, accepted, declined}
 use Rattle.image.specs.Image.{Edited, lastOf}
+use Rattle.speech.specs.Speech.{Told, spoken, refused}
 use Rattle.lines.specs.Printed.{refusedBody, printed}
 
 -- 06 alone
@@ -66,6 +67,11 @@ pub record SpeechEffect : Type 0 where
 
 abbrev pub leavingSpeech : List ℕ → List ℕ → List ℕ → ℕ → SpeechEffect
 leavingSpeech line phones numbers contested = record { line = line; phones = phones; numbers = numbers; contested = contested }
+
+-- the contested letters of the last name spoken: a name that is refused leaves those of the one before
+abbrev pub contestedAfter : Told → ℕ → ℕ
+contestedAfter (spoken p n c) before = c
+contestedAfter (refused n p) before = before
 
 -- what a frame as long as its fields comes to; any other changes nothing
 abbrev pub sizedTo : Bool → Effect → List ℕ → Effect

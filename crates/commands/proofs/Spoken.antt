@@ -17,8 +17,8 @@ use Rattle.tables.specs.Walk.{Walked}
 use Rattle.lines.specs.Printed.{refusedBody, printed, refusalLine}
 use Rattle.answer_lines.specs.Answers.{toldBody}
 use Rattle.lines.proofs.Printed.{length-printed}
-use Rattle.command_parts.specs.Answers.{statesLine, walkRefusal, bothSized, speechSized, BothAnswered, SpeechAnswered}
-use Rattle.commands.specs.Lent.{buildLine, buildEffects, contestedAfter, plainLine, plainEffect, walkLine, walkEffect}
+use Rattle.command_parts.specs.Answers.{contestedAfter, statesLine, walkRefusal, bothSized, speechSized, BothAnswered, SpeechAnswered}
+use Rattle.commands.specs.Lent.{buildLine, buildEffects, plainLine, plainEffect, walkLine, walkEffect}
 use Rattle.command_parts.proofs.Replies.{Gives, gives-counts, length-walk-refusal}
 
 module _ (a : Answer) (words : List ℕ) (len : ℕ) (out out′ : List ℕ) where

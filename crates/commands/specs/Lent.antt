@@ -13,7 +13,7 @@ use Rattle.rules.specs.Refusals.{Reply, accepted, declined}
 use Rattle.lines.specs.Printed.{refusedBody, printed}
 use Rattle.answer_lines.specs.Answers.{spokenBody, toldBody}
 use Rattle.command_parts.specs.Fields.{four, lentOf, back}
-use Rattle.command_parts.specs.Answers.{Effects, leavingBoth, bothSized, SpeechEffect, leavingSpeech, speechSized, statesLine, walkRefusal}
+use Rattle.command_parts.specs.Answers.{Effects, leavingBoth, bothSized, SpeechEffect, leavingSpeech, contestedAfter, speechSized, statesLine, walkRefusal}
 
 abbrev pub builtBack : ℕ → ℕ → List ℕ → List ℕ → Built → Built
 builtBack n m ws ss b = building (b .reply) (back n (b .words) ws) (back m (b .sets) ss)
@@ -51,11 +51,6 @@ unfoldable pub builtBy : List ℕ → List ℕ → List ℕ → List ℕ → Eff
 builtBy f image words sets =
     bothSized (eqb (length f) 9)
     (buildEffects (builtIn (lentOf (four 1 f) (length words)) (lentOf (four 5 f) (length sets)) image words sets)) words sets
-
--- the contested letters of the last name spoken: a name that is refused leaves those of the one before
-abbrev pub contestedAfter : Told → ℕ → ℕ
-contestedAfter (spoken p n c) before = c
-contestedAfter (refused n p) before = before
 
 -- what a name leaves, by its answer's line
 abbrev pub saidEffect : List ℕ → Said → ℕ → SpeechEffect

@@ -14,9 +14,9 @@ ghost use Rattle.speech.specs.Speech.{toldOf, saying};
 ghost use Rattle.tables.specs.Words.{building};
 ghost use Rattle.walk.specs.Walked.{walkedOf};
 ghost use Rattle.answer_lines.specs.Answers.{longestLine, ToldWithin};
-ghost use Rattle.command_parts.specs.Answers.{BothAnswered, SpeechAnswered};
+ghost use Rattle.command_parts.specs.Answers.{contestedAfter, BothAnswered, SpeechAnswered};
 ghost use Rattle.command_parts.specs.Fields.{four, lentOf};
-ghost use Rattle.commands.specs.Lent.{builtIn, plainIn, walkIn, builtBy, contestedAfter, plainLine, plainBy, walkLine, walkedBy};
+ghost use Rattle.commands.specs.Lent.{builtIn, plainIn, walkIn, builtBy, plainLine, plainBy, walkLine, walkedBy};
 
 // Tables built into the first so many words and set words.
 fn build_in(image: &[u8], words: &mut [u16], n: usize, sets: &mut [u64], m: usize) -> Answer

@@ -7,7 +7,20 @@ ghost use Prim.Native.Nat.{_+_, _*_, _≤_};
 ghost use lib.ListN.{length};
 ghost use Rattle.rules.specs.Memory.{over};
 ghost use Rattle.frames.specs.Output.{output, Sent};
-ghost use Rattle.lines.specs.Printed.{twos, refusalLine};
+ghost use Rattle.lines.specs.Printed.{twos, refusedBody, printed, refusalLine};
+
+// The line of a refusal's number and place, and its length.
+pub fn refused_line(number: u8, place: usize, out: &mut [u8]) -> usize
+    requires { ⌜ 15 ≤ length (now out) ⌝ }
+    ensures len { λ r. ⌜ r ≡ 15 ⌝ }
+    ensures bytes { λ _. ⌜ now (out .exit) ≡ over (printed (refusedBody number place)) (now (out .entry)) ⌝ }
+{
+    let start = writer::begin(0);
+    let kind = writer::put(&mut *out, start, 5);
+    let numbered = writer::put(&mut *out, kind, number);
+    let body = writer::put_four(&mut *out, numbered, place);
+    writer::end(out, body)
+}
 
 // The line of a refusal, and its length.
 pub fn refusal_line(x: Refusal, out: &mut [u8]) -> usize
@@ -15,11 +28,7 @@ pub fn refusal_line(x: Refusal, out: &mut [u8]) -> usize
     ensures len { λ r. ⌜ r ≡ 15 ⌝ }
     ensures bytes { λ _. ⌜ now (out .exit) ≡ over (refusalLine x) (now (out .entry)) ⌝ }
 {
-    let start = writer::begin(0);
-    let kind = writer::put(&mut *out, start, 5);
-    let number = writer::put(&mut *out, kind, rules::refusal_number(x));
-    let place = writer::put_four(&mut *out, number, rules::refusal_place(x));
-    writer::end(out, place)
+    refused_line(rules::refusal_number(x), rules::refusal_place(x), out)
 }
 
 // Rule numbers, two bytes each.
