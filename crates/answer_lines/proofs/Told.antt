@@ -3,6 +3,7 @@
 use Prim.Native.Nat.{ℕ, _≤_}
 use mathlib.Core.Path.{_≡_, sym, ap, subst}
 use mathlib.Core.List.{List}
+use native.Mathlib.Omega.{arith}
 use borrow.Author.Tests.{leb-true}
 use lib.Dec.{leb}
 use lib.ListN.{length, take}
@@ -11,7 +12,7 @@ use Rattle.rules.specs.Refusals.{refusalNumber, refusalPlace}
 use Rattle.rules.specs.declared.Refusal.{Refusal}
 use Rattle.exceptions.specs.Judging.{Listing}
 use Rattle.image.specs.Image.{editsOf, literalsOf}
-use Rattle.speech.specs.Speech.{Outcome, speaks, declines, judgedCall, toldOf, phonesOf, numbersOf, delivered}
+use Rattle.speech.specs.Speech.{Outcome, speaks, declines, judgedCall, Told, spoken, refused, toldOf, phonesOf, numbersOf, delivered}
 use Rattle.speech.specs.declared.Speech.{Speech}
 use Rattle.speech.specs.declared.Speech.the-variants.{Spoken, Refused}
 use Rattle.speech.proofs.Counted.{contested-most}
@@ -33,6 +34,11 @@ pub walk-within : (image : List ℕ) (l : Listing) (words sets letters phones nu
 unfolding walkFor
 walk-within image l words sets letters phones numbers =
     delivered-within (judgedCall image l letters (walkThrough (compiledFrom words sets) (editsOf image) (literalsOf image) letters)) phones numbers
+
+-- more memory has room too
+pub more-room : (t : Told) (a b c d : ℕ) → a ≤ c → b ≤ d → ToldWithin t a b → ToldWithin t c d
+more-room (spoken p n q) a b c d h k w = (omega (arith, w .0, h), omega (arith, w .1, k), w .2)
+more-room (refused n p) a b c d h k w = tt
 
 module _ (s : Speech) (p n c : ℕ) (e : s ≡ Spoken p n c) where
   pub spoken-within : (a b : ℕ) → ToldWithin (toldOf s) a b → (p ≤ a) × (n ≤ b) × (c ≤ n)

@@ -11,13 +11,13 @@ use Rattle.rules.specs.Refusals.{Reply, declined, Report}
 use Rattle.image.specs.Image.{Edited, outcome}
 use Rattle.exceptions.specs.Judging.{Listing, listingOf}
 use Rattle.command_parts.specs.Fields.{four, lentOf}
-use Rattle.speech.specs.Speech.{Told, spoken, refused, Said, saying, plainOutcome, plainSaid}
+use Rattle.speech.specs.Speech.{Told, Said, saying, plainOutcome, plainSaid}
 use Rattle.tables.specs.Words.{building, built}
 use Rattle.tables.specs.Walk.{Walked, walkSaid}
 use Rattle.file.specs.Loading.{filing, filed, loaded}
 use Rattle.file_format.specs.Layout.{maxInput}
 use Rattle.answer_lines.specs.Answers.{ToldWithin}
-use Rattle.answer_lines.proofs.Told.{delivered-within, walk-within}
+use Rattle.answer_lines.proofs.Told.{delivered-within, walk-within, more-room}
 use Rattle.commands.specs.Lent.{builtBack, builtIn, saidBack, plainIn, walkedBack, walkIn}
 use Rattle.commands.specs.Filing.{loadedFrom, filedBack, filedIn}
 
@@ -42,10 +42,6 @@ unfolding filedIn
 filed-back r n image out x e = ap (filedBack n out) e
 
 -- ---- what is told has room
-
-pub more-room : (t : Told) (a b c d : ℕ) → a ≤ c → b ≤ d → ToldWithin t a b → ToldWithin t c d
-more-room (spoken p n q) a b c d h k w = (omega (arith, w .0, h), omega (arith, w .1, k), w .2)
-more-room (refused n p) a b c d h k w = tt
 
 shorter : (n : ℕ) (xs : List ℕ) → length (take n xs) ≤ length xs
 shorter n xs = omega (arith, length-take n xs)

@@ -74,10 +74,10 @@ sheetBy f image list words sets phones numbers contested =
 
 -- ---- what the functions rest on
 
--- the answer can be printed: no more names than a sheet has, with replies to each
-pub record Presentable (s : SheetSaid) : Type 0 where
+-- the answer can be printed from so many phones and numbers: no more names than a sheet has, and a reply to each
+pub record Presentable (s : SheetSaid) (phones numbers : ℕ) : Type 0 where
   pub few : s .names ≤ maxNames
-  pub printable : AllPrintable (s .names) (s .replies) (length (s .phones)) (length (s .numbers))
+  pub printable : AllPrintable (s .names) (s .replies) phones numbers
 
 -- it was printed
 pub record SheetPut (s : SheetSaid) (before : ℕ) (r : NamesPrinted) (out out′ : List ℕ) : Type 0 where

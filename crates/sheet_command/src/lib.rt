@@ -66,7 +66,7 @@ fn speak_lent<'a>(
 ) -> SheetAnswer
     requires { ⌜ 13 ≤ length (now f) ⌝ }
     ensures said { λ r. ⌜ sheetSaid r (now (replies .exit)) (now (phones .exit)) (now (numbers .exit)) ≡ sheetFor (now (f .entry)) (now (image .entry)) (now (list .entry)) (now (words .entry)) (now (sets .entry)) (now (tree .entry)) (now (kept .entry)) (now (replies .entry)) (now (phones .entry)) (now (numbers .entry)) ⌝ }
-    ensures presentable { λ r. ⌜ Presentable (sheetSaid r (now (replies .exit)) (now (phones .exit)) (now (numbers .exit))) ⌝ }
+    ensures presentable { λ r. ⌜ Presentable (sheetSaid r (now (replies .exit)) (now (phones .exit)) (now (numbers .exit))) (length (now (phones .entry))) (length (now (numbers .entry))) ⌝ }
 {
     let a = fields::lent(fields::four_at(f, 1), words.len());
     let b = fields::lent(fields::four_at(f, 5), sets.len());
@@ -97,7 +97,7 @@ fn put_sheet(
     contested: u8,
     out: &mut [u8],
 ) -> NamesPrinted
-    requires { ⌜ (replySize * maxNames ≤ length (now replies)) × (length (now phones) ≤ 256) × (length (now numbers) ≤ 64) × (longestFile ≤ length (now out)) × Presentable (sheetSaid said (now replies) (now phones) (now numbers)) ⌝ }
+    requires { ⌜ (replySize * maxNames ≤ length (now replies)) × (length (now phones) ≤ 256) × (length (now numbers) ≤ 64) × (longestFile ≤ length (now out)) × Presentable (sheetSaid said (now replies) (now phones) (now numbers)) (length (now phones)) (length (now numbers)) ⌝ }
     ensures { λ r. ⌜ SheetPut (sheetSaid said (now (replies .entry)) (now (phones .entry)) (now (numbers .entry))) contested r (now (out .entry)) (now (out .exit)) ⌝ }
 {
     let answer = said.answer;

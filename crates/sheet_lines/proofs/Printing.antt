@@ -22,7 +22,7 @@ use Rattle.many_names.specs.Codes.{phonesGiven, numbersGiven}
 use Rattle.many_names.specs.Many.{replySize}
 use Rattle.command_parts.specs.Answers.{contestedAfter}
 use Rattle.sheet_lines.specs.declared.NamePrinted.{NamePrinted}
-use Rattle.sheet_lines.specs.SheetLines.{toldBy, nameLine, nameLines, contestedBy, Printable, AllPrintable, linesRoom, PutName}
+use Rattle.sheet_lines.specs.SheetLines.{toldBy, nameLine, nameLines, contestedBy, Printable, AllPrintable, longestLines, PutName, PutNames}
 
 -- ---- a name's line, by the code of its reply
 
@@ -124,7 +124,7 @@ module _ (names : ℕ) (replies phones numbers : List ℕ) (before : ℕ) (out�
     printable = h;
   }
 
-  module _ (room : linesRoom names (length phones) (length numbers) ≤ length out₀) (k reply said numbered last at : ℕ) (out : List ℕ)
+  module _ (room : longestLines names (length phones) (length numbers) + longestLine ≤ length out₀) (k reply said numbered last at : ℕ) (out : List ℕ)
       (i : Printing k reply said numbered last at out) where
     pub printing-length : length out ≡ length out₀
     printing-length = ap length (i .bytes) ∙ over-length (i .lines) out₀ (omega (arith, room, i .at-is, i .short, i .said-in, i .numbered-in, i .all))
@@ -214,8 +214,12 @@ module _ (names : ℕ) (replies phones numbers : List ℕ) (before : ℕ) (out�
     ended-counted (suc n) e h w = absurd (omega arith)
 
     -- no name more
-    pub printed-all : Printing k reply said numbered last at out → names ≤ k
-        → (at ≡ length (nameLines names replies phones numbers)) × (out ≡ over (nameLines names replies phones numbers) out₀) × (last ≡ contestedBy names replies before)
+    pub printed-all : Printing k reply said numbered last at out → names ≤ k → PutNames names replies phones numbers before (record { len = at; contested = last }) out₀ out
     printed-all i h =
         let e = ended-lines (i .to-come) (i .all) h (i .lines) (i .whole) in
-        (sym (i .at-is) ∙ ap length e, i .bytes ∙ ap (λ (l : List ℕ). over l out₀) e, ended-counted (i .to-come) (i .all) h (i .counted))
+        record {
+          many = sym (i .at-is) ∙ ap length e;
+          bytes = i .bytes ∙ ap (λ (l : List ℕ). over l out₀) e;
+          short = omega (arith, i .short, i .said-in, i .numbered-in, i .all);
+          counted = ended-counted (i .to-come) (i .all) h (i .counted);
+        }

@@ -11,7 +11,7 @@ use Rattle.rules.specs.Memory.{over}
 use Rattle.rules.specs.Refusals.{accepted, replyCode}
 use Rattle.speech.specs.Speech.{Told, spoken, refused}
 use Rattle.lines.specs.Printed.{printed}
-use Rattle.answer_lines.specs.Answers.{longestLine, toldBody, ToldWithin}
+use Rattle.answer_lines.specs.Answers.{toldBody, ToldWithin}
 use Rattle.many_names.specs.Codes.{phonesGiven, numbersGiven}
 use Rattle.many_names.specs.Many.{replySize}
 use Rattle.command_parts.specs.Answers.{contestedAfter}
@@ -56,9 +56,9 @@ AllPrintable zero replies phones numbers = Unit {0}
 AllPrintable (suc n) replies phones numbers =
     Printable replies phones numbers × AllPrintable n (drop replySize replies) (phones - phonesGiven (toldBy replies)) (numbers - numbersGiven (toldBy replies))
 
--- bytes for the lines of n names that share so many phones and numbers, and of a name's longest more
-abbrev pub linesRoom : ℕ → ℕ → ℕ → ℕ
-linesRoom n phones numbers = 15 * n + 2 * phones + 4 * numbers + longestLine
+-- the lines of n names that share so many phones and numbers have no more bytes
+abbrev pub longestLines : ℕ → ℕ → ℕ → ℕ
+longestLines n phones numbers = 15 * n + 2 * phones + 4 * numbers
 
 -- ---- what the functions give
 
@@ -74,4 +74,5 @@ pub record PutName (replies phones numbers : List ℕ) (before : ℕ) (r : NameP
 pub record PutNames (n : ℕ) (replies phones numbers : List ℕ) (before : ℕ) (r : NamesPrinted) (out out′ : List ℕ) : Type 0 where
   pub many : r .len ≡ length (nameLines n replies phones numbers)
   pub bytes : out′ ≡ over (nameLines n replies phones numbers) out
+  pub short : r .len ≤ longestLines n (length phones) (length numbers)
   pub counted : r .contested ≡ contestedBy n replies before

@@ -1,12 +1,12 @@
 // The lines that answer a walk sheet, from the replies to its names (docs/MONITOR.md, 2B).
 use frames::writer;
 ghost use mathlib.Core.Path.{_≡_};
-ghost use Prim.Native.Nat.{_*_, _≤_};
+ghost use Prim.Native.Nat.{_+_, _*_, _≤_};
 ghost use lib.ListN.{length};
 ghost use Rattle.rules.specs.Memory.{over};
 ghost use Rattle.answer_lines.specs.Answers.{longestLine};
 ghost use Rattle.many_names.specs.Many.{replySize};
-ghost use Rattle.sheet_lines.specs.SheetLines.{sheetLine, Printable, AllPrintable, linesRoom, PutName, PutNames};
+ghost use Rattle.sheet_lines.specs.SheetLines.{sheetLine, Printable, AllPrintable, longestLines, PutName, PutNames};
 
 // 06, steps (4), names (2).
 pub fn sheet_line(steps: usize, names: usize, out: &mut [u8]) -> usize
@@ -77,7 +77,7 @@ pub fn name_lines(
     contested: u8,
     out: &mut [u8],
 ) -> NamesPrinted
-    requires { ⌜ (replySize * names ≤ length (now replies)) × (length (now phones) ≤ 256) × (length (now numbers) ≤ 64) × (linesRoom names (length (now phones)) (length (now numbers)) ≤ length (now out)) × AllPrintable names (now replies) (length (now phones)) (length (now numbers)) ⌝ }
+    requires { ⌜ (replySize * names ≤ length (now replies)) × (length (now phones) ≤ 256) × (length (now numbers) ≤ 64) × (longestLines names (length (now phones)) (length (now numbers)) + longestLine ≤ length (now out)) × AllPrintable names (now replies) (length (now phones)) (length (now numbers)) ⌝ }
     ensures { λ r. ⌜ PutNames names (now (replies .entry)) (now (phones .entry)) (now (numbers .entry)) contested r (now (out .entry)) (now (out .exit)) ⌝ }
 {
     let mut k: usize = 0;

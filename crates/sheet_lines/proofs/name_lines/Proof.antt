@@ -153,8 +153,7 @@ returns : tie.Need-returns Inv-loop μ-loop
 returns c =
     let a = c .before .before .before .before .before .before .args in
     let l = c .before .loop in
-    let e = printed-all (a .names) (a .replies .now) (a .phones .now) (a .numbers .now) (a .contested) (a .out .now) (l .k) (l .reply) (l .said) (l .numbered) (l .last) (l .at) _ (l .inv) (c .loop-test .left) in
-    record { many = e .0; bytes = e .1; counted = e .2 }
+    printed-all (a .names) (a .replies .now) (a .phones .now) (a .numbers .now) (a .contested) (a .out .now) (l .k) (l .reply) (l .said) (l .numbered) (l .last) (l .at) _ (l .inv) (c .loop-test .left)
 
 pub name-lines-spec : {M : Type 1} → statement M
 name-lines-spec =
