@@ -8,6 +8,7 @@ use borrow.Author.Tests.{ne-eqb}
 use lib.ListN.{length, getD, List·getD-eq-default}
 use Rattle.rules.specs.Memory.{over}
 use Rattle.command_parts.specs.Answers.{Effect, Effects, SpeechEffect, Answered, BothAnswered, SpeechAnswered, malformedLine}
+use Rattle.sheet_command.specs.SheetCommand.{sheetBy}
 use Rattle.commands.specs.Editing.{added, dropped, moved, classSet}
 use Rattle.command_parts.specs.Memory.{forcedBy, recountedBy, clearedBy, storedWord, storedSet, shownWords, shownSets, shownPhones, shownNumbers, shownContested, shownEdits}
 use Rattle.commands.specs.Lent.{builtBy, walkedBy, plainBy}
@@ -26,7 +27,7 @@ given o s len out out′ k l h = (record { kept = k; many = l; bytes = h }, with
 -- no kind of command
 abbrev Other : ℕ → Type 0
 Other k =
-    ((((((((((((((((((((Unit {0} × (k ≡ 16 → ⊥)) × (k ≡ 17 → ⊥)) × (k ≡ 18 → ⊥)) × (k ≡ 19 → ⊥)) × (k ≡ 20 → ⊥)) × (k ≡ 21 → ⊥)) × (k ≡ 22 → ⊥)) × (k ≡ 23 → ⊥)) × (k ≡ 24 → ⊥)) × (k ≡ 25 → ⊥)) × (k ≡ 26 → ⊥)) × (k ≡ 27 → ⊥)) × (k ≡ 28 → ⊥)) × (k ≡ 29 → ⊥)) × (k ≡ 30 → ⊥)) × (k ≡ 31 → ⊥)) × (k ≡ 39 → ⊥)) × (k ≡ 40 → ⊥)) × (k ≡ 41 → ⊥)) × (k ≡ 42 → ⊥))
+    (((((((((((((((((((((Unit {0} × (k ≡ 16 → ⊥)) × (k ≡ 17 → ⊥)) × (k ≡ 18 → ⊥)) × (k ≡ 19 → ⊥)) × (k ≡ 20 → ⊥)) × (k ≡ 21 → ⊥)) × (k ≡ 22 → ⊥)) × (k ≡ 23 → ⊥)) × (k ≡ 24 → ⊥)) × (k ≡ 25 → ⊥)) × (k ≡ 26 → ⊥)) × (k ≡ 27 → ⊥)) × (k ≡ 28 → ⊥)) × (k ≡ 29 → ⊥)) × (k ≡ 30 → ⊥)) × (k ≡ 31 → ⊥)) × (k ≡ 39 → ⊥)) × (k ≡ 40 → ⊥)) × (k ≡ 41 → ⊥)) × (k ≡ 42 → ⊥)) × (k ≡ 43 → ⊥))
 
 module _ (f file list image words sets phones numbers : List ℕ) (contested len : ℕ) (out out′ : List ℕ) where
   abbrev before : State
@@ -135,6 +136,10 @@ module _ (f file list image words sets phones numbers : List ℕ) (contested len
   unfolding byKind
   by-recount xs e w = at 42 _ e (image-after (recountedBy f image) xs w)
 
+  pub by-sheet : (xs ys : List ℕ) (k : ℕ) → getD f 0 0 ≡ 43 → SpeechAnswered (sheetBy f image list words sets phones numbers contested) xs ys k len out out′ → Given (answerTo f file list before) (holding image words sets xs ys k) len out out′
+  unfolding byKind
+  by-sheet xs ys k e w = at 43 _ e (speech-after (sheetBy f image list words sets phones numbers contested) xs ys k w)
+
   module _ (l : len ≡ 15) (h : out′ ≡ over malformedLine out) where
     none : Given (shows before malformedLine) before len out out′
     none = same-after malformedLine (l ∙ sym length-malformed, h)
@@ -146,7 +151,7 @@ module _ (f file list image words sets phones numbers : List ℕ) (contested len
 
     other : (k : ℕ) → Other k → byKind k f file list before ≡ shows before malformedLine
     unfolding byKind
-    other k n = rw (ne-eqb k 16 (n .0 .0 .0 .0 .0 .0 .0 .0 .0 .0 .0 .0 .0 .0 .0 .0 .0 .0 .0 .1), ne-eqb k 17 (n .0 .0 .0 .0 .0 .0 .0 .0 .0 .0 .0 .0 .0 .0 .0 .0 .0 .0 .1), ne-eqb k 18 (n .0 .0 .0 .0 .0 .0 .0 .0 .0 .0 .0 .0 .0 .0 .0 .0 .0 .1), ne-eqb k 19 (n .0 .0 .0 .0 .0 .0 .0 .0 .0 .0 .0 .0 .0 .0 .0 .0 .1), ne-eqb k 20 (n .0 .0 .0 .0 .0 .0 .0 .0 .0 .0 .0 .0 .0 .0 .0 .1), ne-eqb k 21 (n .0 .0 .0 .0 .0 .0 .0 .0 .0 .0 .0 .0 .0 .0 .1), ne-eqb k 22 (n .0 .0 .0 .0 .0 .0 .0 .0 .0 .0 .0 .0 .0 .1), ne-eqb k 23 (n .0 .0 .0 .0 .0 .0 .0 .0 .0 .0 .0 .0 .1), ne-eqb k 24 (n .0 .0 .0 .0 .0 .0 .0 .0 .0 .0 .0 .1), ne-eqb k 25 (n .0 .0 .0 .0 .0 .0 .0 .0 .0 .0 .1), ne-eqb k 26 (n .0 .0 .0 .0 .0 .0 .0 .0 .0 .1), ne-eqb k 27 (n .0 .0 .0 .0 .0 .0 .0 .0 .1), ne-eqb k 28 (n .0 .0 .0 .0 .0 .0 .0 .1), ne-eqb k 29 (n .0 .0 .0 .0 .0 .0 .1), ne-eqb k 30 (n .0 .0 .0 .0 .0 .1), ne-eqb k 31 (n .0 .0 .0 .0 .1), ne-eqb k 39 (n .0 .0 .0 .1), ne-eqb k 40 (n .0 .0 .1), ne-eqb k 41 (n .0 .1), ne-eqb k 42 (n .1))
+    other k n = rw (ne-eqb k 16 (n .0 .0 .0 .0 .0 .0 .0 .0 .0 .0 .0 .0 .0 .0 .0 .0 .0 .0 .0 .0 .1), ne-eqb k 17 (n .0 .0 .0 .0 .0 .0 .0 .0 .0 .0 .0 .0 .0 .0 .0 .0 .0 .0 .0 .1), ne-eqb k 18 (n .0 .0 .0 .0 .0 .0 .0 .0 .0 .0 .0 .0 .0 .0 .0 .0 .0 .0 .1), ne-eqb k 19 (n .0 .0 .0 .0 .0 .0 .0 .0 .0 .0 .0 .0 .0 .0 .0 .0 .0 .1), ne-eqb k 20 (n .0 .0 .0 .0 .0 .0 .0 .0 .0 .0 .0 .0 .0 .0 .0 .0 .1), ne-eqb k 21 (n .0 .0 .0 .0 .0 .0 .0 .0 .0 .0 .0 .0 .0 .0 .0 .1), ne-eqb k 22 (n .0 .0 .0 .0 .0 .0 .0 .0 .0 .0 .0 .0 .0 .0 .1), ne-eqb k 23 (n .0 .0 .0 .0 .0 .0 .0 .0 .0 .0 .0 .0 .0 .1), ne-eqb k 24 (n .0 .0 .0 .0 .0 .0 .0 .0 .0 .0 .0 .0 .1), ne-eqb k 25 (n .0 .0 .0 .0 .0 .0 .0 .0 .0 .0 .0 .1), ne-eqb k 26 (n .0 .0 .0 .0 .0 .0 .0 .0 .0 .0 .1), ne-eqb k 27 (n .0 .0 .0 .0 .0 .0 .0 .0 .0 .1), ne-eqb k 28 (n .0 .0 .0 .0 .0 .0 .0 .0 .1), ne-eqb k 29 (n .0 .0 .0 .0 .0 .0 .0 .1), ne-eqb k 30 (n .0 .0 .0 .0 .0 .0 .1), ne-eqb k 31 (n .0 .0 .0 .0 .0 .1), ne-eqb k 39 (n .0 .0 .0 .0 .1), ne-eqb k 40 (n .0 .0 .0 .1), ne-eqb k 41 (n .0 .0 .1), ne-eqb k 42 (n .0 .1), ne-eqb k 43 (n .1))
 
     pub by-other : Other (getD f 0 0) → Given (answerTo f file list before) before len out out′
     by-other n = at (getD f 0 0) _ refl (subst (λ (o : Response). Given o before len out out′) (sym (other (getD f 0 0) n)) none)

@@ -10,6 +10,7 @@ use Rattle.rules.specs.Memory.{over}
 use Rattle.frames.specs.Lines.{Parsed}
 use Rattle.frames.specs.Lines.Parsed.{Bad, Good}
 use Rattle.command_parts.specs.Answers.{Effect, Effects, SpeechEffect, malformedLine}
+use Rattle.sheet_command.specs.SheetCommand.{sheetBy}
 use Rattle.commands.specs.Editing.{added, dropped, moved, classSet}
 use Rattle.command_parts.specs.Memory.{forcedBy, recountedBy, clearedBy, storedWord, storedSet, shownWords, shownSets, shownPhones, shownNumbers, shownContested, shownEdits}
 use Rattle.commands.specs.Lent.{builtBy, walkedBy, plainBy}
@@ -62,7 +63,7 @@ onSpeech s e = record { line = e .line; state = holding (s .image) (s .words) (s
 abbrev pub shows : State → List ℕ → Response
 shows s line = record { line = line; state = s }
 
--- 10 to 1F and 27 to 2A; `file` is what rules.hex holds, and `list` the lent list, which none of them changes
+-- 10 to 1F and 27 to 2B; `file` is what rules.hex holds, and `list` the lent list, which none of them changes
 unfoldable pub byKind : ℕ → List ℕ → List ℕ → List ℕ → State → Response
 byKind kind f file list s =
     cond (eqb kind 16) (onImage s (added f (s .image)))
@@ -85,7 +86,8 @@ byKind kind f file list s =
     (cond (eqb kind 40) (onImage s (classSet f (s .image)))
     (cond (eqb kind 41) (shows s (shownEdits f (s .image)))
     (cond (eqb kind 42) (onImage s (recountedBy f (s .image)))
-    (shows s malformedLine))))))))))))))))))))
+    (cond (eqb kind 43) (onSpeech s (sheetBy f (s .image) list (s .words) (s .sets) (s .phones) (s .numbers) (s .contested)))
+    (shows s malformedLine)))))))))))))))))))))
 
 -- the answer to a command; a frame of no bytes is none
 unfoldable pub answerTo : List ℕ → List ℕ → List ℕ → State → Response

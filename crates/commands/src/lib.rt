@@ -101,6 +101,17 @@ pub fn answer(
         0x28 => editing::class_command(f, image, out),
         0x29 => memory::show_edits(f, image, out),
         0x2A => editing::recount_command(f, image, out),
+        0x2B => sheet_command::sheet_command(
+            f,
+            image,
+            list,
+            words,
+            sets,
+            phones,
+            numbers,
+            contested,
+            out,
+        ),
         _ => answers::malformed(out),
     }
 }

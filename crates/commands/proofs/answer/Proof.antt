@@ -1,7 +1,7 @@
 -- `commands::answer` meets its contract: each command is answered by its own function.
 -- Assumes nothing.
 use borrow.Author.Needs.{needs}
-use Rattle.commands.proofs.Dispatch.{by-none, by-add, by-drop, by-move, by-read, by-write, by-build, by-walk, by-plain, by-store-word, by-store-set, by-show-words, by-show-sets, by-show-phones, by-show-numbers, by-force, by-clear, by-show-contested, by-class, by-show-edits, by-recount, by-other}
+use Rattle.commands.proofs.Dispatch.{by-none, by-add, by-drop, by-move, by-read, by-write, by-build, by-walk, by-plain, by-store-word, by-store-set, by-show-words, by-show-sets, by-show-phones, by-show-numbers, by-force, by-clear, by-show-contested, by-class, by-show-edits, by-recount, by-sheet, by-other}
 use Rattle.commands.proofs.answer.Statement.{statement}
 use Rattle.commands.proofs.answer.Tie as tie
 
@@ -78,6 +78,9 @@ show-edits-requires c κs = search needs
 
 recount-command-requires : tie.Need-recount-command-requires
 recount-command-requires c κs = search needs
+
+sheet-command-requires : tie.Need-sheet-command-requires
+sheet-command-requires c κs = search needs
 
 malformed-requires-2 : tie.Need-malformed-requires-2
 malformed-requires-2 c κs = search needs
@@ -326,8 +329,31 @@ returns-21 c =
 same-length-49 : tie.Need-same-length-49
 same-length-49 c = search needs
 
+same-length-50 : tie.Need-same-length-50
+same-length-50 c = search needs
+
+same-length-51 : tie.Need-same-length-51
+same-length-51 c = search needs
+
+same-length-52 : tie.Need-same-length-52
+same-length-52 c = search needs
+
+same-length-53 : tie.Need-same-length-53
+same-length-53 c = search needs
+
+same-length-54 : tie.Need-same-length-54
+same-length-54 c = search needs
+
 returns-22 : tie.Need-returns-22
 returns-22 c =
+    let a = c .before .before .before .before .before .before .before .before .before .before .before .before .before .before .before .before .before .before .before .before .before .before .before .before .before .before .args in
+    by-sheet (a .f .now) (a .file .now) (a .list .now) (a .image .now) (a .words .now) (a .sets .now) (a .phones .now) (a .numbers .now) (a .contested .now) _ (a .out .now) _ _ _ _ (c .before .before .before .before .before .before .before .before .before .before .before .before .before .before .match .keys21) (c .before .before .before .before .before .before .sheet-command .ensures)
+
+same-length-55 : tie.Need-same-length-55
+same-length-55 c = search needs
+
+returns-23 : tie.Need-returns-23
+returns-23 c =
     let a = c .before .before .before .before .before .before .before .before .before .before .before .before .before .before .before .before .args in
     by-other (a .f .now) (a .file .now) (a .list .now) (a .image .now) (a .words .now) (a .sets .now) (a .phones .now) (a .numbers .now) (a .contested .now) _ (a .out .now) _ (c .before .before .malformed2 .ensures .0) (c .before .before .malformed2 .ensures .1) (c .before .before .before .before .match .rest)
 
@@ -359,6 +385,7 @@ answer-spec =
     class-command-requires
     show-edits-requires
     recount-command-requires
+    sheet-command-requires
     malformed-requires-2
     same-length-2
     same-length-3
@@ -428,4 +455,11 @@ answer-spec =
     same-length-48
     returns-21
     same-length-49
-    returns-22)
+    same-length-50
+    same-length-51
+    same-length-52
+    same-length-53
+    same-length-54
+    returns-22
+    same-length-55
+    returns-23)
