@@ -59,7 +59,7 @@ sheetEffect s contested = leavingSpeech (sheetText (s .reply) s) (s .phones) (s 
 
 -- Memory to work in, zero and enough for each sheet, so that 11, 12 and 15 do not occur.
 unfoldable pub treeWords : List ℕ
-treeWords = replicate (nodeSize * (maxNames * (maxName + 1) + 2)) 0
+treeWords = replicate (nodeSize * (maxNames * (maxName + 1) + 1)) 0
 
 unfoldable pub keptWords : List ℕ
 keptWords = replicate (maxNames * (maxName + 1)) 0

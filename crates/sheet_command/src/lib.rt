@@ -16,7 +16,7 @@ ghost use Rattle.sheet_command.specs.SheetCommand.{sheetIn, sheetFor, sh
 
 // Memory to work in that is enough for each sheet: bytes of names with their lengths, words of the tree, numbers of replies.
 const PARTS: usize = rules::MAX_NAMES * (rules::MAX_NAME + 1);
-const TREE: usize = prefix_tree::NODE * (PARTS + 2);
+const TREE: usize = prefix_tree::NODE * (PARTS + 1);
 const REPLIES: usize = many_names::REPLY * rules::MAX_NAMES;
 
 // A sheet sent through the first so many words and set words, with the first so many phones and numbers lent.
