@@ -223,9 +223,9 @@ enum {
     PIRROZKETA_TREE = 4 * (1 + PIRROZKETA_SHEET_NAMES * (PIRROZKETA_NAME + 1)),
                                     /* 66,564: words of 16 bits in which a sheet's prefixes are kept; for a sheet of fewer bytes,
                                        n, 4 (1 + n) are enough */
-    PIRROZKETA_KEPT = PIRROZKETA_SHEET_NAMES * (PIRROZKETA_NAME + 1)
-                                    /* 16,640: words of 32 bits in which what was read of a sheet's names is kept; for a sheet of
-                                       fewer bytes, n, n are enough */
+    PIRROZKETA_KEPT = PIRROZKETA_SHEET_NAMES * (PIRROZKETA_NAME + 1) + PIRROZKETA_NAME + 2
+                                    /* 16,706: words of 32 bits in which what was read of a sheet's names is kept; for a sheet of
+                                       fewer bytes, n, n + 66 are enough */
 };
 
 /*
@@ -408,8 +408,8 @@ uint8_t pirrozketa_speak_many(const uint8_t *image, size_t image_len, const uint
    So each name has the answer that pirrozketa_speak gives it in the room that the names before it left. *steps: the one count of
    the sheet, of the words that are not listed: the different beginnings of # and the word, # alone among them, and for each word
    its letters and one more. *names: how many names were answered, all of the sheet or none.
-   `tree` and `kept` are memory to work in, which must be ZERO in its first 4 (1 + n) and n words, where n is the sheet's bytes,
-   or PIRROZKETA_KEPT if that is less; it is zero again afterwards, whatever the answer is, so a host clears it once.
+   `tree` and `kept` are memory to work in, which must be ZERO in its first 4 (1 + n) and n + 66 words, where n is the sheet's
+   bytes, or 16,640 if that is less; it is zero again afterwards, whatever the answer is, so a host clears it once.
    Refusals of the whole sheet, with which nothing is written, *steps and *names are 0 and *place is the place: 24 before all else; 0;
    17; 11 for the tree, 12 for the kept parts, 15 for under 5 numbers a name for the replies, each with what is needed as place; then 16 or 22,
    the first that a name alone would get; the others, 2, 1, 3, 4 and 5, stand in the name's own reply.

@@ -203,7 +203,7 @@ fn orders(tally: &mut Tally, random: &mut Random) {
     let none = Compiled::any(0, 0, random);
     let knee = typed("knee,kn");
     let cut = [&knee[..], &[1]].concat();
-    let (tree, kept) = (4 * (knee.len() + 1), knee.len());
+    let (tree, kept) = (4 * (knee.len() + 1), knee.len() + 66);
     type Lengths = (usize, usize, usize);
     let cases: [(&Lent<u8>, &List, &[u8], Lengths, (u8, usize)); 8] = [
         (&broken, &no_list, &cut, (0, 0, 0), (24, 0)),
@@ -231,7 +231,7 @@ fn memory(tally: &mut Tally, random: &mut Random) {
         let bytes = sheet.len().min(256 * 65);
         let (tree, kept, names) = (
             4 * (bytes + 1),
-            bytes,
+            bytes + 66,
             if sheet.is_empty() { 0 } else { sheet.len().div_ceil(1 + sheet[0] as usize) },
         );
         let sheet = Lent::new(&sheet, random);

@@ -43,7 +43,7 @@ pub fn tree_needed(sheet: usize) -> usize {
 }
 
 pub fn kept_needed(sheet: usize) -> usize {
-    worked_on(sheet)
+    worked_on(sheet) + MOST_LETTERS + 2
 }
 
 /// 11 and 12 unless the needed words are there and zero, 15 unless each name has room for its reply.
