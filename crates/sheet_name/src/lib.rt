@@ -11,7 +11,7 @@ ghost use Rattle.exceptions.specs.Judging.{KnownList};
 ghost use Rattle.image.specs.Image.{valid, editsOf};
 ghost use Rattle.speech.specs.Words.{frameOf};
 ghost use Rattle.speech.specs.Places.{Unsaid, frameSize, EndsBy};
-ghost use Rattle.passes.specs.Passes.{maxSteps, leftRowsOf};
+ghost use Rattle.passes.specs.Passes.{maxSteps, leftRowsOf, memory, Sized};
 ghost use Rattle.walk.specs.Walked.{FitsAs};
 ghost use Rattle.prefix_tree.specs.Tree.{Room};
 ghost use Rattle.sheet_passes.specs.Passing.{HoldsSome};
@@ -26,7 +26,8 @@ pub struct Judged {
     pub reached: Reached,
 }
 
-// All passes of a name that is not on the list, then each reached letter; the parts are remembered, and nothing is said.
+// All passes of a name that is not on the list, then each reached letter; the parts are remembered, and nothing is said. `found`, `left` and `right` are the
+// memory of the passes, whatever it held: a sheet makes it once for all its names.
 fn judge_frame<'a>(
     words: &'a [u16],
     sets: &'a [u64],
@@ -42,13 +43,13 @@ fn judge_frame<'a>(
     nodes: usize,
     steps: usize,
     parts: &mut [u32],
+    found: &mut [u16],
+    left: &mut [u16],
+    right: &mut [u16],
 ) -> Judged
-    requires { ⌜ FitsAs (now words) (now sets) «left_states» «right_states» (editsOf (now image)) fit stale × (valid (now image) ≡ true) × Unsaid (now list) (now name) × (now frame ≡ frameOf (now name)) × HoldsSome fit (leftRowsOf (now words) «left_states») (now tree) nodes × Room (now tree) (nodes + (length (now name) + 1)) × (steps + 4 * frameSize ≤ maxSteps) × (length (now parts) ≡ frameSize) ⌝ }
+    requires { ⌜ FitsAs (now words) (now sets) «left_states» «right_states» (editsOf (now image)) fit stale × (valid (now image) ≡ true) × Unsaid (now list) (now name) × (now frame ≡ frameOf (now name)) × HoldsSome fit (leftRowsOf (now words) «left_states») (now tree) nodes × Room (now tree) (nodes + (length (now name) + 1)) × (steps + 4 * frameSize ≤ maxSteps) × (length (now parts) ≡ frameSize) × Sized (memory (now found) (now left) (now right)) ⌝ }
     ensures { λ r. ⌜ FrameJudged (now (words .entry)) (now (sets .entry)) «left_states» «right_states» fit stale (now (image .entry)) (now (list .entry)) (now (name .entry)) (now (tree .entry)) nodes steps (now (tree .exit)) (now (parts .exit)) r ⌝ }
 {
-    let mut found = [0u16; reading::MAX_FRAME];
-    let mut left = [0u16; reading::MAX_FRAME];
-    let mut right = [0u16; reading::MAX_FRAME];
     let passes = sheet_passes::pass_words(
         words,
         left_states,
@@ -60,9 +61,9 @@ fn judge_frame<'a>(
         tree,
         nodes,
         steps,
-        &mut found,
-        &mut left,
-        &mut right,
+        &mut *found,
+        &mut *left,
+        &mut *right,
     );
     if !passes.usable {
         let reached = Reached::BadTables;
@@ -79,9 +80,9 @@ fn judge_frame<'a>(
         image,
         name,
         frame,
-        &found,
-        &left,
-        &right,
+        found,
+        left,
+        right,
         parts,
     );
     Judged {
@@ -170,8 +171,11 @@ fn judge_words<'a>(
     nodes: usize,
     steps: usize,
     parts: &mut [u32],
+    found: &mut [u16],
+    left: &mut [u16],
+    right: &mut [u16],
 ) -> Judgement
-    requires { ⌜ FitsAs (now words) (now sets) «left_states» «right_states» (editsOf (now image)) fit stale × (valid (now image) ≡ true) × Unsaid (now list) (now name) × HoldsSome fit (leftRowsOf (now words) «left_states») (now tree) nodes × Room (now tree) (nodes + (length (now name) + 1)) × (steps + 4 * frameSize ≤ maxSteps) × (length (now parts) ≡ frameSize) ⌝ }
+    requires { ⌜ FitsAs (now words) (now sets) «left_states» «right_states» (editsOf (now image)) fit stale × (valid (now image) ≡ true) × Unsaid (now list) (now name) × HoldsSome fit (leftRowsOf (now words) «left_states») (now tree) nodes × Room (now tree) (nodes + (length (now name) + 1)) × (steps + 4 * frameSize ≤ maxSteps) × (length (now parts) ≡ frameSize) × Sized (memory (now found) (now left) (now right)) ⌝ }
     ensures { λ r. ⌜ NameJudged (now (words .entry)) (now (sets .entry)) «left_states» «right_states» fit (now (image .entry)) (now (list .entry)) (now (name .entry)) (now (tree .entry)) nodes steps (now (tree .exit)) (take (partsIn (r .end)) (now (parts .exit))) r ⌝ }
 {
     let mut frame = [0u8; reading::MAX_FRAME];
@@ -192,6 +196,9 @@ fn judge_words<'a>(
         nodes,
         steps,
         parts,
+        found,
+        left,
+        right,
     );
     settle(x, stale)
 }
@@ -211,12 +218,15 @@ fn judge_sound<'a>(
     nodes: usize,
     steps: usize,
     parts: &mut [u32],
+    found: &mut [u16],
+    left: &mut [u16],
+    right: &mut [u16],
 ) -> Judgement
-    requires { ⌜ FitsAs (now words) (now sets) «left_states» «right_states» (editsOf (now image)) fit stale × (valid (now image) ≡ true) × KnownList (now list) × SoundName (now name) × HoldsSome fit (leftRowsOf (now words) «left_states») (now tree) nodes × Room (now tree) (nodes + (length (now name) + 1)) × (steps + 4 * frameSize ≤ maxSteps) × (length (now parts) ≡ frameSize) ⌝ }
+    requires { ⌜ FitsAs (now words) (now sets) «left_states» «right_states» (editsOf (now image)) fit stale × (valid (now image) ≡ true) × KnownList (now list) × SoundName (now name) × HoldsSome fit (leftRowsOf (now words) «left_states») (now tree) nodes × Room (now tree) (nodes + (length (now name) + 1)) × (steps + 4 * frameSize ≤ maxSteps) × (length (now parts) ≡ frameSize) × Sized (memory (now found) (now left) (now right)) ⌝ }
     ensures { λ r. ⌜ NameJudged (now (words .entry)) (now (sets .entry)) «left_states» «right_states» fit (now (image .entry)) (now (list .entry)) (now (name .entry)) (now (tree .entry)) nodes steps (now (tree .exit)) (take (partsIn (r .end)) (now (parts .exit))) r ⌝ }
 {
-    let found = exceptions::end_state(list, name);
-    match found {
+    let ending = exceptions::end_state(list, name);
+    match ending {
         Ending::State(_) => Judgement {
             refusal: 0,
             nodes,
@@ -237,6 +247,9 @@ fn judge_sound<'a>(
             nodes,
             steps,
             parts,
+            found,
+            left,
+            right,
         ),
     }
 }
@@ -256,8 +269,11 @@ pub fn judge_name<'a>(
     nodes: usize,
     steps: usize,
     parts: &mut [u32],
+    found: &mut [u16],
+    left: &mut [u16],
+    right: &mut [u16],
 ) -> Judgement
-    requires { ⌜ FitsAs (now words) (now sets) «left_states» «right_states» (editsOf (now image)) fit stale × (valid (now image) ≡ true) × KnownList (now list) × HoldsSome fit (leftRowsOf (now words) «left_states») (now tree) nodes × Room (now tree) (nodes + roomOf (now name)) × (steps + 4 * frameSize ≤ maxSteps) × (length (now parts) ≡ frameSize) ⌝ }
+    requires { ⌜ FitsAs (now words) (now sets) «left_states» «right_states» (editsOf (now image)) fit stale × (valid (now image) ≡ true) × KnownList (now list) × HoldsSome fit (leftRowsOf (now words) «left_states») (now tree) nodes × Room (now tree) (nodes + roomOf (now name)) × (steps + 4 * frameSize ≤ maxSteps) × (length (now parts) ≡ frameSize) × Sized (memory (now found) (now left) (now right)) ⌝ }
     ensures { λ r. ⌜ NameJudged (now (words .entry)) (now (sets .entry)) «left_states» «right_states» fit (now (image .entry)) (now (list .entry)) (now (name .entry)) (now (tree .entry)) nodes steps (now (tree .exit)) (take (partsIn (r .end)) (now (parts .exit))) r ⌝ }
 {
     let judged = rules::judge_name(name);
@@ -282,6 +298,9 @@ pub fn judge_name<'a>(
             nodes,
             steps,
             parts,
+            found,
+            left,
+            right,
         ),
     }
 }

@@ -20,14 +20,14 @@ enum-told-2 c = search needs
 
 judge-sound-requires : tie.Need-judge-sound-requires
 judge-sound-requires c κs =
-    let st = c .before .before .before .before .before .before .before .before .before .before .before .before in
+    let st = c .before .before .before .before .before .before .before .before .before .before .before .before .before .before .before .before .before .before in
     let a = st .args in
-    let s = found-sound (a .name .now) _ (c .before .before .before .before .judge-name .ensures) (c .before .before .enum-told2 .given .1) in
-    (st .pre .0, st .pre .1, st .pre .2, s, st .pre .3, subst (λ (k : ℕ). Room (a .tree .now) (a .nodes + k)) (S.room-short (a .name .now) (s .short)) (st .pre .4), st .pre .5, st .pre .6)
+    let s = found-sound (a .name .now) _ (c .before .before .before .before .before .before .before .judge-name .ensures) (c .before .before .before .before .before .enum-told2 .given .1) in
+    (st .pre .0, st .pre .1, st .pre .2, s, st .pre .3, subst (λ (k : ℕ). Room (a .tree .now) (a .nodes + k)) (S.room-short (a .name .now) (s .short)) (st .pre .4), st .pre .5, st .pre .6, st .pre .7)
 
 returns : tie.Need-returns
 returns c =
-    let st = c .before .before .before .before .before .before .before .before .before .before in
+    let st = c .before .before .before .before .before .before .before .before .before .before .before .before .before in
     let a = st .args in
     S.sent-none (a .words .now) (a .sets .now) (a .left-states) (a .right-states) (a .fit) (a .image .now) (a .list .now) (a .name .now) (a .tree .now) (a .nodes) (a .steps) (st .pre .3) _ _ (found-refused (a .name .now) _ (c .before .before .judge-name .ensures) _ (c .enum-told .given .1))
 
@@ -36,6 +36,15 @@ same-length c = search needs
 
 same-length-2 : tie.Need-same-length-2
 same-length-2 c = search needs
+
+same-length-3 : tie.Need-same-length-3
+same-length-3 c = search needs
+
+same-length-4 : tie.Need-same-length-4
+same-length-4 c = search needs
+
+same-length-5 : tie.Need-same-length-5
+same-length-5 c = search needs
 
 returns-2 : tie.Need-returns-2
 returns-2 c = search needs
@@ -51,4 +60,7 @@ judge-name-spec =
     returns
     same-length
     same-length-2
+    same-length-3
+    same-length-4
+    same-length-5
     returns-2)
