@@ -181,9 +181,9 @@ module _ {words sets : List ℕ} {l r : ℕ} {fit : Bool} {image list sheet : Li
       room-next : a + roomOf name ≤ workRoom sheet
       room-next = room-in sheet (a + roomOf name) (omega (arith, name-room .0, whole)) (omega (arith, name-room .1, less))
 
-    pub may-judge : k ≤ maxNames → nodeSize * (workRoom sheet + 1) ≤ length t₀ → workRoom sheet ≤ length kept₀ → k ≤ length ends₀ → k ≤ length starts₀
+    pub may-judge : k ≤ maxNames → nodeSize * (workRoom sheet + 1) ≤ length t₀ → workRoom sheet + frameSize ≤ length kept₀ → k ≤ length ends₀ → k ≤ length starts₀
         → (p .at + 1 + n ≤ length sheet) × Room t (p .nodes + roomOf name) × (p .steps + 4 * frameSize ≤ maxSteps) × (p .count < maxNames) × (p .count < length ends) × (p .count < length starts)
-        × (p .kept ≤ maxNodes) × (p .kept + roomOf name ≤ length kept)
+        × (p .kept ≤ maxNodes) × (p .kept + frameSize ≤ length kept)
     may-judge a b c d e =
         let nodes : p .nodes - 1 + roomOf name ≤ workRoom sheet = room-next a (p .nodes - 1) (omega (arith, g .few)) (omega (arith, g .few-each)) in
         let parts = room-next a (p .kept) (g .kept-few) (g .kept-each) in (
@@ -297,7 +297,7 @@ module _ {words sets : List ℕ} {l r : ℕ} {fit : Bool} {image list sheet : Li
                 held = λ i b. held-next i b (decLe (suc i) (p .count));
               }
 
-  pub judged-end : k ≤ maxNames → workRoom sheet ≤ length kept₀ → hasNext sheet (p .at) (p .count) k ≡ false
+  pub judged-end : k ≤ maxNames → workRoom sheet + frameSize ≤ length kept₀ → hasNext sheet (p .at) (p .count) k ≡ false
       → SheetJudged words sets l r fit image list sheet k t₀ ends₀ starts₀ kept₀ t ends starts kept p
   judged-end most room h =
       let none : after p ≡ [] = N.names-end sheet (p .at) (p .count) k h in

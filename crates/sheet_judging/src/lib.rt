@@ -3,7 +3,6 @@ ghost use mathlib.Core.Path.{_≡_};
 ghost use mathlib.Core.Bool.{true};
 ghost use Prim.Native.Nat.{_+_, _*_, _<_, _≤_};
 ghost use lib.ListN.{length, getD};
-ghost use lib.Seq.{paste};
 ghost use Rattle.rules.specs.Limits.{maxNames};
 ghost use Rattle.exceptions.specs.Judging.{KnownList};
 ghost use Rattle.image.specs.Image.{valid, editsOf};
@@ -28,19 +27,8 @@ pub struct Judging {
     pub refusal: u8,
 }
 
-// The first `n` parts are stored from `from` on.
-fn keep(kept: &mut [u32], from: usize, parts: &[u32], n: usize)
-    requires { ⌜ (from + n ≤ length (now kept)) × (n ≤ length (now parts)) ⌝ }
-    ensures { λ _. ⌜ now (kept .exit) ≡ paste (now (kept .entry)) from (now (parts .entry)) n ⌝ }
-{
-    let mut i = 0;
-    while i < n {
-        kept[from + i] = parts[i];
-        i += 1;
-    }
-}
-
-// The next name is judged; how its reading ended and its parts are kept, after those of the names before.
+// The next name is judged into the place after the parts of the names before, where those that go with its end are kept. A reading may use a whole frame,
+// so there is room for one there.
 fn judge_next<'a>(
     words: &'a [u16],
     sets: &'a [u64],
@@ -57,7 +45,7 @@ fn judge_next<'a>(
     kept: &mut [u32],
     p: Judging,
 ) -> Judging
-    requires { ⌜ FitsAs (now words) (now sets) «left_states» «right_states» (editsOf (now image)) fit stale × (valid (now image) ≡ true) × KnownList (now list) × (p .at + 1 + getD (now sheet) (p .at) 0 ≤ length (now sheet)) × HoldsSome fit (leftRowsOf (now words) «left_states») (now tree) (p .nodes) × Room (now tree) (p .nodes + roomOf (nameAt (now sheet) (p .at))) × (p .steps + 4 * frameSize ≤ maxSteps) × (p .count < maxNames) × (p .count < length (now ends)) × (p .count < length (now starts)) × (p .kept ≤ maxNodes) × (p .kept + roomOf (nameAt (now sheet) (p .at)) ≤ length (now kept)) ⌝ }
+    requires { ⌜ FitsAs (now words) (now sets) «left_states» «right_states» (editsOf (now image)) fit stale × (valid (now image) ≡ true) × KnownList (now list) × (p .at + 1 + getD (now sheet) (p .at) 0 ≤ length (now sheet)) × HoldsSome fit (leftRowsOf (now words) «left_states») (now tree) (p .nodes) × Room (now tree) (p .nodes + roomOf (nameAt (now sheet) (p .at))) × (p .steps + 4 * frameSize ≤ maxSteps) × (p .count < maxNames) × (p .count < length (now ends)) × (p .count < length (now starts)) × (p .kept ≤ maxNodes) × (p .kept + frameSize ≤ length (now kept)) ⌝ }
     ensures { λ r. ⌜ NextJudged (now (words .entry)) (now (sets .entry)) «left_states» «right_states» fit (now (image .entry)) (now (list .entry)) (now (sheet .entry)) (now (tree .entry)) (now (ends .entry)) (now (starts .entry)) (now (kept .entry)) p (now (tree .exit)) (now (ends .exit)) (now (starts .exit)) (now (kept .exit)) r ⌝ }
 {
     let at = p.at;
@@ -65,7 +53,7 @@ fn judge_next<'a>(
     let end = start + numbers::wide(sheet[at]);
     let i = p.count;
     let from = p.kept;
-    let mut parts = [0u32; reading::MAX_FRAME];
+    let to = from + reading::MAX_FRAME;
     let x = sheet_name::judge_name(
         words,
         sets,
@@ -79,16 +67,14 @@ fn judge_next<'a>(
         tree,
         p.nodes,
         p.steps,
-        &mut parts,
+        &mut kept[from..to],
     );
-    let n = sheet_name::parts_in(x.end);
-    keep(kept, from, &parts, n);
     ends[i] = x.end;
     starts[i] = from as u32;
     Judging {
         at: end,
         count: i + 1,
-        kept: from + n,
+        kept: from + sheet_name::parts_in(x.end),
         nodes: x.nodes,
         steps: x.steps,
         refusal: x.refusal,
@@ -112,7 +98,7 @@ pub fn judge_sheet<'a>(
     starts: &mut [u32],
     kept: &mut [u32],
 ) -> Judging
-    requires { ⌜ FitsAs (now words) (now sets) «left_states» «right_states» (editsOf (now image)) fit stale × (valid (now image) ≡ true) × KnownList (now list) × Root (now tree) × (nodeSize * (workRoom (now sheet) + 1) ≤ length (now tree)) × (workRoom (now sheet) ≤ length (now kept)) × (limit ≤ maxNames) × (limit ≤ length (now ends)) × (limit ≤ length (now starts)) ⌝ }
+    requires { ⌜ FitsAs (now words) (now sets) «left_states» «right_states» (editsOf (now image)) fit stale × (valid (now image) ≡ true) × KnownList (now list) × Root (now tree) × (nodeSize * (workRoom (now sheet) + 1) ≤ length (now tree)) × (workRoom (now sheet) + frameSize ≤ length (now kept)) × (limit ≤ maxNames) × (limit ≤ length (now ends)) × (limit ≤ length (now starts)) ⌝ }
     ensures { λ r. ⌜ SheetJudged (now (words .entry)) (now (sets .entry)) «left_states» «right_states» fit (now (image .entry)) (now (list .entry)) (now (sheet .entry)) limit (now (tree .entry)) (now (ends .entry)) (now (starts .entry)) (now (kept .entry)) (now (tree .exit)) (now (ends .exit)) (now (starts .exit)) (now (kept .exit)) r ⌝ }
 {
     let mut p = Judging {
