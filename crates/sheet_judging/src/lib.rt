@@ -7,7 +7,7 @@ ghost use Rattle.rules.specs.Limits.{maxNames};
 ghost use Rattle.exceptions.specs.Judging.{KnownList};
 ghost use Rattle.image.specs.Image.{valid, editsOf};
 ghost use Rattle.speech.specs.Places.{frameSize};
-ghost use Rattle.passes.specs.Passes.{maxSteps, leftRowsOf};
+ghost use Rattle.passes.specs.Passes.{maxSteps, leftRowsOf, memory, Sized};
 ghost use Rattle.walk.specs.Walked.{FitsAs};
 ghost use Rattle.prefix_tree.specs.Tree.{nodeSize, maxNodes, Room};
 ghost use Rattle.sheet_passes.specs.Passing.{HoldsSome};
@@ -44,8 +44,11 @@ fn judge_next<'a>(
     starts: &mut [u32],
     kept: &mut [u32],
     p: Judging,
+    found: &mut [u16],
+    left: &mut [u16],
+    right: &mut [u16],
 ) -> Judging
-    requires { ⌜ FitsAs (now words) (now sets) «left_states» «right_states» (editsOf (now image)) fit stale × (valid (now image) ≡ true) × KnownList (now list) × (p .at + 1 + getD (now sheet) (p .at) 0 ≤ length (now sheet)) × HoldsSome fit (leftRowsOf (now words) «left_states») (now tree) (p .nodes) × Room (now tree) (p .nodes + roomOf (nameAt (now sheet) (p .at))) × (p .steps + 4 * frameSize ≤ maxSteps) × (p .count < maxNames) × (p .count < length (now ends)) × (p .count < length (now starts)) × (p .kept ≤ maxNodes) × (p .kept + frameSize ≤ length (now kept)) ⌝ }
+    requires { ⌜ FitsAs (now words) (now sets) «left_states» «right_states» (editsOf (now image)) fit stale × (valid (now image) ≡ true) × KnownList (now list) × (p .at + 1 + getD (now sheet) (p .at) 0 ≤ length (now sheet)) × HoldsSome fit (leftRowsOf (now words) «left_states») (now tree) (p .nodes) × Room (now tree) (p .nodes + roomOf (nameAt (now sheet) (p .at))) × (p .steps + 4 * frameSize ≤ maxSteps) × (p .count < maxNames) × (p .count < length (now ends)) × (p .count < length (now starts)) × (p .kept ≤ maxNodes) × (p .kept + frameSize ≤ length (now kept)) × Sized (memory (now found) (now left) (now right)) ⌝ }
     ensures { λ r. ⌜ NextJudged (now (words .entry)) (now (sets .entry)) «left_states» «right_states» fit (now (image .entry)) (now (list .entry)) (now (sheet .entry)) (now (tree .entry)) (now (ends .entry)) (now (starts .entry)) (now (kept .entry)) p (now (tree .exit)) (now (ends .exit)) (now (starts .exit)) (now (kept .exit)) r ⌝ }
 {
     let at = p.at;
@@ -68,6 +71,9 @@ fn judge_next<'a>(
         p.nodes,
         p.steps,
         &mut kept[from..to],
+        found,
+        left,
+        right,
     );
     ends[i] = x.end;
     starts[i] = from as u32;
@@ -81,7 +87,8 @@ fn judge_next<'a>(
     }
 }
 
-// The names of the sheet are judged in turn, up to the first that refuses it.
+// The names of the sheet are judged in turn, up to the first that refuses it. `found`, `left` and `right` are the memory of the passes, whatever it held:
+// each name writes what it reads there.
 pub fn judge_sheet<'a>(
     words: &'a [u16],
     sets: &'a [u64],
@@ -97,8 +104,11 @@ pub fn judge_sheet<'a>(
     ends: &mut [u32],
     starts: &mut [u32],
     kept: &mut [u32],
+    found: &mut [u16],
+    left: &mut [u16],
+    right: &mut [u16],
 ) -> Judging
-    requires { ⌜ FitsAs (now words) (now sets) «left_states» «right_states» (editsOf (now image)) fit stale × (valid (now image) ≡ true) × KnownList (now list) × Root (now tree) × (nodeSize * (workRoom (now sheet) + 1) ≤ length (now tree)) × (workRoom (now sheet) + frameSize ≤ length (now kept)) × (limit ≤ maxNames) × (limit ≤ length (now ends)) × (limit ≤ length (now starts)) ⌝ }
+    requires { ⌜ FitsAs (now words) (now sets) «left_states» «right_states» (editsOf (now image)) fit stale × (valid (now image) ≡ true) × KnownList (now list) × Root (now tree) × (nodeSize * (workRoom (now sheet) + 1) ≤ length (now tree)) × (workRoom (now sheet) + frameSize ≤ length (now kept)) × (limit ≤ maxNames) × (limit ≤ length (now ends)) × (limit ≤ length (now starts)) × Sized (memory (now found) (now left) (now right)) ⌝ }
     ensures { λ r. ⌜ SheetJudged (now (words .entry)) (now (sets .entry)) «left_states» «right_states» fit (now (image .entry)) (now (list .entry)) (now (sheet .entry)) limit (now (tree .entry)) (now (ends .entry)) (now (starts .entry)) (now (kept .entry)) (now (tree .exit)) (now (ends .exit)) (now (starts .exit)) (now (kept .exit)) r ⌝ }
 {
     let mut p = Judging {
@@ -125,6 +135,9 @@ pub fn judge_sheet<'a>(
             &mut *starts,
             &mut *kept,
             p,
+            &mut *found,
+            &mut *left,
+            &mut *right,
         );
         if p.refusal != 0 {
             return p;

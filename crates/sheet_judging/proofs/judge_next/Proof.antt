@@ -49,38 +49,50 @@ part-judge-name-end-2 c = search needs
 
 judge-name-requires : tie.Need-judge-name-requires
 judge-name-requires c κs =
-    let st = c .before .before .before .before .before .before .before .before .before .before .before .before .before .before in
+    let st = c .before .before .before .before .before .before .before .before .before .before .before .before .before .before .before .before .before .before .before .before in
     let a = st .args in
-    let e = name-here (a .sheet .now) (a .p .at) _ (c .before .before .before .wide .ensures .0) in
-    (st .pre .0, st .pre .1, st .pre .2, st .pre .4, subst (λ (v : Str). Room (a .tree .now) (a .p .nodes + roomOf v)) (sym e) (st .pre .5), st .pre .6, frame-here (a .kept .now) (a .p .kept) (st .pre .11))
+    let e = name-here (a .sheet .now) (a .p .at) _ (c .before .before .before .before .before .before .wide .ensures .0) in
+    (st .pre .0, st .pre .1, st .pre .2, st .pre .4, subst (λ (v : Str). Room (a .tree .now) (a .p .nodes + roomOf v)) (sym e) (st .pre .5), st .pre .6, frame-here (a .kept .now) (a .p .kept) (st .pre .11), st .pre .12)
 
 mul-ends : tie.Need-mul-ends
-mul-ends c = search needs
+mul-ends c =
+    let st = c .before .before .before .before .before .before .before .before .before .before .before .before .before .before .before .before .before .before .before .before .before .before .before .before .before .before .before .before .before .before .before in
+    search (needs, st .pre .7)
 
 slice-write-ends : tie.Need-slice-write-ends
-slice-write-ends c = search needs
+slice-write-ends c =
+    let st = c .before .before .before .before .before .before .before .before .before .before .before .before .before .before .before .before .before .before .before .before .before .before .before .before .before .before .before .before .before .before .before in
+    search (needs, st .pre .8)
 
 cast-starts : tie.Need-cast-starts
-cast-starts c = search needs
+cast-starts c =
+    let st = c .before .before .before .before .before .before .before .before .before .before .before .before .before .before .before .before .before .before .before .before .before .before .before .before .before .before .before .before .before .before .before in
+    search (needs, st .pre .10)
 
 mul-starts : tie.Need-mul-starts
-mul-starts c = search needs
+mul-starts c =
+    let st = c .before .before .before .before .before .before .before .before .before .before .before .before .before .before .before .before .before .before .before .before .before .before .before .before .before .before .before .before .before .before .before in
+    search (needs, st .pre .7)
 
 slice-write-starts : tie.Need-slice-write-starts
-slice-write-starts c = search needs
+slice-write-starts c =
+    let st = c .before .before .before .before .before .before .before .before .before .before .before .before .before .before .before .before .before .before .before .before .before .before .before .before .before .before .before .before .before .before .before in
+    search (needs, st .pre .9)
 
-add-t22 : tie.Need-add-t22
-add-t22 c = search needs
+add-t25 : tie.Need-add-t25
+add-t25 c =
+    let st = c .before .before .before .before .before .before .before .before .before .before .before .before .before .before .before .before .before .before .before .before .before .before .before .before .before .before .before .before .before .before .before in
+    search (needs, st .pre .7)
 
 parts-in-requires : tie.Need-parts-in-requires
 parts-in-requires c κs = search needs
 
-add-t30 : tie.Need-add-t30
-add-t30 c =
-    let st = c .before .before .before .before .before .before .before .before .before .before .before .before .before .before .before .before .before .before .before .before in
+add-t33 : tie.Need-add-t33
+add-t33 c =
+    let st = c .before .before .before .before .before .before .before .before .before .before .before .before .before .before .before .before .before .before .before .before .before .before .before .before .before .before .before .before .before .before .before .before in
     let a = st .args in
-    let x = c .before .before .before .before .before .judge-name in
-    omega (arith, parts-few (a .sheet .now) _ (a .p) (c .before .before .before .before .before .before .before .before .before .wide .ensures .0) (x .result) (x .ensures) _ (c .parts-in .ensures), st .pre .10)
+    let x = c .before .before .before .before .before .before .before .before .before .before .before .judge-name in
+    omega (arith, parts-few (a .sheet .now) _ (a .p) (c .before .before .before .before .before .before .before .before .before .before .before .before .before .before .before .before .before .before .wide .ensures .0) (x .result) (x .ensures) _ (c .parts-in .ensures), st .pre .10)
 
 same-length : tie.Need-same-length
 same-length c = search needs
@@ -94,12 +106,21 @@ same-length-3 c = search needs
 same-length-4 : tie.Need-same-length-4
 same-length-4 c = search needs
 
+same-length-5 : tie.Need-same-length-5
+same-length-5 c = search needs
+
+same-length-6 : tie.Need-same-length-6
+same-length-6 c = search needs
+
+same-length-7 : tie.Need-same-length-7
+same-length-7 c = search needs
+
 returns : tie.Need-returns
 returns c =
-    let st = c .before .before .before .before .before .before .before .before .before .before .before .before .before .before .before .before .before .before .before .before in
+    let st = c .before .before .before .before .before .before .before .before .before .before .before .before .before .before .before .before .before .before .before .before .before .before .before .before .before .before .before .before .before .before .before .before in
     let a = st .args in
-    let x = c .before .before .before .before .before .judge-name in
-    next-judged (a .sheet .now) _ (a .p) (c .before .before .before .before .before .before .before .before .before .wide .ensures .0) (x .result) (x .ensures) _ (c .parts-in .ensures) (a .ends .now) (a .starts .now) (a .kept .now) (c .before .before .kept .given .0) (st .pre .11)
+    let x = c .before .before .before .before .before .before .before .before .before .before .before .judge-name in
+    next-judged (a .sheet .now) _ (a .p) (c .before .before .before .before .before .before .before .before .before .before .before .before .before .before .before .before .before .before .wide .ensures .0) (x .result) (x .ensures) _ (c .parts-in .ensures) (a .ends .now) (a .starts .now) (a .kept .now) (c .before .before .before .before .before .before .before .before .kept .given .0) (st .pre .11)
 
 pub judge-next-spec : {M : Type 1} → statement M
 judge-next-spec =
@@ -123,11 +144,14 @@ judge-next-spec =
     cast-starts
     mul-starts
     slice-write-starts
-    add-t22
+    add-t25
     parts-in-requires
-    add-t30
+    add-t33
     same-length
     same-length-2
     same-length-3
     same-length-4
+    same-length-5
+    same-length-6
+    same-length-7
     returns)
