@@ -18,6 +18,7 @@ use Rattle.rules.specs.declared.Refusal.the-variants.{NotRuleset, WordsRoom, Se
 use Rattle.exceptions.specs.Judging.{isList, Listing, listingOf}
 use Rattle.image.specs.Image.{valid}
 use Rattle.fitting.specs.Fitting.{Str}
+use Rattle.speech.specs.Places.{frameSize}
 use Rattle.speech.proofs.Call.{listing-some, listing-none}
 use Rattle.speech.proofs.Lookup.{says-all}
 use Rattle.tables.specs.Words.{Compiled}
@@ -73,6 +74,9 @@ module _ (sheet tree kept replies phones numbers : List ℕ) (x : SheetSaid) (ro
   tree-is : nodeSize * (room + 1) ≡ treeSize sheet
   tree-is = ap (λ (k : ℕ). nodeSize * (k + 1)) work
 
+  kept-is : room + frameSize ≡ keptSize sheet
+  kept-is = ap (λ (k : ℕ). k + frameSize) work
+
   replies-are : replySize * limit ≡ repliesSize names
   replies-are = ap (λ (k : ℕ). replySize * k) is
 
@@ -83,16 +87,16 @@ module _ (sheet tree kept replies phones numbers : List ℕ) (x : SheetSaid) (ro
       ∙ sym (ap (λ (a : Bool). from a (zeros (keptSize sheet) kept) (leb (repliesSize names) (length replies))) (ap (λ (k : ℕ). zeros k tree) (sym tree-is) ∙ e))
 
   module _ (t : zeros (nodeSize * (room + 1)) tree ≡ true) where
-    with-kept : (b : Bool) → zeros room kept ≡ b → withMemory sheet names tree kept x replies phones numbers ≡ from true b (leb (repliesSize names) (length replies))
+    with-kept : (b : Bool) → zeros (room + frameSize) kept ≡ b → withMemory sheet names tree kept x replies phones numbers ≡ from true b (leb (repliesSize names) (length replies))
     with-kept b e =
         ap₂ (λ (a b : Bool). from a b (leb (repliesSize names) (length replies)))
-        (ap (λ (k : ℕ). zeros k tree) (sym tree-is) ∙ t) (ap (λ (k : ℕ). zeros k kept) (sym work) ∙ e)
+        (ap (λ (k : ℕ). zeros k tree) (sym tree-is) ∙ t) (ap (λ (k : ℕ). zeros k kept) (sym kept-is) ∙ e)
 
-    pub lacks-kept : zeros room kept ≡ false → (r : SheetAnswer) → r ≡ refusing (SetsRoom room)
+    pub lacks-kept : zeros (room + frameSize) kept ≡ false → (r : SheetAnswer) → r ≡ refusing (SetsRoom (room + frameSize))
         → sheetSaid r replies phones numbers ≡ withMemory sheet names tree kept x replies phones numbers
-    lacks-kept e r h = refused-as replies phones numbers (SetsRoom room) r h ∙ ap (lacking 12) work ∙ sym (with-kept false e)
+    lacks-kept e r h = refused-as replies phones numbers (SetsRoom (room + frameSize)) r h ∙ ap (lacking 12) kept-is ∙ sym (with-kept false e)
 
-    module _ (s : zeros room kept ≡ true) where
+    module _ (s : zeros (room + frameSize) kept ≡ true) where
       with-replies : (c : Bool) → leb (repliesSize names) (length replies) ≡ c → withMemory sheet names tree kept x replies phones numbers ≡ from true true c
       with-replies c e = with-kept true s ∙ ap (from true true) e
 
@@ -110,8 +114,8 @@ put-front n s z e = ap (λ (y : List ℕ). y ++ drop n s) e ∙ take-append-drop
 
 -- zero memory of these sizes is all that the names ask
 pub ready : (image list sheet replies tree kept : List ℕ) (room limit : ℕ) → room ≡ workRoom sheet → limit ≡ length (namesIn maxNames sheet) → valid image ≡ true → isList list ≡ true
-    → replySize * limit ≤ length replies → zeros (nodeSize * (room + 1)) tree ≡ true → zeros room kept ≡ true
-    → Ready image list sheet limit replies (take (nodeSize * (room + 1)) tree) (take room kept)
+    → replySize * limit ≤ length replies → zeros (nodeSize * (room + 1)) tree ≡ true → zeros (room + frameSize) kept ≡ true
+    → Ready image list sheet limit replies (take (nodeSize * (room + 1)) tree) (take (room + frameSize) kept)
 ready image list sheet replies tree kept room limit work is v e l t k =
     let z = zeros-all (nodeSize * (room + 1)) tree t in
     record {
@@ -120,7 +124,7 @@ ready image list sheet replies tree kept room limit work is v e l t k =
       few = few-names sheet limit is;
       replies-room = l;
       tree-room = omega (arith, work, length-take-le (nodeSize * (room + 1)) tree (zeros-room (nodeSize * (room + 1)) tree t));
-      kept-room = omega (arith, work, length-take-le room kept (zeros-room room kept k));
+      kept-room = omega (arith, work, length-take-le (room + frameSize) kept (zeros-room (room + frameSize) kept k));
       root = record { childless = z .each _; state-is = z .each _ };
     }
 

@@ -16,6 +16,7 @@ use Rattle.rules.specs.declared.Refusal.the-variants.{BadTables, StaleTables}
 use Rattle.exceptions.specs.Judging.{Listing, isList, listingOf, saysOf}
 use Rattle.image.specs.Image.{valid, editsOf, literalsOf}
 use Rattle.fitting.specs.Fitting.{Str}
+use Rattle.speech.specs.Places.{frameSize}
 use Rattle.speech.specs.Speech.{Outcome, judgedCall}
 use Rattle.tables.specs.Words.{Compiled, compiledFrom}
 use Rattle.tables.specs.Walk.{sharedSteps, walkThrough}
@@ -79,8 +80,9 @@ alone c image l name = judgedCall image l name (walkThrough c (editsOf image) (l
 abbrev pub treeSize : List ℕ → ℕ
 treeSize sheet = nodeSize * (workRoom sheet + 1)
 
+-- a frame more, since the last name is read into the place of its parts
 abbrev pub keptSize : List ℕ → ℕ
-keptSize sheet = workRoom sheet
+keptSize sheet = workRoom sheet + frameSize
 
 abbrev pub repliesSize : List Str → ℕ
 repliesSize names = replySize * length names

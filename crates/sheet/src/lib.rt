@@ -347,8 +347,9 @@ fn speak_sound<'a>(
     if !zero_words(tree, nodes) {
         return refused(Refusal::WordsRoom(nodes));
     }
-    if !zero_parts(kept, room) {
-        return refused(Refusal::SetsRoom(room));
+    let parts = room + sheet_judging::MAX_PARTS;
+    if !zero_parts(kept, parts) {
+        return refused(Refusal::SetsRoom(parts));
     }
     let size = many_names::REPLY * limit;
     if replies.len() < size {
@@ -365,7 +366,7 @@ fn speak_sound<'a>(
         numbers,
         replies,
         &mut tree[..nodes],
-        &mut kept[..room],
+        &mut kept[..parts],
     )
 }
 

@@ -164,6 +164,9 @@ module _ {words sets : List ℕ} {l r : ℕ} {fit : Bool} {image list sheet : Li
   abbrev name : Str
   name = nameAt sheet (p .at)
 
+  kept-within : k ≤ maxNames → p .kept ≤ workRoom sheet
+  kept-within most = room-in sheet (p .kept) (omega (arith, g .kept-few, g .at-in)) (omega (arith, g .kept-each, g .count-in))
+
   module _ (h : hasNext sheet (p .at) (p .count) k ≡ true) where
     whole : p .at + 1 + n ≤ length sheet
     whole = N.next-whole sheet (p .at) (p .count) k h
@@ -176,17 +179,11 @@ module _ {words sets : List ℕ} {l r : ℕ} {fit : Bool} {image list sheet : Li
         let long : length name ≡ n = length-take-le n (drop (p .at + 1) sheet) (omega (arith, length-drop (p .at + 1) sheet, whole)) in
         (omega (arith, room-most name .0, long), room-most name .1)
 
-    -- with the next name's room, as many nodes besides the root, or parts, as there is room for
-    module _ (few : k ≤ maxNames) (a : ℕ) (x : a ≤ p .at) (y : a ≤ (maxName + 1) * p .count) where
-      room-next : a + roomOf name ≤ workRoom sheet
-      room-next = room-in sheet (a + roomOf name) (omega (arith, name-room .0, whole)) (omega (arith, name-room .1, less))
-
     pub may-judge : k ≤ maxNames → nodeSize * (workRoom sheet + 1) ≤ length t₀ → workRoom sheet + frameSize ≤ length kept₀ → k ≤ length ends₀ → k ≤ length starts₀
         → (p .at + 1 + n ≤ length sheet) × Room t (p .nodes + roomOf name) × (p .steps + 4 * frameSize ≤ maxSteps) × (p .count < maxNames) × (p .count < length ends) × (p .count < length starts)
         × (p .kept ≤ maxNodes) × (p .kept + frameSize ≤ length kept)
     may-judge a b c d e =
-        let nodes : p .nodes - 1 + roomOf name ≤ workRoom sheet = room-next a (p .nodes - 1) (omega (arith, g .few)) (omega (arith, g .few-each)) in
-        let parts = room-next a (p .kept) (g .kept-few) (g .kept-each) in (
+        let nodes = room-in sheet (p .nodes - 1 + roomOf name) (omega (arith, g .few, name-room .0, whole)) (omega (arith, g .few-each, name-room .1, less)) in (
           whole,
           record { few = omega (arith, g .few-each, name-room .1, less); words = omega (arith, nodes, g .sized) },
           omega (arith, g .few-each, g .done-few, g .steps-are, less),
@@ -194,7 +191,7 @@ module _ {words sets : List ℕ} {l r : ℕ} {fit : Bool} {image list sheet : Li
           omega (arith, less, g .ends-sized),
           omega (arith, less, g .starts-sized),
           omega (arith, g .kept-each, less),
-          omega (arith, parts, g .kept-sized),
+          omega (arith, kept-within a, g .kept-sized),
         )
 
     module _ (t′ ends′ starts′ kept′ : List ℕ) (p′ : Judging) (x : NextJudged words sets l r fit image list sheet t ends starts kept p t′ ends′ starts′ kept′ p′) where
@@ -305,7 +302,6 @@ module _ {words sets : List ℕ} {l r : ℕ} {fit : Bool} {image list sheet : Li
       let count : p .nodes ≡ length (prefixesOf (sheetWords m all)) = g .holds .count ∙ ap (λ (s : List Str). length (states s)) full in
       let some = index-lt [] (prefixesOf (sheetWords m all)) (numbered-nil (hashed (sheetWords m all))) in
       let last : length (drop (p .count) all) ≡ 0 = ap length (g .left-over ∙ none) in
-      let within = room-in sheet (p .kept) (omega (arith, g .kept-few, g .at-in)) (omega (arith, g .kept-each, g .count-in)) in
       record {
         sized = g .sized;
         ends-sized = g .ends-sized;
@@ -314,6 +310,6 @@ module _ {words sets : List ℕ} {l r : ℕ} {fit : Bool} {image list sheet : Li
         refused = λ u. absurd (omega (arith, g .fine));
         goes = λ _. g .rest ∙ ap (firstRefusal f) none;
         steps-are = λ _. omega (arith, g .steps-are, g .rights, ap (λ (ns : List Str). rightSteps (sheetWords m ns)) none);
-        placed = λ _ i b. omega (arith, within, g .kept-sized, g .placed i (omega (arith, length-drop (p .count) all)));
+        placed = λ _ i b. omega (arith, kept-within most, g .kept-sized, g .placed i (omega (arith, length-drop (p .count) all)));
         held = λ _ i b. g .held i (omega (arith, length-drop (p .count) all));
       }

@@ -16,6 +16,9 @@ ghost use Rattle.sheet_name.specs.Judging.{roomOf};
 ghost use Rattle.sheet_judging.specs.Sheet.{workRoom};
 ghost use Rattle.sheet_judging.specs.Kept.{Root, NextJudged, SheetJudged};
 
+// Parts that reading one name may use.
+pub const MAX_PARTS: usize = reading::MAX_FRAME;
+
 // How far the judging has come: the place in the sheet, the names judged, the parts kept, the nodes of the tree, the entries looked up, and the refusal of
 // the sheet, or 0.
 pub struct Judging {
@@ -27,8 +30,7 @@ pub struct Judging {
     pub refusal: u8,
 }
 
-// The next name is judged into the place after the parts of the names before, where those that go with its end are kept. A reading may use a whole frame,
-// so there is room for one there.
+// The next name is judged into the place after the parts of the names before, where its own are kept.
 fn judge_next<'a>(
     words: &'a [u16],
     sets: &'a [u64],
@@ -56,7 +58,7 @@ fn judge_next<'a>(
     let end = start + numbers::wide(sheet[at]);
     let i = p.count;
     let from = p.kept;
-    let to = from + reading::MAX_FRAME;
+    let to = from + MAX_PARTS;
     let x = sheet_name::judge_name(
         words,
         sets,

@@ -9,6 +9,7 @@ use borrow.Author.Tests.{not-true, not-false}
 use Rattle.rules.specs.Limits.{maxNames}
 use Rattle.exceptions.specs.Judging.{listingOf, saysOf}
 use Rattle.fitting.specs.Fitting.{Str}
+use Rattle.speech.specs.Places.{frameSize}
 use Rattle.tables.specs.Words.{compiledFrom}
 use Rattle.prefix_tree.specs.Tree.{nodeSize}
 use Rattle.sheet.specs.Sheet.{alone, judgedSheet, namesThrough}
@@ -58,6 +59,12 @@ returns c =
           (w .result) (a .limit) (w .ensures) (st .pre .2) t _ (c .refused .ensures),
       (refl, refl),
     )
+
+-- src/lib.rt:350:17
+add-parts : tie.Need-add-parts
+add-parts c =
+    let w = c .before .before .before .work-room in
+    omega (arith, W.room-few (c .before .before .before .before .before .before .before .before .before .before .before .before .before .before .args .sheet .now) (w .result) (w .ensures))
 
 -- src/lib.rt:259:9
 zero-parts-requires : tie.Need-zero-parts-requires
@@ -151,7 +158,7 @@ answer-clear-requires c κs =
     let k = sym (c .before .before .before .before .before .before .before .zero-parts .ensures) ∙ not-false _ (c .before .before .before .before .before .before .if2 .left) in (
       W.ready (a .image .now) (a .list .now) (a .sheet .now) (a .replies .now) (a .tree .now) (a .kept .now) (w .result) (a .limit) (w .ensures) (st .pre .2) (st .pre .0) (st .pre .1) (c .before .before .before .before .before .if3 .left) t k,
       Z.zeros-all (nodeSize * (w .result + 1)) (a .tree .now) t,
-      Z.zeros-all (w .result) (a .kept .now) k,
+      Z.zeros-all (w .result + frameSize) (a .kept .now) k,
     )
 
 -- src/lib.rt:236:1
@@ -187,7 +194,7 @@ returns-4 c =
       W.has-memory (a .sheet .now) (a .tree .now) (a .kept .now) (a .replies .now) (a .phones .now) (a .numbers .now)
           (namesThrough (compiledFrom (a .words .now) (a .sets .now)) (a .image .now) (a .list .now) (a .sheet .now) maxNames (a .replies .now) (a .phones .now) (a .numbers .now))
           (w .result) (a .limit) (w .ensures) (st .pre .2) t k (c .before .before .before .before .before .before .before .before .before .before .before .before .before .before .before .before .if3 .left) _ (o .0 ∙ limited),
-      (W.put-front (nodeSize * (w .result + 1)) (a .tree .now) _ (o .1 .0), W.put-front (w .result) (a .kept .now) _ (o .1 .1)),
+      (W.put-front (nodeSize * (w .result + 1)) (a .tree .now) _ (o .1 .0), W.put-front (w .result + frameSize) (a .kept .now) _ (o .1 .1)),
     )
 
 pub speak-sound-spec : {M : Type 1} → statement M
@@ -201,6 +208,7 @@ speak-sound-spec =
     refused-requires
     same-length
     returns
+    add-parts
     zero-parts-requires
     refused-requires-2
     same-length-2
