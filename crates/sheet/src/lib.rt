@@ -46,7 +46,8 @@ fn tables_refusal(number: u8) -> Refusal
     Refusal::BadTables(0)
 }
 
-// The names of a sheet are judged, then answered, by tables of which the lengths and the edit count were looked at.
+// The names of a sheet are judged, then answered, by tables of which the lengths and the edit count were looked at. The memory of the passes is made once for
+// all names.
 fn answer_fit<'a>(
     words: &'a [u16],
     sets: &'a [u64],
@@ -69,6 +70,9 @@ fn answer_fit<'a>(
 {
     let mut ends = [0u32; rules::MAX_NAMES];
     let mut starts = [0u32; rules::MAX_NAMES];
+    let mut found = [0u16; sheet_judging::MAX_POSITIONS];
+    let mut left = [0u16; sheet_judging::MAX_POSITIONS];
+    let mut right = [0u16; sheet_judging::MAX_POSITIONS];
     let p = sheet_judging::judge_sheet(
         words,
         sets,
@@ -84,6 +88,9 @@ fn answer_fit<'a>(
         &mut ends,
         &mut starts,
         &mut *kept,
+        &mut found,
+        &mut left,
+        &mut right,
     );
     if p.refusal != 0 {
         return refused(tables_refusal(p.refusal));

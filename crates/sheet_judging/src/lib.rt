@@ -19,6 +19,9 @@ ghost use Rattle.sheet_judging.specs.Kept.{Root, NextJudged, SheetJudged
 // Parts that reading one name may use.
 pub const MAX_PARTS: usize = reading::MAX_FRAME;
 
+// Positions of the longest frame, for each of which the passes remember a number in `found`, `left` and `right`.
+pub const MAX_POSITIONS: usize = reading::MAX_FRAME;
+
 // How far the judging has come: the place in the sheet, the names judged, the parts kept, the nodes of the tree, the entries looked up, and the refusal of
 // the sheet, or 0.
 pub struct Judging {
