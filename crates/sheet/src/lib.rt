@@ -70,9 +70,9 @@ fn answer_fit<'a>(
 {
     let mut ends = [0u32; rules::MAX_NAMES];
     let mut starts = [0u32; rules::MAX_NAMES];
-    let mut found = [0u16; sheet_judging::MAX_POSITIONS];
-    let mut left = [0u16; sheet_judging::MAX_POSITIONS];
-    let mut right = [0u16; sheet_judging::MAX_POSITIONS];
+    let mut found = [0u16; reading::MAX_FRAME];
+    let mut left = [0u16; reading::MAX_FRAME];
+    let mut right = [0u16; reading::MAX_FRAME];
     let p = sheet_judging::judge_sheet(
         words,
         sets,
@@ -354,7 +354,7 @@ fn speak_sound<'a>(
     if !zero_words(tree, nodes) {
         return refused(Refusal::WordsRoom(nodes));
     }
-    let parts = room + sheet_judging::MAX_PARTS;
+    let parts = room + reading::MAX_FRAME;
     if !zero_parts(kept, parts) {
         return refused(Refusal::SetsRoom(parts));
     }

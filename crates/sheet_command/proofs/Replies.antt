@@ -142,12 +142,11 @@ module _ (f : Str → Outcome) (low : (name : Str) → Low (f name)) where
       let p : length (drop (phonesGiven t) (s .phones)) ≡ length phones - phonesGiven (toldBy (replyTo t 0 (l .replies ++ z))) =
       length-drop (phonesGiven t) (s .phones) ∙ (ap (λ (k : ℕ). k - phonesGiven t) (fit .phones-keep) ∙ ap (λ (x : Told). length phones - phonesGiven x) (sym e)) in
       let q : length (drop (numbersGiven t) (s .numbers)) ≡ length numbers - numbersGiven (toldBy (replyTo t 0 (l .replies ++ z))) =
-      length-drop (numbersGiven t) (s .numbers) ∙ (ap (λ (k : ℕ). k - numbersGiven t) (fit .numbers-keep) ∙ ap (λ (x : Told). length numbers - numbersGiven x) (sym e)) in
-      (
+      length-drop (numbersGiven t) (s .numbers) ∙ (ap (λ (k : ℕ). k - numbersGiven t) (fit .numbers-keep) ∙ ap (λ (x : Told). length numbers - numbersGiven x) (sym e)) in (
         printable-reply t 0 (l .replies ++ z) (length phones) (length numbers) h (delivered-within (f n) phones numbers),
         subst (λ (b : ℕ). AllPrintable (l .count) (l .replies ++ z) (length phones - phonesGiven (toldBy (replyTo t 0 (l .replies ++ z)))) b) q
-        (subst (λ (a : ℕ). AllPrintable (l .count) (l .replies ++ z) a (length (drop (numbersGiven t) (s .numbers)))) p
-        (each-printable ns (drop (phonesGiven t) (s .phones)) (drop (numbersGiven t) (s .numbers)) z)),
+            (subst (λ (a : ℕ). AllPrintable (l .count) (l .replies ++ z) a (length (drop (numbersGiven t) (s .numbers)))) p
+            (each-printable ns (drop (phonesGiven t) (s .phones)) (drop (numbersGiven t) (s .numbers)) z)),
       )
 
   pub each-count : (names : List Str) (phones numbers : List ℕ) → each said names phones numbers .count ≡ length names
@@ -164,8 +163,7 @@ few-names (suc k) (n ∷ s) = byBool (leb n (length s)) (λ e. rw e (omega (arit
 -- more phones and numbers are enough too
 pub more-printable : (n : ℕ) (replies : List ℕ) (a b c d : ℕ) → a ≤ c → b ≤ d → AllPrintable n replies a b → AllPrintable n replies c d
 more-printable zero replies a b c d h k w = tt
-more-printable (suc n) replies a b c d h k w =
-    (
-      record { coded = w .0 .coded; within = more-room (toldBy replies) a b c d h k (w .0 .within) },
-      more-printable n (drop replySize replies) _ _ _ _ (omega arith) (omega arith) (w .1),
-    )
+more-printable (suc n) replies a b c d h k w = (
+  record { coded = w .0 .coded; within = more-room (toldBy replies) a b c d h k (w .0 .within) },
+  more-printable n (drop replySize replies) _ _ _ _ (omega arith) (omega arith) (w .1),
+)

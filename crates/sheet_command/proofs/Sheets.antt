@@ -102,7 +102,7 @@ sheet-presentable s n m image list words sets sheet tree kept replies phones num
     (record {
       few = h .few;
       printable = more-printable (t .names) (t .replies) (length (take n phones)) (length (take m numbers)) (length phones) (length numbers)
-      (omega (arith, length-take n phones)) (omega (arith, length-take m numbers)) (h .printable);
+          (omega (arith, length-take n phones)) (omega (arith, length-take m numbers)) (h .printable);
     })
 
 -- memory that is as long as before has room for as much

@@ -10,6 +10,7 @@ use Rattle.rules.specs.Limits.{maxName, maxNames}
 use Rattle.rules.specs.Memory.{over}
 use Rattle.rules.specs.Refusals.{Reply, accepted, declined}
 use Rattle.exceptions.specs.Judging.{listingOf}
+use Rattle.speech.specs.Places.{frameSize}
 use Rattle.prefix_tree.specs.Tree.{nodeSize}
 use Rattle.many_names.specs.Many.{replySize}
 use Rattle.sheet.specs.Sheet.{SheetSaid, spokenSheet}
@@ -62,7 +63,7 @@ unfoldable pub treeWords : List ℕ
 treeWords = replicate (nodeSize * (maxNames * (maxName + 1) + 1)) 0
 
 unfoldable pub keptWords : List ℕ
-keptWords = replicate (maxNames * (maxName + 1)) 0
+keptWords = replicate (maxNames * (maxName + 1) + frameSize) 0
 
 unfoldable pub replyNumbers : List ℕ
 replyNumbers = replicate (replySize * maxNames) 0

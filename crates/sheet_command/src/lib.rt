@@ -14,9 +14,13 @@ ghost use Rattle.file_format.specs.Layout.{longestFile};
 ghost use Rattle.command_parts.specs.Answers.{SpeechAnswered};
 ghost use Rattle.sheet_command.specs.SheetCommand.{sheetIn, sheetFor, sheetBy, Presentable, SheetPut};
 
-// Memory to work in that is enough for each sheet: bytes of names with their lengths, words of the tree, numbers of replies.
-const PARTS: usize = rules::MAX_NAMES * (rules::MAX_NAME + 1);
-const TREE: usize = prefix_tree::NODE * (PARTS + 1);
+// Memory to work in that is enough for each sheet: words of the tree, kept parts, numbers of replies.
+const ROOM: usize = rules::MAX_NAMES * (rules::MAX_NAME + 1);
+
+const TREE: usize = prefix_tree::NODE * (ROOM + 1);
+
+const KEPT: usize = ROOM + reading::MAX_FRAME;
+
 const REPLIES: usize = many_names::REPLY * rules::MAX_NAMES;
 
 // A sheet sent through the first so many words and set words, with the first so many phones and numbers lent.
@@ -144,7 +148,7 @@ pub fn sheet_command<'a>(
     }
     let mut replies = [0usize; REPLIES];
     let mut tree = [0u16; TREE];
-    let mut kept = [0u32; PARTS];
+    let mut kept = [0u32; KEPT];
     let said = speak_lent(
         f,
         image,

@@ -16,12 +16,6 @@ ghost use Rattle.sheet_name.specs.Judging.{roomOf};
 ghost use Rattle.sheet_judging.specs.Sheet.{workRoom};
 ghost use Rattle.sheet_judging.specs.Kept.{Root, NextJudged, SheetJudged};
 
-// Parts that reading one name may use.
-pub const MAX_PARTS: usize = reading::MAX_FRAME;
-
-// Positions of the longest frame, for each of which the passes remember a number in `found`, `left` and `right`.
-pub const MAX_POSITIONS: usize = reading::MAX_FRAME;
-
 // How far the judging has come: the place in the sheet, the names judged, the parts kept, the nodes of the tree, the entries looked up, and the refusal of
 // the sheet, or 0.
 pub struct Judging {
@@ -61,7 +55,7 @@ fn judge_next<'a>(
     let end = start + numbers::wide(sheet[at]);
     let i = p.count;
     let from = p.kept;
-    let to = from + MAX_PARTS;
+    let to = from + reading::MAX_FRAME;
     let x = sheet_name::judge_name(
         words,
         sets,

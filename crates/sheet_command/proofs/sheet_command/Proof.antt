@@ -44,8 +44,7 @@ slice-aggregate-put-sheet c = search needs
 put-sheet-requires : tie.Need-put-sheet-requires
 put-sheet-requires c κs =
     let p = c .before .before .before .before .before .before .before .before .before .before .before .before .speak-lent in
-    let h = c .before .before .before .before .before .before .before .before .before .before .before .before .before .before .before .before .before .before .before .before .before .before .before .before .before .before .before .pre in
-    (
+    let h = c .before .before .before .before .before .before .before .before .before .before .before .before .before .before .before .before .before .before .before .before .before .before .before .before .before .before .before .pre in (
       omega (arith, p .kept .1 .1 .1 .1 .1 .1 .1 .0, length-replicate {A = ℕ} 1280 0),
       omega (arith, h .0),
       omega (arith, h .1),

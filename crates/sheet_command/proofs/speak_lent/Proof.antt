@@ -73,11 +73,10 @@ returns : tie.Need-returns
 returns c =
     let r = c .before .before .before .before .before .before .before .before .before .before .speak-in in
     let st = c .before .before .before .before .before .before .before .before .before .before .before .before .before .before .before .before .before .before .before in
-    let a = st .before .before .before .before .before .before .before .before .before .before .before .before .before .before .before .before .before .before .args in
-    (
+    let a = st .before .before .before .before .before .before .before .before .before .before .before .before .before .before .before .before .before .before .args in (
       sheet-for _ (a .f .now) (a .image .now) (a .list .now) (a .words .now) (a .sets .now) (a .tree .now) (a .kept .now) (a .replies .now) (a .phones .now) (a .numbers .now) _ _ _ _ _ _ _ _ _
-      (st .before .before .before .before .before .before .lent .ensures .0) (st .before .before .before .before .before .before .before .four-at .ensures .0) (st .before .before .before .before .lent2 .ensures .0) (st .before .before .before .before .before .four-at2 .ensures .0)
-      (st .before .before .lent3 .ensures .0) (st .before .before .before .two-at .ensures .0) (st .lent4 .ensures .0) (st .before .two-at2 .ensures .0) (tail-is 13 (a .f .now)) (r .ensures),
+          (st .before .before .before .before .before .before .lent .ensures .0) (st .before .before .before .before .before .before .before .four-at .ensures .0) (st .before .before .before .before .lent2 .ensures .0) (st .before .before .before .before .before .four-at2 .ensures .0)
+          (st .before .before .lent3 .ensures .0) (st .before .before .before .two-at .ensures .0) (st .lent4 .ensures .0) (st .before .two-at2 .ensures .0) (tail-is 13 (a .f .now)) (r .ensures),
       sheet-presentable _ _ _ _ _ _ _ _ _ _ _ (a .phones .now) (a .numbers .now) (r .ensures),
     )
 
