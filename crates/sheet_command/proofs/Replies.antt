@@ -9,11 +9,10 @@ use native.Mathlib.Omega.{arith}
 use lib.Dec.{leb, eqb}
 use lib.ListN.{length, drop, length-drop}
 use borrow.Author.Tests.{ne-eqb}
-use Rattle.rules.specs.Limits.{maxName, maxNames}
+use Rattle.rules.specs.Limits.{maxName}
 use Rattle.rules.specs.Names.{nameByte, judgedBytes, judgedName}
 use Rattle.rules.specs.Shape.{Entry}
 use Rattle.rules.specs.Refusals.{Reply, accepted, declined, unless, replyCode}
-use Rattle.rules.specs.Memory.{over}
 use Rattle.rules.proofs.Cases.{byBool}
 use Rattle.exceptions.specs.Judging.{Listing}
 use Rattle.image.specs.Image.{valid, editsOf, literalsOf}
@@ -25,9 +24,9 @@ use Rattle.tables.specs.Words.{Compiled, editsIn}
 use Rattle.tables.specs.Walk.{lengthsFit, judgedTables, allUsable, walkWord, stepsOver, judgedPasses, walkThrough, Walked}
 use Rattle.answer_lines.specs.Answers.{ToldWithin}
 use Rattle.answer_lines.proofs.Told.{delivered-within, more-room}
-use Rattle.many_names.specs.Names.{namesIn, soundSheet}
+use Rattle.many_names.specs.Names.{namesIn}
 use Rattle.many_names.specs.Codes.{spokenCode, phonesOrPlace, phonesGiven, numbersGiven, contestedGiven}
-use Rattle.many_names.specs.Many.{replySize, replied, each}
+use Rattle.many_names.specs.Many.{replySize, each}
 use Rattle.many_names.proofs.Answering.{delivered-fit}
 use Rattle.sheet_lines.specs.SheetLines.{toldBy, Printable, AllPrintable}
 

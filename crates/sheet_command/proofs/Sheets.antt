@@ -1,6 +1,6 @@
 -- The call over parts that were lent and came back, and its answer: it can be printed, and what is printed is the command's.
 -- Assumes nothing.
-use Prim.Native.Nat.{ℕ, _+_, _-_, _≤_}
+use Prim.Native.Nat.{ℕ, _+_, _-_}
 use mathlib.Core.Path.{_≡_, refl, sym, ap, _∙_, subst}
 use mathlib.Core.Bool.{Bool, true, cond}
 use mathlib.Core.List.{List, _∷_, _++_}
@@ -12,7 +12,7 @@ use borrow.Rule.Slice.PartMut.{midOf, putMid}
 use Rattle.numbers.specs.Numbers.{two, bytes2, bytes4}
 use Rattle.rules.specs.Limits.{maxNames}
 use Rattle.rules.specs.Memory.{over}
-use Rattle.rules.specs.Refusals.{Reply, accepted, declined, replyOf}
+use Rattle.rules.specs.Refusals.{Reply, accepted, declined}
 use Rattle.rules.proofs.Cases.{byBool}
 use Rattle.rules.proofs.Memory.{over-rest}
 use Rattle.image.specs.Image.{valid}
@@ -21,7 +21,6 @@ use Rattle.fitting.specs.Fitting.{Str}
 use Rattle.tables.specs.Words.{Compiled, compiledFrom}
 use Rattle.lines.proofs.Printed.{length-printed}
 use Rattle.many_names.specs.Names.{namesIn, soundSheet}
-use Rattle.many_names.specs.Many.{each}
 use Rattle.sheet_judging.specs.Sheet.{firstRefusal}
 use Rattle.sheet.specs.Sheet.{SheetSaid, sheetSaid, refusedSheet, answeredSheet, orElse, judgedSheet, alone, treeSize, keptSize, repliesSize, withList, sheetThrough, spokenSheet}
 use Rattle.sheet.specs.Zeros.{zeros}

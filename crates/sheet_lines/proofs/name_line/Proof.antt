@@ -1,9 +1,8 @@
 -- `sheet_lines::name_line` meets its contract, by the code of the reply.
 -- Assumes nothing.
-use Prim.Native.Nat.{ℕ}
 use mathlib.Core.Path.{refl, sym, _∙_}
 use native.Mathlib.Omega.{arith}
-use lib.ListN.{length, getD}
+use lib.ListN.{getD}
 use lib.Seq.{length-take-le}
 use Rattle.sheet_lines.proofs.Printing.{spoken-within, name-spoken, name-refused}
 use borrow.Author.Needs.{needs}

@@ -1,11 +1,10 @@
 -- `sheet_lines::name_lines` meets its contract. The loop's invariant: the lines so far and those to come are the lines of all names.
 -- Assumes nothing.
 use Prim.Native.Nat.{_-_}
-use mathlib.Core.Path.{sym, ap, subst}
+use mathlib.Core.Path.{ap}
 use native.Mathlib.Omega.{arith}
-use lib.ListN.{length, drop, length-drop}
+use lib.ListN.{length, length-drop}
 use Rattle.rules.proofs.Memory.{tail-is}
-use Rattle.sheet_lines.specs.SheetLines.{Printable}
 use Rattle.sheet_lines.proofs.Printing.{Printing, begin, next, printing-length, printing-room, printing-printable, printed-all}
 use borrow.Author.Needs.{needs}
 use Rattle.sheet_lines.proofs.name_lines.Statement.{statement}
