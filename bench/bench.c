@@ -465,17 +465,18 @@ static uint16_t tree[PIRROZKETA_TREE];
 static uint32_t kept[PIRROZKETA_KEPT];
 
 /* A name as typed at a place of the sheet, and the place after it. */
-static size_t put_name(size_t at, const char *beginning, const char *ending)
+static size_t put_name(size_t at, const char *beginning, const char *between, const char *ending)
 {
-    size_t first = strlen(beginning), length = first + strlen(ending);
+    size_t length = 0;
+    for (const char *const *part = (const char *const[]){ beginning, between, ending, NULL }; *part; part++)
+        for (const char *typed = *part; *typed; typed++)
+            sheet[at + 1 + length++] = (uint8_t)(*typed == ' ' ? 63 : *typed - 'a' + 1);
     sheet[at] = (uint8_t)length;
-    for (size_t i = 0; i < length; i++)
-        sheet[at + 1 + i] = (uint8_t)((i < first ? beginning[i] : ending[i - first]) - 'a' + 1);
     return at + 1 + length;
 }
 
-/* Every beginning with every ending. */
-static size_t names_alike(void)
+/* Every beginning with every ending: one word, or two. */
+static size_t names_alike(const char *between)
 {
     static const char *const beginnings[BEGINNINGS] = { "etxe", "etxa", "mendi", "menda", "iturri", "iturra", "aran", "arri", "baso", "basa",
                                                         "zubi", "zuba", "haitz", "haitza", "garai", "gara" };
@@ -484,7 +485,7 @@ static size_t names_alike(void)
     size_t at = 0;
     for (int k = 0; k < BEGINNINGS; k++)
         for (int j = 0; j < ENDINGS; j++)
-            at = put_name(at, beginnings[k], endings[j]);
+            at = put_name(at, beginnings[k], between, endings[j]);
     return at;
 }
 
@@ -495,7 +496,7 @@ static size_t random_names(int length)
     for (int k = 0; k < PIRROZKETA_SHEET_NAMES; k++) {
         for (int i = 0; i < length; i++)
             name[i] = "aeioubdgzrntsk"[draw(14)];
-        at = put_name(at, name, "");
+        at = put_name(at, name, "", "");
     }
     return at;
 }
@@ -557,10 +558,12 @@ static void sheet_rows(void)
     printf("\n| %d names, %u rules | the sheet | many at once | one by one | sheet to many | steps of the sheet | steps one by one |\n",
            PIRROZKETA_SHEET_NAMES, (unsigned)written.base.count);
     printf("|---|---|---|---|---|---|---|\n");
-    size_t length = names_alike();
-    snprintf(what, sizeof what, "%d beginnings, %d endings, %.1f letters", BEGINNINGS, ENDINGS,
-             (double)(length - PIRROZKETA_SHEET_NAMES) / PIRROZKETA_SHEET_NAMES);
-    sheet_row(what, &written, length);
+    for (int words = 1; words <= 2; words++) {
+        size_t length = names_alike(words == 1 ? "" : " ");
+        snprintf(what, sizeof what, "%d beginnings, %d endings, %.1f bytes, %s", BEGINNINGS, ENDINGS,
+                 (double)(length - PIRROZKETA_SHEET_NAMES) / PIRROZKETA_SHEET_NAMES, words == 1 ? "one word" : "two words");
+        sheet_row(what, &written, length);
+    }
     sheet_row("random, 9 letters", &written, random_names(9));
     sheet_row("random, 64 letters", &written, random_names(PIRROZKETA_NAME));
 }

@@ -413,8 +413,9 @@ uint8_t pirrozketa_speak_many(const uint8_t *image, size_t image_len, const uint
    Refusals of the whole sheet, with which nothing is written, *steps and *names are 0 and *place is the place: 24 before all else; 0;
    17; 11 for the tree, 12 for the kept parts, 15 for under 5 numbers a name for the replies, each with what is needed as place; then 16 or 22,
    the first that a name alone would get; the others, 2, 1, 3, 4 and 5, stand in the name's own reply.
-   Take this call for names that begin alike, or where no name may be spoken by tables that fail at another; take pirrozketa_speak_many
-   for names that share little, for steps name by name, or without memory to work in (docs/SPEED.md). */
+   Take this call for names that begin alike, for the fewest steps, or where no name may be spoken by tables that fail at another; take
+   pirrozketa_speak_many for names that share little, which it speaks faster, for steps name by name, or without memory to work in
+   (docs/SPEED.md). */
 PIRROZKETA_MUST_CHECK
 uint8_t pirrozketa_speak_sheet(const uint8_t *image, size_t image_len, const uint32_t *list, size_t list_len,
                                const uint16_t *words, size_t words_len, const uint64_t *sets, size_t sets_len,
