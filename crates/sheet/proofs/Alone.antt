@@ -6,16 +6,18 @@ use mathlib.Core.Bool.{Bool, true, cond}
 use mathlib.Core.List.{List}
 use lib.ListN.{length}
 use Rattle.rules.specs.Names.{judgedName}
+use Rattle.rules.specs.Refusals.{accepted}
 use Rattle.exceptions.specs.Judging.{isList, Listing, listingOf}
 use Rattle.image.specs.Image.{valid, editsOf, literalsOf}
 use Rattle.fitting.specs.Fitting.{Str}
-use Rattle.speech.specs.Speech.{atOnce, judgedBy, listedOr, judgedFor}
+use Rattle.speech.specs.Speech.{atOnce, judgedBy, listedOr, judgedFor, plainSaid}
 use Rattle.speech.proofs.Call.{listing-some}
 use Rattle.speech.proofs.Lookup.{says-all}
-use Rattle.tables.specs.Words.{Compiled, leftOf, rightOf}
+use Rattle.tables.specs.Words.{Compiled, compiledFrom, leftOf, rightOf, built}
 use Rattle.tables.specs.Walk.{walkThrough, walkFor, sharedSteps}
 use Rattle.tables.specs.Steps.{prefixesOf, rightSteps}
 use Rattle.tables.proofs.Sharing.{shared-steps}
+use Rattle.tables.proofs.Theorem.{table-theorem}
 use Rattle.walk.specs.Walked.{compiledWith}
 use Rattle.sheet_name.specs.Judging.{outcomeOf}
 use Rattle.sheet_judging.specs.Sheet.{sheetWords}
@@ -37,6 +39,12 @@ pub answer-single : (c : Compiled) (image : List ℕ) (l : Listing) (name : Str)
     → saidBy (alone c image l) name phones numbers .said ≡ walkFor c image l name phones numbers .said
 unfolding walkFor
 answer-single c image l name phones numbers = refl
+
+-- so through the tables of an accepted build it is what the plain reading says
+pub answer-plain : (image ws ss : List ℕ) (l : Listing) (name : Str) (phones numbers : List ℕ) → built image ws ss .reply ≡ accepted
+    → saidBy (alone (compiledFrom (built image ws ss .words) (built image ws ss .sets)) image l) name phones numbers .said ≡ plainSaid image l name phones numbers
+answer-plain image ws ss l name phones numbers ok =
+    answer-single (compiledFrom (built image ws ss .words) (built image ws ss .sets)) image l name phones numbers ∙ table-theorem image l ws ss name phones numbers ok
 
 -- the one count: the different non-empty prefixes of # followed by a word, and the right steps of each word, over all words that a name alone would
 -- send through the tables

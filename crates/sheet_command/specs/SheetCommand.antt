@@ -58,7 +58,7 @@ contestedOn (declined n p) s before = before
 abbrev pub sheetEffect : SheetSaid → ℕ → SpeechEffect
 sheetEffect s contested = leavingSpeech (sheetText (s .reply) s) (s .phones) (s .numbers) (contestedOn (s .reply) s contested)
 
--- Memory to work in, zero and enough for each sheet, so that 11, 12 and 15 do not occur.
+-- Memory to work in, zero and enough for each sheet, so that 11, 12 and 15 do not occur (room-enough, sheet/proofs/Enough.antt).
 unfoldable pub treeWords : List ℕ
 treeWords = replicate (nodeSize * (maxNames * (maxName + 1) + 1)) 0
 
