@@ -233,7 +233,7 @@ enum {
  * rules, a name of several words, 64 bytes, and lists of long names. In bytes: version, clear, count, last, edits,
  * list_clear none to speak of; check 8,296; set_class 8,328; drop 8,328; move 8,392; add 8,488; read_file 8,888; write_file
  * 8,920; build 13,032; list_check 16,464; list_states 16,480; list_read_out 16,624; speak 16,736; speak_many
- * 16,752; read_name 17,216; speak_sheet 19,760; list_names 24,688; list_remove 31,192; list_add 31,248.
+ * 16,752; read_name 17,216; speak_sheet 19,504; list_names 24,688; list_remove 31,192; list_add 31,248.
  */
 
 /* ---- the version */
