@@ -1,4 +1,6 @@
 // A whole transect in one go (document 02, request 8): the names of a walk sheet answered together, sent through a compiled ruleset.
+mod memory;
+
 use compiled::Compiled;
 use rules::Answer;
 use rules::Refusal;
@@ -11,8 +13,7 @@ ghost use Rattle.image.specs.Image.{valid, editsOf};
 ghost use Rattle.tables.specs.Words.{compiledFrom};
 ghost use Rattle.walk.specs.Walked.{FitsAs, compiledWith};
 ghost use Rattle.many_names.specs.Names.{namesIn};
-ghost use Rattle.sheet_judging.specs.Sheet.{workRoom};
-ghost use Rattle.sheet.specs.Zeros.{zeros, AllZero, Cleared};
+ghost use Rattle.sheet.specs.Zeros.{AllZero};
 ghost use Rattle.sheet.specs.Sheet.{sheetSaid, tablesRefusal, Ready, namesThrough, withMemory, spokenSheet};
 
 // The answer to a sheet, the one count of entries looked up, and how many names were answered.
@@ -224,73 +225,6 @@ fn speak_words<'a>(
 
 // ---- memory to work in
 
-// Bytes of a sheet for which nodes and parts are needed.
-fn work_room(sheet: &[u8]) -> usize
-    ensures { λ r. ⌜ r ≡ workRoom (now (sheet .entry)) ⌝ }
-{
-    let most = rules::MAX_NAMES * (rules::MAX_NAME + 1);
-    if most < sheet.len() {
-        return most;
-    }
-    sheet.len()
-}
-
-// Whether the first n words are there and are 0. All are looked at, which is faster than to stop at the first that is not.
-fn zero_words(s: &[u16], n: usize) -> bool
-    ensures { λ r. ⌜ r ≡ zeros n (now (s .entry)) ⌝ }
-{
-    if s.len() < n {
-        return false;
-    }
-    let mut zero = true;
-    let mut i: usize = 0;
-    while i < n {
-        if s[i] != 0 {
-            zero = false;
-        }
-        i += 1;
-    }
-    zero
-}
-
-fn zero_parts(s: &[u32], n: usize) -> bool
-    ensures { λ r. ⌜ r ≡ zeros n (now (s .entry)) ⌝ }
-{
-    if s.len() < n {
-        return false;
-    }
-    let mut zero = true;
-    let mut i: usize = 0;
-    while i < n {
-        if s[i] != 0 {
-            zero = false;
-        }
-        i += 1;
-    }
-    zero
-}
-
-// All words are 0 now.
-fn clear_words(s: &mut [u16])
-    ensures { λ _. ⌜ Cleared (now (s .entry)) (now (s .exit)) ⌝ }
-{
-    let mut i: usize = 0;
-    while i < s.len() {
-        s[i] = 0;
-        i += 1;
-    }
-}
-
-fn clear_parts(s: &mut [u32])
-    ensures { λ _. ⌜ Cleared (now (s .entry)) (now (s .exit)) ⌝ }
-{
-    let mut i: usize = 0;
-    while i < s.len() {
-        s[i] = 0;
-        i += 1;
-    }
-}
-
 // Zero memory is worked in, and is zero again.
 fn answer_clear<'a>(
     words: &'a [u16],
@@ -323,8 +257,8 @@ fn answer_clear<'a>(
         &mut *tree,
         &mut *kept,
     );
-    clear_words(tree);
-    clear_parts(kept);
+    memory::clear_words(tree);
+    memory::clear_parts(kept);
     answer
 }
 
@@ -349,13 +283,13 @@ fn speak_sound<'a>(
     ensures tree { λ _. ⌜ now (tree .exit) ≡ now (tree .entry) ⌝ }
     ensures kept { λ _. ⌜ now (kept .exit) ≡ now (kept .entry) ⌝ }
 {
-    let room = work_room(sheet);
+    let room = memory::work_room(sheet);
     let nodes = prefix_tree::NODE * (room + 1);
-    if !zero_words(tree, nodes) {
+    if !memory::zero_words(tree, nodes) {
         return refused(Refusal::WordsRoom(nodes));
     }
     let parts = room + reading::MAX_FRAME;
-    if !zero_parts(kept, parts) {
+    if !memory::zero_parts(kept, parts) {
         return refused(Refusal::SetsRoom(parts));
     }
     let size = many_names::REPLY * limit;

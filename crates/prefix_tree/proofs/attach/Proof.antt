@@ -9,83 +9,63 @@ use Rattle.prefix_tree.proofs.attach.Tie as tie
 use Rattle.prefix_tree.proofs.attach.Reads as reads
 use Rattle.prefix_tree.proofs.attach.Lts as lts
 
--- src/lib.rt:45:14
 mul-to : tie.Need-mul-to
 mul-to c = search needs
 
--- src/lib.rt:46:16
 mul-from : tie.Need-mul-from
 mul-from c = search needs
 
--- src/lib.rt:47:16
 mul-next : tie.Need-mul-next
 mul-next c = search needs
 
--- src/lib.rt:47:16
 slice-read-next : tie.Need-slice-read-next
 slice-read-next c = search needs
 
--- src/lib.rt:48:5
 mul-tree : tie.Need-mul-tree
 mul-tree c = search needs
 
--- src/lib.rt:48:5
 slice-write-tree : tie.Need-slice-write-tree
 slice-write-tree c = search needs
 
--- src/lib.rt:49:10
 add-tree : tie.Need-add-tree
 add-tree c = search needs
 
--- src/lib.rt:49:5
 mul-tree-2 : tie.Need-mul-tree-2
 mul-tree-2 c = search needs
 
--- src/lib.rt:49:5
 slice-write-tree-2 : tie.Need-slice-write-tree-2
 slice-write-tree-2 c = simp length-set (omega arith)
 
--- src/lib.rt:50:10
 add-tree-2 : tie.Need-add-tree-2
 add-tree-2 c = search needs
 
--- src/lib.rt:50:5
 mul-tree-3 : tie.Need-mul-tree-3
 mul-tree-3 c = search needs
 
--- src/lib.rt:50:5
 slice-write-tree-3 : tie.Need-slice-write-tree-3
 slice-write-tree-3 c = simp length-set (omega arith)
 
--- src/lib.rt:51:10
 add-tree-3 : tie.Need-add-tree-3
 add-tree-3 c = search needs
 
--- src/lib.rt:51:5
 mul-tree-4 : tie.Need-mul-tree-4
 mul-tree-4 c = search needs
 
--- src/lib.rt:51:5
 slice-write-tree-4 : tie.Need-slice-write-tree-4
 slice-write-tree-4 c = simp length-set (omega arith)
 
--- src/lib.rt:52:18
 cast-tree : tie.Need-cast-tree
 cast-tree c = search needs
 
--- src/lib.rt:52:5
 mul-tree-5 : tie.Need-mul-tree-5
 mul-tree-5 c = search needs
 
--- src/lib.rt:52:5
 slice-write-tree-5 : tie.Need-slice-write-tree-5
 slice-write-tree-5 c = simp length-set (omega arith)
 
--- src/lib.rt:41:1
 same-length : tie.Need-same-length
 same-length c = search needs
 
--- src/lib.rt:41:1
 returns : tie.Need-returns
 returns c =
     let a = c .before .args in

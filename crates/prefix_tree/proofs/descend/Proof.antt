@@ -18,23 +18,18 @@ use Rattle.passes.proofs.look_up.Reads as look-up-reads
 use Rattle.prefix_tree.proofs.attach.Reads as attach-reads
 use Rattle.prefix_tree.proofs.find.Reads as find-reads
 
--- src/lib.rt:69:38
 mul-wide16 : tie.Need-mul-wide16
 mul-wide16 c = search needs
 
--- src/lib.rt:69:33
 mul-wide16-2 : tie.Need-mul-wide16-2
 mul-wide16-2 c = search needs
 
--- src/lib.rt:69:33
 slice-read-wide16 : tie.Need-slice-read-wide16
 slice-read-wide16 c = search needs
 
--- src/lib.rt:69:9
 wide16-requires : tie.Need-wide16-requires
 wide16-requires c κs = search needs
 
--- src/lib.rt:70:9
 find-requires : tie.Need-find-requires
 find-requires c κs =
     let st = c .before .before .before .before .before in
@@ -42,11 +37,9 @@ find-requires c κs =
     let g = chain-of (st .args .tree .now) (st .args .p .nodes) (st .args .count) (st .pre .2) (st .args .p .node) (st .pre .3) in
     (omega (arith, g .0, w), λ k p l. g .1 k p (omega (arith, w)))
 
--- src/lib.rt:72:9
 same-length : tie.Need-same-length
 same-length c = search needs
 
--- src/lib.rt:72:9
 returns : tie.Need-returns
 returns c =
     let st = c .before .before .before .before .before .before .before in
@@ -54,38 +47,30 @@ returns c =
     let e = c .before .find .ensures ∙ ap (λ (s : ℕ). seek (length (a .tree .now)) (nextOf (a .tree .now)) (symbolOf (a .tree .now)) s (a .c)) (c .before .before .before .wide16 .ensures .0) in
     S.there (a .words .now) (a .rows) (a .count) (a .tree .now) (a .p) (a .c) _ e (omega (arith, c .if1 .taken))
 
--- src/lib.rt:79:22
 mul-state : tie.Need-mul-state
 mul-state c = search needs
 
--- src/lib.rt:79:22
 add-state : tie.Need-add-state
 add-state c = search needs
 
--- src/lib.rt:79:17
 mul-state-2 : tie.Need-mul-state-2
 mul-state-2 c = search needs
 
--- src/lib.rt:79:17
 slice-read-state : tie.Need-slice-read-state
 slice-read-state c = search needs
 
--- src/lib.rt:80:9
 look-up-requires : tie.Need-look-up-requires
 look-up-requires c κs =
     let st = c .before .before .before .before .before .before .before .before in
     let g = st .pre .2 .small (st .args .p .node) (st .pre .3) in
     (omega (arith, st .pre .0, st .pre .1), st .pre .5)
 
--- src/lib.rt:82:17
 wide16-requires-2 : tie.Need-wide16-requires-2
 wide16-requires-2 c κs = search needs
 
--- src/lib.rt:83:9
 same-length-2 : tie.Need-same-length-2
 same-length-2 c = search needs
 
--- src/lib.rt:83:9
 returns-2 : tie.Need-returns-2
 returns-2 c =
     let st = c .before .before .before .before .before .before .before .before .before .before .before in
@@ -94,19 +79,15 @@ returns-2 c =
     let n = c .before .before .look-up .ensures .next in
     S.out (a .words .now) (a .rows) (a .count) (a .tree .now) (a .p) (a .c) _ e (omega (arith, c .before .before .before .before .if1 .left)) (omega (arith, n, c .if2 .taken, c .before .wide162 .ensures .0)) _ _
 
--- src/lib.rt:90:5
 attach-requires : tie.Need-attach-requires
 attach-requires c κs = search needs
 
--- src/lib.rt:94:16
 add-t15 : tie.Need-add-t15
 add-t15 c = search needs
 
--- src/lib.rt:56:1
 same-length-3 : tie.Need-same-length-3
 same-length-3 c = search needs
 
--- src/lib.rt:56:1
 returns-3 : tie.Need-returns-3
 returns-3 c =
     let st = c .before .before .before .before .before .before .before .before .before .before .before .before .before .before .before in

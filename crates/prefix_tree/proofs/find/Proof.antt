@@ -18,49 +18,38 @@ Inv-loop tree s c k₀ k = S.Seeking (length tree) (nextOf tree) (symbolOf tree)
 abbrev μ-loop : tie.MeasureT-loop
 μ-loop tree s c k₀ k = k
 
--- src/lib.rt:30:5
 loop-holds : tie.Need-loop-holds Inv-loop μ-loop
 loop-holds c = S.begin _ _ _ _ _
 
--- src/lib.rt:31:18
 mul-at : tie.Need-mul-at Inv-loop μ-loop
 mul-at c = search needs
 
--- src/lib.rt:32:17
 add-if1 : tie.Need-add-if1 Inv-loop μ-loop
 add-if1 c = search needs
 
--- src/lib.rt:32:12
 mul-if1 : tie.Need-mul-if1 Inv-loop μ-loop
 mul-if1 c = search needs
 
--- src/lib.rt:32:12
 shared-slice-read-if1 : tie.Need-shared-slice-read-if1 Inv-loop μ-loop
 shared-slice-read-if1 c = search needs
 
--- src/lib.rt:33:13
 returns : tie.Need-returns Inv-loop μ-loop
 returns c =
     let st = c .before .before .before .before .before in
     S.hit _ _ _ _ _ (st .pre .1) (omega (arith, st .pre .0)) _ (c .before .before .before .loop .inv) (omega arith) (c .if1 .taken)
 
--- src/lib.rt:35:34
 add-wide16 : tie.Need-add-wide16 Inv-loop μ-loop
 add-wide16 c = search needs
 
--- src/lib.rt:35:29
 mul-wide16 : tie.Need-mul-wide16 Inv-loop μ-loop
 mul-wide16 c = search needs
 
--- src/lib.rt:35:29
 shared-slice-read-wide16 : tie.Need-shared-slice-read-wide16 Inv-loop μ-loop
 shared-slice-read-wide16 c = search needs
 
--- src/lib.rt:35:9
 wide16-requires : tie.Need-wide16-requires Inv-loop μ-loop
 wide16-requires c κs = search needs
 
--- src/lib.rt:30:5
 loop-less : tie.Need-loop-less Inv-loop μ-loop
 loop-less c =
     let st = c .before .before .before .before .before .before .before in
@@ -68,7 +57,6 @@ loop-less c =
     let g = st .pre .1 (k .k) (omega arith) (k .inv .below) in
     omega (arith, c .wide16 .ensures .0)
 
--- src/lib.rt:30:5
 loop-again : tie.Need-loop-again Inv-loop μ-loop
 loop-again c =
     let st = c .before .before .before .before .before .before .before in
@@ -76,7 +64,6 @@ loop-again c =
     subst (S.Seeking _ _ _ _ _) (sym (c .wide16 .ensures .0))
     (S.miss _ _ _ _ _ (st .pre .1) (omega (arith, st .pre .0)) _ (k .inv) (omega arith) (c .before .before .if1 .left))
 
--- src/lib.rt:25:1
 returns-2 : tie.Need-returns-2 Inv-loop μ-loop
 returns-2 c =
     let st = c .before .before .before in

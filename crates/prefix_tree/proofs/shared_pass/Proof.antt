@@ -18,21 +18,17 @@ Inv-loop words rows count frame tree₀ nodes steps left₀ p₀ end i₀ tree l
 abbrev μ-loop : tie.MeasureT-loop
 μ-loop words rows count frame tree₀ nodes steps left₀ p₀ end i₀ tree left p i = end - i
 
--- src/lib.rt:120:15
 sub-end : tie.Need-sub-end Inv-loop μ-loop
 sub-end c = search needs
 
--- src/lib.rt:122:5
 loop-holds : tie.Need-loop-holds Inv-loop μ-loop
 loop-holds c =
     let st = c .before .before .before .before in
     G.go-begin _ _ _ _ _ _ _ _ (st .pre .5)
 
--- src/lib.rt:123:56
 shared-slice-read-descend : tie.Need-shared-slice-read-descend Inv-loop μ-loop
 shared-slice-read-descend c = omega arith
 
--- src/lib.rt:123:9
 descend-requires : tie.Need-descend-requires Inv-loop μ-loop
 descend-requires c κs =
     let st = c .before .before .before .before .before .before .before .before in
@@ -40,31 +36,26 @@ descend-requires c κs =
     let m = G.may-descend (k .inv) (omega arith) (st .pre .2) (st .pre .3) (st .pre .6) (st .pre .7) in
     (st .pre .0, m .0, m .1, m .2, m .3, m .4)
 
--- src/lib.rt:125:13
 same-length : tie.Need-same-length Inv-loop μ-loop
 same-length c =
     let st = c .before .before .before .before .before .before .before .before .before .before .before .before .before in
     let k = c .before .before .before .before .before .before .before .before .loop in
     G.go-bad (k .inv) (omega arith) (st .pre .2) (st .pre .3) (st .pre .6) (st .pre .7) (c .before .before .before .before .descend .ensures) (not-true _ (c .if1 .taken)) .sized
 
--- src/lib.rt:125:13
 same-length-2 : tie.Need-same-length-2 Inv-loop μ-loop
 same-length-2 c =
     let k = c .before .before .before .before .before .before .before .before .loop in
     k .inv .left-sized
 
--- src/lib.rt:125:13
 returns : tie.Need-returns Inv-loop μ-loop
 returns c =
     let st = c .before .before .before .before .before .before .before .before .before .before .before .before .before in
     let k = c .before .before .before .before .before .before .before .before .loop in
     G.go-bad (k .inv) (omega arith) (st .pre .2) (st .pre .3) (st .pre .6) (st .pre .7) (c .before .before .before .before .descend .ensures) (not-true _ (c .if1 .taken))
 
--- src/lib.rt:127:9
 add-i : tie.Need-add-i Inv-loop μ-loop
 add-i c = omega arith
 
--- src/lib.rt:128:18
 mul-at : tie.Need-mul-at Inv-loop μ-loop
 mul-at c =
     let st = c .before .before .before .before .before .before .before .before .before .before .before .before .before .before in
@@ -72,7 +63,6 @@ mul-at c =
     let m = G.node-in (k .inv) (omega arith) (st .pre .2) (st .pre .3) (st .pre .6) (st .pre .7) (c .before .before .before .before .before .descend .ensures) (not-false _ (c .before .if1 .left)) in
     omega (arith, m .0, m .2)
 
--- src/lib.rt:128:18
 add-at : tie.Need-add-at Inv-loop μ-loop
 add-at c =
     let st = c .before .before .before .before .before .before .before .before .before .before .before .before .before .before in
@@ -80,7 +70,6 @@ add-at c =
     let m = G.node-in (k .inv) (omega arith) (st .pre .2) (st .pre .3) (st .pre .6) (st .pre .7) (c .before .before .before .before .before .descend .ensures) (not-false _ (c .before .if1 .left)) in
     omega (arith, m .0, m .2)
 
--- src/lib.rt:129:19
 mul-left : tie.Need-mul-left Inv-loop μ-loop
 mul-left c =
     let st = c .before .before .before .before .before .before .before .before .before .before .before .before .before .before in
@@ -88,46 +77,38 @@ mul-left c =
     let m = G.node-in (k .inv) (omega arith) (st .pre .2) (st .pre .3) (st .pre .6) (st .pre .7) (c .before .before .before .before .before .descend .ensures) (not-false _ (c .before .if1 .left)) in
     omega (arith, m .0, m .2)
 
--- src/lib.rt:129:19
 slice-read-left : tie.Need-slice-read-left Inv-loop μ-loop
 slice-read-left c =
     let st = c .before .before .before .before .before .before .before .before .before .before .before .before .before .before .before in
     let k = c .before .before .before .before .before .before .before .before .before .before .loop in
     G.node-in (k .inv) (omega arith) (st .pre .2) (st .pre .3) (st .pre .6) (st .pre .7) (c .before .before .before .before .before .before .descend .ensures) (not-false _ (c .before .before .if1 .left)) .0
 
--- src/lib.rt:129:9
 mul-left-2 : tie.Need-mul-left-2 Inv-loop μ-loop
 mul-left-2 c =
     let st = c .before .before .before .before .before .before .before .before .before .before .before .before .before .before .before in
     omega (arith, st .pre .2)
 
--- src/lib.rt:129:9
 slice-write-left : tie.Need-slice-write-left Inv-loop μ-loop
 slice-write-left c =
     let st = c .before .before .before .before .before .before .before .before .before .before .before .before .before .before .before in
     let k = c .before .before .before .before .before .before .before .before .before .before .loop in
     omega (arith, k .inv .left-sized, st .pre .4)
 
--- src/lib.rt:122:5
 loop-less : tie.Need-loop-less Inv-loop μ-loop
 loop-less c = omega arith
 
--- src/lib.rt:122:5
 loop-again : tie.Need-loop-again Inv-loop μ-loop
 loop-again c =
     let st = c .before .before .before .before .before .before .before .before .before .before .before .before .before .before .before in
     let k = c .before .before .before .before .before .before .before .before .before .before .loop in
     G.go-next (k .inv) (omega arith) (st .pre .2) (st .pre .3) (st .pre .6) (st .pre .7) (c .before .before .before .before .before .before .descend .ensures) (not-false _ (c .before .before .if1 .left)) (st .pre .4) refl
 
--- src/lib.rt:101:1
 same-length-3 : tie.Need-same-length-3 Inv-loop μ-loop
 same-length-3 c = c .before .loop .inv .sized
 
--- src/lib.rt:101:1
 same-length-4 : tie.Need-same-length-4 Inv-loop μ-loop
 same-length-4 c = c .before .loop .inv .left-sized
 
--- src/lib.rt:101:1
 returns-2 : tie.Need-returns-2 Inv-loop μ-loop
 returns-2 c =
     let st = c .before .before .before .before .before .before in

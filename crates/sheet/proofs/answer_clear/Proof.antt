@@ -5,39 +5,30 @@ use borrow.Author.Needs.{needs}
 use Rattle.sheet.proofs.answer_clear.Statement.{statement}
 use Rattle.sheet.proofs.answer_clear.Tie as tie
 
--- src/lib.rt:215:9
 speak-words-requires : tie.Need-speak-words-requires
 speak-words-requires c κs = search needs
 
--- src/lib.rt:228:5
 clear-words-requires : tie.Need-clear-words-requires
 clear-words-requires c κs = search needs
 
--- src/lib.rt:229:5
 clear-parts-requires : tie.Need-clear-parts-requires
 clear-parts-requires c κs = search needs
 
--- src/lib.rt:197:1
 same-length : tie.Need-same-length
 same-length c = search needs
 
--- src/lib.rt:197:1
 same-length-2 : tie.Need-same-length-2
 same-length-2 c = search needs
 
--- src/lib.rt:197:1
 same-length-3 : tie.Need-same-length-3
 same-length-3 c = search needs
 
--- src/lib.rt:197:1
 same-length-4 : tie.Need-same-length-4
 same-length-4 c = search needs
 
--- src/lib.rt:197:1
 same-length-5 : tie.Need-same-length-5
 same-length-5 c = search needs
 
--- src/lib.rt:197:1
 returns : tie.Need-returns
 returns c =
     let st = c .before .before .before .before .before .before .before .before .before .before .before .before .before .before .before .before .before .before .before .before .before .before .before .before .before .before .before .before .before .before .before .before .before .before in (

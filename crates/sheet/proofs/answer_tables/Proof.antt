@@ -12,27 +12,22 @@ use borrow.Author.Needs.{needs}
 use Rattle.sheet.proofs.answer_tables.Statement.{statement}
 use Rattle.sheet.proofs.answer_tables.Tie as tie
 
--- src/lib.rt:129:9
 lengths-fit-requires : tie.Need-lengths-fit-requires
 lengths-fit-requires c κs = search needs
 
--- src/lib.rt:130:48
 edit-count-requires : tie.Need-edit-count-requires
 edit-count-requires c κs =
     valid-long (c .before .before .before .before .before .before .before .before .before .before .before .args .image .now) (c .before .before .before .before .before .before .before .before .before .before .before .pre .sound)
 
--- src/lib.rt:130:9
 other-count-requires : tie.Need-other-count-requires
 other-count-requires c κs =
     λ e.
     let a = c .before .before .before .before .before .before .before .before .before .before .before .before .args in
     omega (arith, fit-true (a .words .now) (a .sets .now) (a .left-states) (a .right-states) (sym (c .before .lengths-fit .ensures) ∙ e) .rows)
 
--- src/lib.rt:131:9
 can-pass-requires : tie.Need-can-pass-requires
 can-pass-requires c κs = search needs
 
--- src/lib.rt:132:5
 answer-fit-requires : tie.Need-answer-fit-requires
 answer-fit-requires c κs =
     let st = c .before .before .before .before .before .before .before .before .before .before .before .before .before .before .before .before .before .before .before in
@@ -41,27 +36,21 @@ answer-fit-requires c κs =
     let other = c .before .before .before .before .before .before .other-count .ensures ∙ ap (λ (e : ℕ). long .result && not (eqb (editsIn (a .words .now)) e)) (c .before .before .before .before .before .before .before .edit-count .ensures) in
     (tests-fit (a .words .now) (a .sets .now) (a .left-states) (a .right-states) _ _ _ _ (long .ensures) other (c .before .before .before .before .before .can-pass .ensures), st .pre)
 
--- src/lib.rt:111:1
 same-length : tie.Need-same-length
 same-length c = search needs
 
--- src/lib.rt:111:1
 same-length-2 : tie.Need-same-length-2
 same-length-2 c = search needs
 
--- src/lib.rt:111:1
 same-length-3 : tie.Need-same-length-3
 same-length-3 c = search needs
 
--- src/lib.rt:111:1
 same-length-4 : tie.Need-same-length-4
 same-length-4 c = search needs
 
--- src/lib.rt:111:1
 same-length-5 : tie.Need-same-length-5
 same-length-5 c = search needs
 
--- src/lib.rt:111:1
 returns : tie.Need-returns
 returns c = search needs
 

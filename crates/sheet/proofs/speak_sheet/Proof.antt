@@ -8,15 +8,12 @@ use borrow.Author.Needs.{needs}
 use Rattle.sheet.proofs.speak_sheet.Statement.{statement}
 use Rattle.sheet.proofs.speak_sheet.Tie as tie
 
--- src/lib.rt:298:9
 size-of-requires : tie.Need-size-of-requires
 size-of-requires c κs = search needs
 
--- src/lib.rt:300:9
 refused-requires : tie.Need-refused-requires
 refused-requires c κs = search needs
 
--- src/lib.rt:300:9
 returns : tie.Need-returns
 returns c =
     let a = c .before .before .before .before .before .before .before .before .before .before .before .before .before .before .args in (
@@ -25,15 +22,12 @@ returns c =
       (refl, refl),
     )
 
--- src/lib.rt:302:9
 is-ruleset-requires : tie.Need-is-ruleset-requires
 is-ruleset-requires c κs = search needs
 
--- src/lib.rt:303:9
 refused-requires-2 : tie.Need-refused-requires-2
 refused-requires-2 c κs = search needs
 
--- src/lib.rt:303:9
 returns-2 : tie.Need-returns-2
 returns-2 c =
     let a = c .before .before .before .before .before .before .before .before .before .before .before .before .before .before .before .before .args in (
@@ -42,15 +36,12 @@ returns-2 c =
       (refl, refl),
     )
 
--- src/lib.rt:305:9
 is-list-requires : tie.Need-is-list-requires
 is-list-requires c κs = search needs
 
--- src/lib.rt:306:9
 refused-requires-3 : tie.Need-refused-requires-3
 refused-requires-3 c κs = search needs
 
--- src/lib.rt:306:9
 returns-3 : tie.Need-returns-3
 returns-3 c =
     let a = c .before .before .before .before .before .before .before .before .before .before .before .before .before .before .before .before .before .before .args in (
@@ -60,32 +51,25 @@ returns-3 c =
       (refl, refl),
     )
 
--- src/lib.rt:308:5
 speak-sound-requires : tie.Need-speak-sound-requires
 speak-sound-requires c κs =
     (sym (c .before .before .before .before .before .before .before .before .is-ruleset .ensures) ∙ not-false _ (c .before .before .before .before .before .before .before .if2 .left), sym (c .before .before .before .before .before .before .is-list .ensures) ∙ not-false _ (c .before .before .before .before .before .if3 .left), c .before .before .before .before .before .before .before .before .before .before .before .size-of .ensures .1 .0)
 
--- src/lib.rt:282:1
 same-length : tie.Need-same-length
 same-length c = search needs
 
--- src/lib.rt:282:1
 same-length-2 : tie.Need-same-length-2
 same-length-2 c = search needs
 
--- src/lib.rt:282:1
 same-length-3 : tie.Need-same-length-3
 same-length-3 c = search needs
 
--- src/lib.rt:282:1
 same-length-4 : tie.Need-same-length-4
 same-length-4 c = search needs
 
--- src/lib.rt:282:1
 same-length-5 : tie.Need-same-length-5
 same-length-5 c = search needs
 
--- src/lib.rt:282:1
 returns-4 : tie.Need-returns-4
 returns-4 c =
     let a = c .before .before .before .before .before .before .before .before .before .before .before .before .before .before .before .before .before .before .before .before .before .before .before .before .before .before .before .before .before .before .before .before .before .args in

@@ -19,35 +19,28 @@ use borrow.Author.Needs.{needs}
 use Rattle.sheet.proofs.speak_sound.Statement.{statement}
 use Rattle.sheet.proofs.speak_sound.Tie as tie
 
--- src/lib.rt:254:9
 work-room-requires : tie.Need-work-room-requires
 work-room-requires c κs = search needs
 
--- src/lib.rt:255:22
 add-nodes : tie.Need-add-nodes
 add-nodes c =
     let w = c .work-room in
     omega (arith, W.room-few (c .before .before .before .before .before .before .before .before .before .before .before .args .sheet .now) (w .result) (w .ensures))
 
--- src/lib.rt:255:17
 mul-nodes : tie.Need-mul-nodes
 mul-nodes c =
     let w = c .work-room in
     omega (arith, W.room-few (c .before .before .before .before .before .before .before .before .before .before .before .args .sheet .now) (w .result) (w .ensures))
 
--- src/lib.rt:256:9
 zero-words-requires : tie.Need-zero-words-requires
 zero-words-requires c κs = search needs
 
--- src/lib.rt:257:9
 refused-requires : tie.Need-refused-requires
 refused-requires c κs = search needs
 
--- src/lib.rt:257:9
 same-length : tie.Need-same-length
 same-length c = search needs
 
--- src/lib.rt:257:9
 returns : tie.Need-returns
 returns c =
     let st = c .before .before .before .before .before .before .before .before .before .before .before .before .before .before .before in
@@ -60,29 +53,23 @@ returns c =
       (refl, refl),
     )
 
--- src/lib.rt:350:17
 add-parts : tie.Need-add-parts
 add-parts c =
     let w = c .before .before .before .work-room in
     omega (arith, W.room-few (c .before .before .before .before .before .before .before .before .before .before .before .before .before .before .args .sheet .now) (w .result) (w .ensures))
 
--- src/lib.rt:259:9
 zero-parts-requires : tie.Need-zero-parts-requires
 zero-parts-requires c κs = search needs
 
--- src/lib.rt:260:9
 refused-requires-2 : tie.Need-refused-requires-2
 refused-requires-2 c κs = search needs
 
--- src/lib.rt:260:9
 same-length-2 : tie.Need-same-length-2
 same-length-2 c = search needs
 
--- src/lib.rt:260:9
 same-length-3 : tie.Need-same-length-3
 same-length-3 c = search needs
 
--- src/lib.rt:260:9
 returns-2 : tie.Need-returns-2
 returns-2 c =
     let st = c .before .before .before .before .before .before .before .before .before .before .before .before .before .before .before .before .before .before in
@@ -96,25 +83,20 @@ returns-2 c =
       (refl, refl),
     )
 
--- src/lib.rt:262:16
 mul-size : tie.Need-mul-size
 mul-size c =
     let st = c .before .before .before .before .before .before .before .before .before .before .before .before .before .before .before .before .before in
     omega (arith, W.few-names (st .args .sheet .now) (st .args .limit) (st .pre .2))
 
--- src/lib.rt:264:9
 refused-requires-3 : tie.Need-refused-requires-3
 refused-requires-3 c κs = search needs
 
--- src/lib.rt:264:9
 same-length-4 : tie.Need-same-length-4
 same-length-4 c = search needs
 
--- src/lib.rt:264:9
 same-length-5 : tie.Need-same-length-5
 same-length-5 c = search needs
 
--- src/lib.rt:264:9
 returns-3 : tie.Need-returns-3
 returns-3 c =
     let st = c .before .before .before .before .before .before .before .before .before .before .before .before .before .before .before .before .before .before .before in
@@ -128,27 +110,22 @@ returns-3 c =
       (refl, refl),
     )
 
--- src/lib.rt:276:9
 slice-relend-prefix-answer-clear : tie.Need-slice-relend-prefix-answer-clear
 slice-relend-prefix-answer-clear c =
     Z.zeros-room _ (c .before .before .before .before .before .before .before .before .before .before .before .before .before .before .before .before .before .before .before .before .before .args .tree .now) (sym (c .before .before .before .before .before .before .before .before .zero-words .ensures) ∙ not-false _ (c .before .before .before .before .before .before .before .if1 .left))
 
--- src/lib.rt:276:9
 slice-aggregate-answer-clear : tie.Need-slice-aggregate-answer-clear
 slice-aggregate-answer-clear c =
     sym (length-take-le _ (c .before .before .before .before .before .before .before .before .before .before .before .before .before .before .before .before .before .before .before .before .before .before .args .tree .now) (Z.zeros-room _ (c .before .before .before .before .before .before .before .before .before .before .before .before .before .before .before .before .before .before .before .before .before .before .args .tree .now) (sym (c .before .before .before .before .before .before .before .before .before .zero-words .ensures) ∙ not-false _ (c .before .before .before .before .before .before .before .before .if1 .left))))
 
--- src/lib.rt:277:9
 slice-relend-prefix-answer-clear-2 : tie.Need-slice-relend-prefix-answer-clear-2
 slice-relend-prefix-answer-clear-2 c =
     Z.zeros-room _ (c .before .before .before .before .before .before .before .before .before .before .before .before .before .before .before .before .before .before .before .before .before .before .args .kept .now) (sym (c .before .before .before .before .before .before .zero-parts .ensures) ∙ not-false _ (c .before .before .before .before .before .if2 .left))
 
--- src/lib.rt:277:9
 slice-aggregate-answer-clear-2 : tie.Need-slice-aggregate-answer-clear-2
 slice-aggregate-answer-clear-2 c =
     sym (length-take-le _ (c .before .before .before .before .before .before .before .before .before .before .before .before .before .before .before .before .before .before .before .before .before .before .before .args .kept .now) (Z.zeros-room _ (c .before .before .before .before .before .before .before .before .before .before .before .before .before .before .before .before .before .before .before .before .before .before .before .args .kept .now) (sym (c .before .before .before .before .before .before .before .zero-parts .ensures) ∙ not-false _ (c .before .before .before .before .before .before .if2 .left))))
 
--- src/lib.rt:266:5
 answer-clear-requires : tie.Need-answer-clear-requires
 answer-clear-requires c κs =
     let st = c .before .before .before .before .before .before .before .before .before .before .before .before .before .before .before .before .before .before .before .before .before .before .before in
@@ -161,27 +138,21 @@ answer-clear-requires c κs =
       Z.zeros-all (w .result + frameSize) (a .kept .now) k,
     )
 
--- src/lib.rt:236:1
 same-length-6 : tie.Need-same-length-6
 same-length-6 c = search needs
 
--- src/lib.rt:236:1
 same-length-7 : tie.Need-same-length-7
 same-length-7 c = search needs
 
--- src/lib.rt:236:1
 same-length-8 : tie.Need-same-length-8
 same-length-8 c = search needs
 
--- src/lib.rt:236:1
 same-length-9 : tie.Need-same-length-9
 same-length-9 c = search needs
 
--- src/lib.rt:236:1
 same-length-10 : tie.Need-same-length-10
 same-length-10 c = search needs
 
--- src/lib.rt:236:1
 returns-4 : tie.Need-returns-4
 returns-4 c =
     let st = c .before .before .before .before .before .before .before .before .before .before .before .before .before .before .before .before .before .before .before .before .before .before .before .before .before .before .before .before .before .before .before .before .before .before in

@@ -11,34 +11,27 @@ use Rattle.sheet_passes.proofs.pass_frame.Lts as lts
 use Rattle.passes.proofs.right_pass.Reads as right-pass-reads
 use Rattle.prefix_tree.proofs.shared_pass.Reads as shared-pass-reads
 
--- src/lib.rt:29:9
 shared-pass-requires : tie.Need-shared-pass-requires
 shared-pass-requires c κs = search needs
 
--- src/lib.rt:40:9
 same-length : tie.Need-same-length
 same-length c = search needs
 
--- src/lib.rt:40:9
 same-length-2 : tie.Need-same-length-2
 same-length-2 c = search needs
 
--- src/lib.rt:40:9
 returns : tie.Need-returns
 returns c =
     let st = c .before .before .before .before .before .before .before .before .before .before .before .before .before .before in
     let a = st .args in
     F.frame-bad (a .words .now) (a .left-states) (a .right-states) (a .frame .now) (st .pre .2) (c .before .before .before .before .before .before .shared-pass .ensures) (not-true _ (c .if1 .taken))
 
--- src/lib.rt:44:24
 mul-right-pass : tie.Need-mul-right-pass
 mul-right-pass c = search needs
 
--- src/lib.rt:44:9
 add-right-pass : tie.Need-add-right-pass
 add-right-pass c = search needs
 
--- src/lib.rt:42:9
 right-pass-requires : tie.Need-right-pass-requires
 right-pass-requires c κs =
     let st = c .before .before .before .before .before .before .before .before .before .before .before .before .before .before .before in
@@ -46,19 +39,15 @@ right-pass-requires c κs =
     let e = not-false _ (c .before .if1 .left) in
     (omega (arith, st .pre .1), st .pre .0, st .pre .2, st .pre .3, omega (arith, o .steps-are e, o .few e, st .pre .3, st .pre .9), st .pre .4, st .pre .6)
 
--- src/lib.rt:15:1
 same-length-3 : tie.Need-same-length-3
 same-length-3 c = search needs
 
--- src/lib.rt:15:1
 same-length-4 : tie.Need-same-length-4
 same-length-4 c = search needs
 
--- src/lib.rt:15:1
 same-length-5 : tie.Need-same-length-5
 same-length-5 c = search needs
 
--- src/lib.rt:15:1
 returns-2 : tie.Need-returns-2
 returns-2 c =
     let st = c .before .before .before .before .before .before .before .before .before .before .before .before .before .before .before .before .before .before in

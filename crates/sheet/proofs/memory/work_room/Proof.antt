@@ -8,8 +8,8 @@ use lib.ListN.{length}
 use borrow.Author.Tests.{le-leb, lt-leb}
 use Rattle.rules.specs.Limits.{maxName, maxNames}
 use borrow.Author.Needs.{needs}
-use Rattle.sheet.proofs.work_room.Statement.{statement}
-use Rattle.sheet.proofs.work_room.Tie as tie
+use Rattle.sheet.proofs.memory.work_room.Statement.{statement}
+use Rattle.sheet.proofs.memory.work_room.Tie as tie
 
 add-most : tie.Need-add-most
 add-most c = search needs

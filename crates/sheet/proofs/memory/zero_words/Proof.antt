@@ -6,8 +6,8 @@ use lib.ListN.{length}
 use Rattle.sheet.proofs.Zeros as Z
 use borrow.Author.Needs.{needs}
 use native.Mathlib.Omega.{arith}
-use Rattle.sheet.proofs.zero_words.Statement.{statement}
-use Rattle.sheet.proofs.zero_words.Tie as tie
+use Rattle.sheet.proofs.memory.zero_words.Statement.{statement}
+use Rattle.sheet.proofs.memory.zero_words.Tie as tie
 
 abbrev Inv-loop : tie.InvT-loop
 Inv-loop s n zero₀ i₀ zero i = Z.Zeroing s n i zero
@@ -15,31 +15,24 @@ Inv-loop s n zero₀ i₀ zero i = Z.Zeroing s n i zero
 abbrev μ-loop : tie.MeasureT-loop
 μ-loop s n zero₀ i₀ zero i = n - i
 
--- src/lib.rt:115:9
 returns : tie.Need-returns Inv-loop μ-loop
 returns c = Z.zeros-short (c .before .args .n) (c .before .args .s .now) (omega arith)
 
--- src/lib.rt:119:5
 loop-holds : tie.Need-loop-holds Inv-loop μ-loop
 loop-holds c = Z.zeroing-begin _ _
 
--- src/lib.rt:120:12
 mul-if2 : tie.Need-mul-if2 Inv-loop μ-loop
 mul-if2 c = search needs
 
--- src/lib.rt:120:12
 shared-slice-read-if2 : tie.Need-shared-slice-read-if2 Inv-loop μ-loop
 shared-slice-read-if2 c = omega arith
 
--- src/lib.rt:123:9
 add-i : tie.Need-add-i Inv-loop μ-loop
 add-i c = search needs
 
--- src/lib.rt:119:5
 loop-less : tie.Need-loop-less Inv-loop μ-loop
 loop-less c = search needs
 
--- src/lib.rt:119:5
 loop-again : tie.Need-loop-again Inv-loop μ-loop
 loop-again c =
     let st = c .before .before .before .before .before in
@@ -49,7 +42,6 @@ loop-again c =
     ⊎-elim (λ w. Z.zeroing-not (st .args .s .now) (st .args .n) l (k .i) (k .zero) (k .inv) i (w .0 .taken) (c .if2 .zero) (w .1))
     (λ w. Z.zeroing-next (st .args .s .now) (st .args .n) l (k .i) (k .zero) (k .inv) i (w .0 .left) (c .if2 .zero) (w .1)) (c .if2 .came)
 
--- src/lib.rt:111:1
 returns-2 : tie.Need-returns-2 Inv-loop μ-loop
 returns-2 c =
     let st = c .before .before .before in
