@@ -354,12 +354,6 @@ static int letters_and_classes(const uint8_t *context, size_t length)
     return 1;
 }
 
-static int within_limits(const struct base_rule *r)
-{
-    return r->left_len <= BASE_CONTEXT && r->target_len >= 1 && r->target_len <= BASE_TARGET && r->right_len <= BASE_CONTEXT
-        && r->phone_len <= BASE_RULE_PHONES;
-}
-
 /* # may stand first in a left context and last in a right one, classes in both. */
 static int well_shaped(const struct base_rule *r)
 {
@@ -380,7 +374,8 @@ static int read_rule(const uint8_t *frame, int count, struct base_rule *r)
     r->target_len = frame[4];
     r->right_len = frame[5];
     r->phone_len = frame[6];
-    if (!within_limits(r) || count != 7 + r->left_len + r->target_len + r->right_len + r->phone_len)
+    if (r->left_len > BASE_CONTEXT || r->target_len < 1 || r->target_len > BASE_TARGET || r->right_len > BASE_CONTEXT
+        || r->phone_len > BASE_RULE_PHONES || count != 7 + r->left_len + r->target_len + r->right_len + r->phone_len)
         return -1;
     frame += 7;
     memcpy(r->left, frame, r->left_len);
@@ -526,120 +521,4 @@ size_t base_write(const struct base_ruleset *rs, uint8_t *text)
         end_line(&out);
     }
     return (size_t)(out.at - text);
-}
-
-/* ---- Festival text ---- */
-
-static int is_white(uint8_t c)
-{
-    return c == ' ' || c == '\n';
-}
-
-static void skip_white(struct input *in)
-{
-    while (in->at < in->length && is_white(in->text[in->at]))
-        in->at++;
-}
-
-/* From the end of a token to the next one or to the text's end; -1 where the next one touches it. */
-static int next_token(struct input *in)
-{
-    if (in->at < in->length && !is_white(in->text[in->at]))
-        return -1;
-    skip_white(in);
-    return 0;
-}
-
-/* A part keeps as many items as it may have; its length stops one above, so that it breaks the shape. */
-static void keep(uint8_t *part, uint8_t *length, uint8_t most, uint8_t item)
-{
-    if (*length < most)
-        part[*length] = item;
-    *length = (uint8_t)(*length + (*length <= most));
-}
-
-/* The symbols of a part, and the mark after them. */
-static int read_symbols(struct input *in, uint8_t mark, uint8_t *part, uint8_t *length, uint8_t most)
-{
-    for (*length = 0; in->at < in->length;) {
-        uint8_t c = in->text[in->at];
-        if (c >= 'a' && c <= 'z')
-            keep(part, length, most, (uint8_t)(c - 'a' + 1));
-        else if (c == '#')
-            keep(part, length, most, 0);
-        else if (c != mark)
-            return -1;
-        in->at++;
-        if (next_token(in) != 0)
-            return -1;
-        if (c == mark)
-            return 0;
-    }
-    return -1;
-}
-
-/* The phones, and the ) after them. */
-static int read_phones(struct input *in, uint8_t *part, uint8_t *length, uint8_t most)
-{
-    for (*length = 0; in->at < in->length;) {
-        uint8_t c = in->text[in->at];
-        if (c != ')') {
-            int high = digit(c), low;
-            if (high < 0 || ++in->at == in->length || (low = digit(in->text[in->at])) < 0)
-                return -1;
-            keep(part, length, most, (uint8_t)(high << 4 | low));
-        }
-        in->at++;
-        if (next_token(in) != 0)
-            return -1;
-        if (c == ')')
-            return 0;
-    }
-    return -1;
-}
-
-static int read_festival_rule(struct input *in, struct base_rule *r)
-{
-    if (in->text[in->at] != '(')
-        return -1;
-    in->at++;
-    return next_token(in) != 0
-        || read_symbols(in, '[', r->left, &r->left_len, BASE_CONTEXT) != 0
-        || read_symbols(in, ']', r->target, &r->target_len, BASE_TARGET) != 0
-        || read_symbols(in, '=', r->right, &r->right_len, BASE_CONTEXT) != 0
-        || read_phones(in, r->phones, &r->phone_len, BASE_RULE_PHONES) != 0 ? -1 : 0;
-}
-
-enum { HEAD_LINE = 15, RULE_LINE = 17 };    /* of a rule without its symbols and phones */
-
-uint8_t base_convert(const uint8_t *text, size_t length, uint8_t *out, size_t room, size_t *bytes)
-{
-    struct input in = { text, length, 0 };
-    struct base_ruleset rs;
-    struct base_rule spare;         /* past the 512th, rules are only judged */
-    size_t count = 0, size = HEAD_LINE;
-    int shaped = 1;
-
-    for (skip_white(&in); in.at < length; count++) {
-        struct base_rule *r = count < BASE_RULES ? &rs.rules[count] : &spare;
-        if (read_festival_rule(&in, r) != 0) {
-            *bytes = in.at;
-            return in.at < length && (text[in.at] == '*' || text[in.at] == '+') ? BASE_REPEAT_MARK : BASE_NOT_FESTIVAL;
-        }
-        shaped &= within_limits(r) && well_shaped(r);
-        r->number = (uint16_t)(count + 1);
-        size += RULE_LINE + 2 * ((size_t)r->left_len + r->target_len + r->right_len + r->phone_len);
-    }
-    *bytes = 0;
-    if (!shaped)
-        return BASE_SHAPE;
-    if (count > BASE_RULES)
-        return BASE_TOO_MANY;
-    *bytes = size;
-    if (size > room)
-        return BASE_ROOM;
-    rs.count = rs.last = (uint16_t)count;
-    memset(rs.classes, 0, sizeof rs.classes);
-    base_write(&rs, out);
-    return BASE_CONVERTED;
 }

@@ -1,10 +1,10 @@
 /*
  * The yardstick of the benchmark: the same tables, walk, plain reading and rule file as document 01,
- * written by hand in plain C, with document 02's names of several words, contested letters, letter classes, edit
- * count and Festival text but without its exceptions list.
+ * written by hand in plain C, with document 02's names of several words, contested letters, letter classes and edit
+ * count but without its exceptions list.
  * It trusts its caller: rulesets are valid, names are 1 to 63 in at most 64 bytes, memory is long enough
- * and tables are built, though perhaps before an edit. Only base_read and base_convert judge what they are given, since a
- * file and a text come from outside.
+ * and tables are built, though perhaps before an edit. Only base_read judges what it is given, since a file comes from
+ * outside.
  */
 #ifndef BASELINE_H
 #define BASELINE_H
@@ -36,16 +36,6 @@ enum {
     BASE_RULE_FRAME = 7 + BASE_CONTEXT + BASE_PATTERN + BASE_RULE_PHONES + 1,   /* of the longest rule line */
     BASE_FILE = 15 + BASE_CLASSES * (2 * BASE_CLASS_FRAME + 1) + BASE_RULES * (2 * BASE_RULE_FRAME + 1)
                                 /* 27,439: longest rule file */
-};
-
-/* What base_convert answers: the library's codes. */
-enum {
-    BASE_SHAPE = 6,
-    BASE_ROOM = 15,
-    BASE_TOO_MANY = 21,
-    BASE_NOT_FESTIVAL = 25,
-    BASE_REPEAT_MARK = 26,
-    BASE_CONVERTED = 255
 };
 
 struct base_rule {
@@ -91,9 +81,5 @@ int base_read(const uint8_t *text, size_t length, struct base_ruleset *rs);
 
 /* Writes the rule file into BASE_FILE bytes. Returns its length. */
 size_t base_write(const struct base_ruleset *rs, uint8_t *text);
-
-/* Turns a Festival text into the rule file, in so many bytes. Returns BASE_CONVERTED with the file's length, or a refusal with its
-   place; out is then as it was. */
-uint8_t base_convert(const uint8_t *text, size_t length, uint8_t *out, size_t room, size_t *bytes);
 
 #endif

@@ -456,79 +456,6 @@ static void checked_rows(int n)
     printf("| (b) of which the check of the ruleset | %.0f ns | | |\n", check_time());
 }
 
-/* ---- Festival text */
-
-/* The text of a rule whose parts are full: a byte and white for each mark and symbol, two and white for each phone. */
-enum { RULE_TEXT = 2 * (5 + 2 * BASE_CONTEXT + BASE_TARGET) + 3 * BASE_RULE_PHONES };
-
-static uint8_t festival[BASE_RULES * RULE_TEXT], base_other[sizeof other];
-
-static size_t put_symbols(size_t at, char mark, const uint8_t *part, size_t length)
-{
-    festival[at++] = (uint8_t)mark;
-    festival[at++] = ' ';
-    for (size_t i = 0; i < length; i++) {
-        festival[at++] = part[i] ? (uint8_t)(part[i] + 'a' - 1) : '#';
-        festival[at++] = ' ';
-    }
-    return at;
-}
-
-/* The rules of the baseline as a Festival text, a line each; its length. */
-static size_t write_festival(void)
-{
-    size_t at = 0;
-    for (int k = 0; k < rs.count; k++) {
-        const struct base_rule *r = &rs.rules[k];
-        at = put_symbols(at, '(', r->left, r->left_len);
-        at = put_symbols(at, '[', r->target, r->target_len);
-        at = put_symbols(at, ']', r->right, r->right_len);
-        at = put_symbols(at, '=', NULL, 0);
-        for (int i = 0; i < r->phone_len; i++) {
-            festival[at++] = (uint8_t)"0123456789ABCDEF"[r->phones[i] >> 4];
-            festival[at++] = (uint8_t)"0123456789ABCDEF"[r->phones[i] & 15];
-            festival[at++] = ' ';
-        }
-        festival[at++] = ')';
-        festival[at++] = '\n';
-    }
-    return at;
-}
-
-/* The first so many bytes of the text, converted by both to the same code, bytes and place; `repeats` calls are one piece of work. */
-static void convert_row(const char *what, size_t length, int repeats, uint8_t code)
-{
-    double mine, base;
-    size_t base_bytes;
-    memset(other, 0, sizeof other);
-    memset(base_other, 0, sizeof base_other);
-    must(pirrozketa_convert(festival, length, other, sizeof other, &bytes) == code, "a text is answered otherwise");
-    must(base_convert(festival, length, base_other, sizeof base_other, &base_bytes) == code && base_bytes == bytes
-         && !memcmp(other, base_other, sizeof other), "the conversions differ");
-    PAIR(mine, base, repeats,
-         for (int k = 0; k < repeats; k++)
-             must(pirrozketa_convert(festival, length, other, sizeof other, &bytes) == code, "a text is answered otherwise"),
-         for (int k = 0; k < repeats; k++)
-             base_convert(festival, length, base_other, sizeof base_other, &base_bytes));
-    row(what, mine, base);
-}
-
-/* The text of the rules that stand, all of the greatest length, whose file stands too; its first rules alone; and the text with its last
-   byte a repeat mark. */
-static void convert_rows(size_t file_length)
-{
-    enum { FEW = 6 };
-    char what[80];
-    size_t length = write_festival();
-    snprintf(what, sizeof what, "(g) convert a Festival text of %u rules, %zu bytes", (unsigned)rs.count, length);
-    convert_row(what, length, 1, PIRROZKETA_ACCEPTED);
-    must(bytes == file_length && !memcmp(other, file, bytes), "the text is converted to another file");
-    snprintf(what, sizeof what, "(g) its first %d rules, %d bytes", FEW, FEW * RULE_TEXT);
-    convert_row(what, FEW * RULE_TEXT, NAMES, PIRROZKETA_ACCEPTED);
-    festival[length - 1] = '+';
-    convert_row("(g) the whole text with a fault at its end", length, 1, PIRROZKETA_REPEAT_MARK);
-}
-
 /* ---- sheets: the names of one together, by pirrozketa_speak_many, and one by one */
 
 enum { BEGINNINGS = 16, ENDINGS = PIRROZKETA_SHEET_NAMES / BEGINNINGS };
@@ -694,7 +621,6 @@ int main(int argc, char **argv)
     PAIR(mine, base, 1, accept(pirrozketa_write_file(image, sizeof image, other, sizeof other, &place), "no file"),
          base_write(&rs, other));
     row("(f) write it", mine, base);
-    convert_rows(bytes);
 
     static const int sizes[] = { 16, 64, 256, 512 };
     double grown[4], base_grown[4];

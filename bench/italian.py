@@ -26,7 +26,6 @@ import re
 import sys
 
 sys.path.insert(0, os.path.join(os.path.dirname(os.path.abspath(__file__)), "..", "tools"))
-import festival
 import inputs
 import ruletext
 from inputs import Mistake
@@ -38,12 +37,26 @@ NOT_THERE = 3
 STRESSED = {"à": "a1", "á": "a1", "è": "E1s", "é": "e1s", "ì": "i1", "í": "i1", "ò": "O1s", "ó": "o1s", "ù": "u1", "ú": "u1"}
 
 
+def tree(words):
+    """Lists in lists from the words of a Scheme text."""
+    out = []
+    for word in words:
+        if word == ")":
+            return out
+        out.append(tree(words) if word == "(" else word)
+    return out
+
+
 def ruleset_of(text):
     """(sets, rules) of RULESET; a rule is (left, target, right, phones), lists of symbols."""
-    for form in festival.forms(text):
-        if festival.name_of(form) == RULESET:
-            ruleset = festival.ruleset_of(form)
-            return ruleset.sets, [rule[:4] for rule in ruleset.rules]
+    words = (word for word in re.findall(r'"(?:\\.|[^"\\])*"|;[^\n]*|[()\[\]]|[^\s()\[\];"]+', text) if not word.startswith(";"))
+    for form in tree(words):
+        if isinstance(form, list) and form[:2] == ["lts.ruleset", RULESET]:
+            rules = []
+            for rule in form[3]:
+                first, last, equals = rule.index("["), rule.index("]"), rule.index("=")
+                rules.append((rule[:first], rule[first + 1:last], rule[last + 1:equals], rule[equals + 1:]))
+            return {name: symbols for name, *symbols in form[2]}, rules
     raise Mistake(f"no ruleset {RULESET}")
 
 

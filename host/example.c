@@ -1,8 +1,8 @@
 /*
  * A small host: it asks the library for its version, reads a rule file, builds the tables, sets a letter class, adds a rule that uses it, writes the file back, lists
  * exceptions and speaks names, of one word or several, one at a time, many at once and as a sheet, with their contested letters. Since the
- * addition the tables are old: the first name that needs them is refused, and they are built again. Last, it takes the rules of a
- * Festival text in place of those of the file. Built and run by host/build, or by hand:
+ * addition the tables are old: the first name that needs them is refused, and they are built again. Built and run by host/build, or
+ * by hand:
  *
  *     rt staticlib host
  *     gcc -O2 -Wall -Ihost host/example.c target/staticlib/libhost.a -o target/example
@@ -262,29 +262,6 @@ static void speak_sheet(const char *const *typed, size_t many)
     printf("%zu names, %zu steps\n", names, steps);
 }
 
-static uint8_t convert(const char *text, uint8_t *file, size_t *bytes)
-{
-    return pirrozketa_convert((const uint8_t *)text, strlen(text), file, PIRROZKETA_CONVERTED, bytes);
-}
-
-/* The rules of a Festival text in place of those that were read, after one that is refused where its repeat mark stands. */
-static void read_festival(void)
-{
-    static const char repeated[] = "( [ e + ] = 69 )", text[] = "( # [ k ] n = )\n( [ e e ] = 69 )  ( [ n ] = 6E )\n";
-    static uint8_t file[PIRROZKETA_CONVERTED];
-    size_t bytes, place;
-    uint8_t code = convert(repeated, file, &place);
-    if (code != PIRROZKETA_REPEAT_MARK)
-        stop("a repeat mark is taken");
-    printf("refusal %u at %zu: %c\n", (unsigned)code, place, repeated[place]);
-    code = convert(text, file, &bytes);
-    judge("convert", code, bytes);
-    printf("the file of the text has %zu bytes\n", bytes);
-    code = pirrozketa_read_file(file, bytes, image, sizeof image, &place);
-    judge("read what was converted", code, place);
-    build_tables();
-}
-
 /* Puts a name into the lot, which is spoken when it is full. */
 static void take(struct lot *lot, const char *typed)
 {
@@ -320,8 +297,5 @@ int main(int argc, char **argv)
     speak_lot(&lot);
     printf("a sheet of them:\n");
     speak_sheet((const char *const *)argv + 2, (size_t)argc - 2);
-    printf("by a Festival text:\n");
-    read_festival();
-    speak_one("knee");
     return 0;
 }

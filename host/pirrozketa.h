@@ -37,18 +37,6 @@
  * rule means never changes while it is held; drop the rules, set the class, add them again. No call takes a class away;
  * pirrozketa_clear and pirrozketa_read_file leave none but those of the file. The boundary is in no class.
  *
- * FESTIVAL TEXT. pirrozketa_convert turns rules in Festival's own writing, ( left [ target ] right = phones ), none or more of
- * them, into the rule file that has them in order, numbered from 1, with `last` equal to their count. Letters are a to z, here 1 to
- * 26, the boundary is #, and phones are two upper-case hexadecimal digits. Between any two of these and the marks ( [ ] = ) stands
- * at least one space or line end (20 or 0A; 0D is none), also between ) and the next (; more may stand there, and before and after
- * all. A text of three rules, of which the first is k after the boundary and before n, without phones:
- *     ( # [ k ] n = )
- *     ( [ e e ] = 69 )  ( [ n ] = 6E )
- * Where # may stand, how long a part may be and that no phone is 00 is the shape's matter: refusal 6, not 25. A class cannot be
- * written so. Rulesets made for Festival itself have sets, repeat marks and names for phones as well: tools/festival2rules.py is
- * for those. pirrozketa_read_file accepts every file that pirrozketa_convert writes, and the ruleset is then just the rules of the
- * text, with no classes and edit count 0; build the tables next.
- *
  * LIST. A name on the exceptions list is said from it, by pirrozketa_speak, pirrozketa_speak_many,
  * pirrozketa_speak_sheet and pirrozketa_read_name alike; else each of its words that is listed is said from it, and only the other words go
  * by the rules. What is listed gives no rule numbers and takes no steps; where that is all of the name, the tables
@@ -91,7 +79,6 @@
  * which may be another than this header's; a host asks at its start:
  *     if (!PIRROZKETA_VERSION_FITS(pirrozketa_version())) ..
  * A library before 8.1 has no such call, and a host that asks does not link with it.
- * 8.3 has pirrozketa_convert and its refusals 25 and 26; all else is as it was.
  * 8.2 has pirrozketa_speak_sheet and its refusal 24; all else is as it was.
  * 8.1 has pirrozketa_version.
  * 8.0 has contexts of at most 4 symbols, 6 before, and so other sizes. What a host has to change:
@@ -117,7 +104,7 @@
  * the ruleset: call pirrozketa_read_file, look at its code, then pirrozketa_build.
  */
 #define PIRROZKETA_VERSION_MAJOR 8
-#define PIRROZKETA_VERSION_MINOR 3
+#define PIRROZKETA_VERSION_MINOR 2
 #define PIRROZKETA_VERSION (256 * PIRROZKETA_VERSION_MAJOR + PIRROZKETA_VERSION_MINOR)
 
 /* Whether a library of that version has all that this header tells: the same MAJOR, and no lower MINOR. */
@@ -160,9 +147,8 @@ enum {
                                      name, from 1 */
     PIRROZKETA_PHONES_ROOM = 4,   /* too few bytes lent for the phones; place: bytes that the whole name needs */
     PIRROZKETA_NUMBERS_ROOM = 5,  /* too few numbers lent for the rules applied; place: numbers that it needs */
-    PIRROZKETA_SHAPE = 6,         /* the added rule, or one of a Festival text, breaks the shape, as a context over
-                                     PIRROZKETA_CONTEXT, 63 in it or a class in its target does, or is not PIRROZKETA_RULE
-                                     bytes; place 0 */
+    PIRROZKETA_SHAPE = 6,         /* the added rule breaks the shape, as a context over PIRROZKETA_CONTEXT, 63 in it or a class
+                                     in its target does, or is not PIRROZKETA_RULE bytes; place 0 */
     PIRROZKETA_PLACE = 7,         /* the place lies beyond the list; place 0 */
     PIRROZKETA_NO_NUMBER = 8,     /* no rule has the number; place 0 */
     PIRROZKETA_LAST_ISSUED = 10,  /* `last` is 65,535; place 0 */
@@ -182,13 +168,10 @@ enum {
     PIRROZKETA_BAD_CLASS = 20,    /* the class has a symbol outside 64 to 95, no letters, over 32, letters outside 1 to 62 or
                                      not strictly ascending, or is in use; or the added rule uses one that is undefined;
                                      place 0 */
-    PIRROZKETA_FULL = 21,         /* over 512 literal rules after the addition, or over 512 rules in a Festival text; place 0 */
+    PIRROZKETA_FULL = 21,         /* over 512 literal rules after the addition; place 0 */
     PIRROZKETA_STALE_TABLES = 22, /* the tables have another edit count than the ruleset; place 0 */
     PIRROZKETA_EDITS_SPENT = 23,  /* the edit count is 4,294,967,295; place 0 */
     PIRROZKETA_BAD_SHEET = 24,    /* the sheet has more than 256 names, or its last name is cut short; place 0 */
-    PIRROZKETA_NOT_FESTIVAL = 25, /* the text is not of the form (FESTIVAL TEXT above); place: the first byte, counted from 0,
-                                     that no text of the form can have there, or the text's length if it ends early */
-    PIRROZKETA_REPEAT_MARK = 26,  /* 25, where that byte is Festival's repeat mark * or +; same place */
     PIRROZKETA_ACCEPTED = 255
 };
 
@@ -234,10 +217,8 @@ enum {
     PIRROZKETA_PHONES = 2048,       /* phones that one name can give, by 32 words of one letter, each listed with 64 phones; by
                                        rules alone 256 */
     PIRROZKETA_NUMBERS = 64,        /* rules that one name can apply */
-    PIRROZKETA_CONVERTED = 15 + PIRROZKETA_RULES * (2 * (4 + PIRROZKETA_RULE) + 1),
-                                    /* 25,103: bytes of the longest rule file of a Festival text: the head, then a line for each rule */
-    PIRROZKETA_FILE = PIRROZKETA_CONVERTED + PIRROZKETA_CLASSES * (2 * (4 + PIRROZKETA_CLASS) + 1),
-                                    /* 27,439: bytes of the longest rule file: a line for each class too */
+    PIRROZKETA_FILE = 15 + PIRROZKETA_CLASSES * (2 * (4 + PIRROZKETA_CLASS) + 1) + PIRROZKETA_RULES * (2 * (4 + PIRROZKETA_RULE) + 1),
+                                    /* 27,439: bytes of the longest rule file: the head, then a line for each class and rule */
     PIRROZKETA_READ_OUT = 130000,   /* bytes of the longest read-out */
     PIRROZKETA_TREE = 4 * (1 + PIRROZKETA_SHEET_NAMES * (PIRROZKETA_NAME + 1)),
                                     /* 66,564: words of 16 bits in which a sheet's prefixes are kept; for a sheet of fewer bytes,
@@ -249,9 +230,9 @@ enum {
 
 /*
  * Stack: no call uses more than 32,768 bytes, to which host/build holds what host/stack.c measures with 512
- * rules, a text of as many, a name of several words, 64 bytes, and lists of long names. In bytes: version, clear, count, last, edits,
- * list_clear none to speak of; convert 736; check 8,296; set_class 8,328; drop 8,328; move 8,392; add 8,488; read_file 8,888;
- * write_file 8,904; build 13,032; list_check 16,464; list_states 16,480; list_read_out 16,624; speak 16,736; speak_many
+ * rules, a name of several words, 64 bytes, and lists of long names. In bytes: version, clear, count, last, edits,
+ * list_clear none to speak of; check 8,296; set_class 8,328; drop 8,328; move 8,392; add 8,488; read_file 8,888; write_file
+ * 8,920; build 13,032; list_check 16,464; list_states 16,480; list_read_out 16,624; speak 16,736; speak_many
  * 16,752; read_name 17,216; speak_sheet 19,504; list_names 24,688; list_remove 31,192; list_add 31,248.
  */
 
@@ -327,13 +308,6 @@ uint8_t pirrozketa_read_file(const uint8_t *file, size_t file_len, uint8_t *imag
 /* Writes the rule file. *bytes: the bytes written, or the refusal's place. Refusals 0, 15. */
 PIRROZKETA_MUST_CHECK
 uint8_t pirrozketa_write_file(const uint8_t *image, size_t image_len, uint8_t *out, size_t out_len, size_t *bytes);
-
-/* Writes the rule file of a Festival text (FESTIVAL TEXT above), of any length, at the front of `out`, which overlaps no part of the
-   text; read these *bytes bytes by pirrozketa_read_file next. PIRROZKETA_CONVERTED bytes are enough for every text; lend none to learn
-   how many this one needs, by refusal 15. The text is judged whole before anything is written: a refusal leaves `out` as it was.
-   *bytes: the bytes written, or the refusal's place. Refusals 25 or 26 for the text; then 6 for any of its rules; 21; 15. */
-PIRROZKETA_MUST_CHECK
-uint8_t pirrozketa_convert(const uint8_t *text, size_t text_len, uint8_t *out, size_t out_len, size_t *bytes);
 
 /* ---- the exceptions list: `list` is PIRROZKETA_LIST words or more. Up to 1,000 names of 1 to 64 letters and spaces, each
    with 1 to 64 phones, kept as the smallest automaton that says them, of at most 4,096 states. */

@@ -22,10 +22,6 @@ static uint64_t sets[PIRROZKETA_SETS];
 static uint8_t names[1 + PIRROZKETA_NAME], *name = names + 1, phones[PIRROZKETA_PHONES];
 static size_t place, given, applied, steps, contested, count, bytes, states, replies[PIRROZKETA_REPLY];
 
-/* A rule whose parts are all as long as they may be, in Festival's writing, and a text of as many as there may be. */
-static const char longest_rule[] = "( b c d e [ f g h i ] j k l m = 09 09 09 09 )\n";
-static uint8_t text[RULES * (sizeof longest_rule - 1)];
-
 /* Of one letter, a, and as many phones as there may be: the last of the 512 rules, and the one that is added. */
 static uint8_t rule[PIRROZKETA_RULE] = { 0, 1, 0, PIRROZKETA_RULE_PHONES };
 
@@ -41,12 +37,6 @@ static uint8_t add(void) { return pirrozketa_add(copy, sizeof copy, rule, sizeof
 static uint8_t move_rule(void) { return pirrozketa_move(copy, sizeof copy, RULES, 0, &place); }
 static uint8_t write_file(void) { return pirrozketa_write_file(image, sizeof image, file, sizeof file, &bytes); }
 static uint8_t read_file(void) { return pirrozketa_read_file(file, bytes, copy, sizeof copy, &place); }
-/* The longest file of a text, into just as many bytes. */
-static uint8_t convert(void)
-{
-    uint8_t code = pirrozketa_convert(text, sizeof text, file, PIRROZKETA_CONVERTED, &bytes);
-    return bytes == PIRROZKETA_CONVERTED ? code : 0;
-}
 static uint8_t build(void)
 {
     return pirrozketa_build(image, sizeof image, words, PIRROZKETA_WORDS, sets, PIRROZKETA_SETS, &place);
@@ -105,8 +95,7 @@ static uint8_t set_class(void) { return pirrozketa_set_class(copy, sizeof copy, 
 /* In this order: `add` has room after `drop`, `read_file` reads what `write_file` wrote, `build_least` needs the counts. */
 static const struct { const char *name; uint8_t (*call)(void); } calls[] = {
     { "version", version }, { "clear", clear }, { "check", check }, { "count", count_rules }, { "last", last }, { "edits", edits },
-    { "drop", drop }, { "add", add }, { "move", move_rule }, { "set_class", set_class }, { "write_file", write_file },
-    { "read_file", read_file }, { "convert", convert },
+    { "drop", drop }, { "add", add }, { "move", move_rule }, { "set_class", set_class }, { "write_file", write_file }, { "read_file", read_file },
     { "build", build }, { "build, least", build_least }, { "list_check", list_check }, { "list_names", list_names },
     { "list_states", list_states }, { "list_add", list_add }, { "list_read_out", list_read_out },
     { "list_remove", list_remove }, { "list_full", list_full }, { "list_clear", list_clear }, { "read_name", read_name },
@@ -195,8 +184,6 @@ static void prepare(void)
         must(PIRROZKETA_OK(pirrozketa_add(image, sizeof image, k + 1 < RULES ? longest : rule, sizeof rule, k, &place)),
              "a rule is refused");
     }
-    for (size_t k = 0; k < sizeof text; k++)
-        text[k] = (uint8_t)longest_rule[k % (sizeof longest_rule - 1)];
     memcpy(copy, image, sizeof copy);
     memset(phones, 9, sizeof phones);
     prepare_list(list, 60);

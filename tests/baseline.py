@@ -11,12 +11,10 @@ import subprocess
 import sys
 import tempfile
 
-import festival
 import generate
 import reference as ref
 import stale
 
-CONVERTED = 255     # BASE_CONVERTED of bench/baseline.h
 SOURCE = os.path.join(os.path.dirname(os.path.abspath(__file__)), "..", "bench", "baseline.c")
 
 
@@ -108,22 +106,6 @@ def compare(base, source, check, words, sets):
             check.equal("literal rules", literals_of(back), literals_of(given_to_c(wanted)))
 
 
-def converted(base, text, room):
-    """The rule file or the refusal, and whether all other lent bytes are as they were."""
-    lent, count = (c.c_uint8 * room).from_buffer_copy(b"\xA5" * room), c.c_size_t(2**32)
-    code = base.base_convert(text, c.c_size_t(len(text)), lent, c.c_size_t(room), c.byref(count))
-    written = count.value if code == CONVERTED else 0
-    file = bytes(lent)[:written] if code == CONVERTED else ref.Refusal(code, count.value)
-    return file, bytes(lent)[written:] == b"\xA5" * (room - written)
-
-
-def compare_conversion(base, check, text):
-    """With all the room there may be, with what is needed and with a byte less; none where the text is refused."""
-    whole = ref.convert(text, ref.LONGEST_FILE)
-    for room in (ref.LONGEST_FILE, len(whole), len(whole) - 1) if isinstance(whole, bytes) else (ref.LONGEST_FILE, 0):
-        check.equal("convert", converted(base, text, room), (ref.convert(text, room), True))
-
-
 def main():
     parser = argparse.ArgumentParser(description=__doc__, formatter_class=argparse.RawDescriptionHelpFormatter)
     parser.add_argument("--count", type=int, default=50)
@@ -135,15 +117,10 @@ def main():
         subprocess.run(["gcc", "-O2", "-std=c11", "-Wall", "-Wextra", "-shared", "-fPIC", SOURCE, "-o", library],
                        check=True)
         base = c.CDLL(library)
-        base.base_write.restype, base.base_convert.restype = c.c_size_t, c.c_uint8
+        base.base_write.restype = c.c_size_t
         words, sets = (c.c_uint16 * ref.MONITOR_WORDS)(), (c.c_uint64 * ref.MONITOR_SETS)()
-        for text in festival.texts().values():
-            compare_conversion(base, check, text or b"")
         for seed in range(given.seed, given.seed + given.count):
             compare(base, generate.Source(f"baseline {seed}"), check, words, sets)
-            source = generate.Source(f"baseline's texts {seed}")
-            for _ in range(10):
-                compare_conversion(base, check, festival.some_text(source))
     print(f"{check.passed} passed, {check.failed} failed")
     return 1 if check.failed else 0
 

@@ -4,9 +4,8 @@
     python3 tests/compare.py PROGRAM say --count 500 --seed 1
     python3 tests/compare.py PROGRAM monitor --count 200 --seed 1 --converse
     python3 tests/compare.py PROGRAM lists --count 40 --seed 1      `monitor` on the exceptions list: long conversations, its limits
-    python3 tests/compare.py PROGRAM festival --count 500 --seed 1  `monitor` on Festival texts
 
-PROGRAM is a path or a command in quotes. A failing run is made smaller (input lines, then rules and text)
+PROGRAM is a path or a command in quotes. A failing run is made smaller (input lines, then rules)
 before it is printed. --pieces hands standard input over in small parts; --converse (monitor)
 waits for each answer before it sends the next line, so an answer that is held back is a failure.
 """
@@ -28,16 +27,18 @@ class Runner:
     def __init__(self, command, program, manner, limit):
         self.command, self.program, self.manner, self.limit = command, program, manner, limit
 
-    def expected(self, run):
-        return generate.written(ref, self.program, run)
+    def expected(self, rules_hex, lines):
+        return getattr(ref, self.program)(rules_hex, b"".join(lines))
 
-    def run(self, run):
+    def run(self, rules_hex, lines):
         """Standard output in a folder of its own, or a text that says what went wrong."""
         with tempfile.TemporaryDirectory() as folder:
-            put(folder, {"rules.hex": run.rules_hex, "rules.txt": run.rules_txt})
+            if rules_hex is not None:
+                with open(os.path.join(folder, "rules.hex"), "wb") as file:
+                    file.write(rules_hex)
             if self.manner == "whole":
                 try:
-                    done = subprocess.run(self.command, cwd=folder, input=b"".join(run.lines),
+                    done = subprocess.run(self.command, cwd=folder, input=b"".join(lines),
                                           capture_output=True, timeout=self.limit)
                 except subprocess.TimeoutExpired:
                     return f"did not end within {self.limit} s"
@@ -49,18 +50,18 @@ class Runner:
                 stop.start()
                 try:
                     talk = self.converse if self.manner == "converse" else self.in_pieces
-                    out = talk(child, run)
+                    out = talk(child, rules_hex, lines)
                     code = child.wait()
                 finally:
                     stop.cancel()
                 return out if code >= 0 else f"ended by signal {-code} (9: not ended after {self.limit} s)"
 
-    def in_pieces(self, child, run):
+    def in_pieces(self, child, rules_hex, lines):
         """A pipe that delivers a few bytes at a time. `say` need not read on after bad rules."""
         out = []
         reader = threading.Thread(target=lambda: out.append(child.stdout.read()))
         reader.start()
-        data, at, pieces = b"".join(run.lines), 0, random.Random(len(run.lines))
+        data, at, pieces = b"".join(lines), 0, random.Random(len(lines))
         try:
             while at < len(data):
                 size = pieces.choice([1, 1, 2, 7, 61])
@@ -74,9 +75,9 @@ class Runner:
         reader.join()
         return out[0]
 
-    def converse(self, child, run):
-        held, out = ref.Monitor(run.rules_hex, run.rules_txt), b""
-        for line in run.lines:
+    def converse(self, child, rules_hex, lines):
+        held, out = ref.Monitor(rules_hex), b""
+        for line in lines:
             try:
                 child.stdin.write(line)
             except BrokenPipeError:
@@ -92,21 +93,13 @@ class Runner:
         return out + child.stdout.read()
 
 
-def put(folder, files):
-    """Those that are not missing."""
-    for name, data in files.items():
-        if data is not None:
-            with open(os.path.join(folder, name), "wb") as file:
-                file.write(data)
-
-
-def fails(runner, run):
+def fails(runner, rules_hex, lines):
     """(expected, got) where they differ; None where equal or where nothing is prescribed."""
     try:
-        expected = runner.expected(run)
+        expected = runner.expected(rules_hex, lines)
     except ref.Unspecified:
         return None
-    got = runner.run(run)
+    got = runner.run(rules_hex, lines)
     return None if got == expected else (expected, got)
 
 
@@ -126,35 +119,25 @@ def smaller(items, still_fails, tries):
     return items
 
 
-def shorter_name(runner, run):
+def shorter_name(runner, rules_hex, lines):
     """Where one sound name line is left, with fewer letters."""
-    body = ref.sound(run.lines[0][:-1]) if len(run.lines) == 1 else None
+    body = ref.sound(lines[0][:-1]) if len(lines) == 1 else None
     if runner.program != "say" or body is None:
-        return run
-    named = lambda letters: run._replace(lines=[ref.frame_line(body[:1] + bytes(letters))])
-    return named(smaller(list(body[1:]), lambda some: fails(runner, named(some)), 200))
+        return lines
+    line = lambda letters: [ref.frame_line(body[:1] + bytes(letters))]
+    return line(smaller(list(body[1:]), lambda some: fails(runner, rules_hex, line(some)), 200))
 
 
-def fewer_rules(runner, run):
-    rs = ref.read_file(run.rules_hex) if run.rules_hex is not None else None
-    if not isinstance(rs, ref.Ruleset):
-        return run
-    ruled = lambda rules: run._replace(rules_hex=ref.file_text(rs._replace(rules=tuple(rules))))
-    return shorter_name(runner, ruled(smaller(list(rs.rules), lambda some: fails(runner, ruled(some)), 400)))
-
-
-def shorter_text(runner, run):
-    """With less of rules.txt: in parts, then byte by byte."""
-    if run.rules_txt is None:
-        return run
-    texted = lambda some: run._replace(rules_txt=bytes(some))
-    return texted(smaller(list(run.rules_txt), lambda some: fails(runner, texted(some)), 800))
-
-
-def minimal(runner, run):
-    fewer_lines = lambda run, tries: run._replace(lines=smaller(run.lines, lambda some: fails(runner, run._replace(lines=some)), tries))
-    run = shorter_name(runner, fewer_lines(run, 400))
-    return fewer_lines(shorter_text(runner, fewer_rules(runner, run)), 200)
+def minimal(runner, rules_hex, lines):
+    lines = smaller(lines, lambda some: fails(runner, rules_hex, some), 400)
+    lines = shorter_name(runner, rules_hex, lines)
+    rs = ref.read_file(rules_hex) if rules_hex is not None else None
+    if isinstance(rs, ref.Ruleset):
+        rewritten = lambda rules: ref.file_text(rs._replace(rules=tuple(rules)))
+        rules = smaller(list(rs.rules), lambda some: fails(runner, rewritten(some), lines), 400)
+        rules_hex = rewritten(rules)
+        lines = shorter_name(runner, rules_hex, lines)
+    return rules_hex, smaller(lines, lambda some: fails(runner, rules_hex, some), 200)
 
 
 def clipped(data, width=160, most=30):
@@ -166,18 +149,22 @@ def clipped(data, width=160, most=30):
     return "\n".join(shown + ([f"    .. {len(lines)} lines in all"] if len(lines) > most else [])) or "    (nothing)"
 
 
-def report(runner, which, run, save):
-    run = minimal(runner, run)
-    expected, got = fails(runner, run) or (b"", "not the same twice")
-    print(f"FAILED: {which}")
-    for name, data in [("rules.hex", run.rules_hex), ("rules.txt", run.rules_txt)]:
-        print(f"  {name}: missing" if data is None else f"  {name}:\n{clipped(data)}")
-    for what, data in [("standard input", b"".join(run.lines)), ("expected", expected), ("got", got)]:
+def report(runner, which, rules_hex, lines, save):
+    rules_hex, lines = minimal(runner, rules_hex, lines)
+    expected, got = fails(runner, rules_hex, lines) or (b"", "not the same twice")
+    print(f"FAILED: {which}\n  rules.hex" + (":" if rules_hex is not None else ": missing"))
+    if rules_hex is not None:
+        print(clipped(rules_hex))
+    for what, data in [("standard input", b"".join(lines)), ("expected", expected), ("got", got)]:
         print(f"  {what}:\n{clipped(data)}")
     if save:
         os.makedirs(save, exist_ok=True)
-        put(save, {"rules.hex": run.rules_hex, "rules.txt": run.rules_txt, "stdin": b"".join(run.lines), "expected": expected,
-                   "got": got.encode() if isinstance(got, str) else got})
+        files = {"rules.hex": rules_hex, "stdin": b"".join(lines), "expected": expected,
+                 "got": got.encode() if isinstance(got, str) else got}
+        for name, data in files.items():
+            if data is not None:
+                with open(os.path.join(save, name), "wb") as file:
+                    file.write(data)
 
 
 def main():
@@ -198,9 +185,9 @@ def main():
     manner = "converse" if given.converse else "pieces" if given.pieces else "whole"
     runner = Runner(command, program, manner, given.limit)
     passed = 0
-    for which, run in generate.runs(given.kind, given.count, given.seed):
-        if runner.run(run) != run.expected:
-            report(runner, which, run, given.save)
+    for which, (rules_hex, lines, expected) in generate.runs(given.kind, given.count, given.seed):
+        if runner.run(rules_hex, lines) != expected:
+            report(runner, which, rules_hex, lines, given.save)
             print(f"{passed} passed, 1 failed")
             return 1
         passed += 1

@@ -26,14 +26,11 @@ def example_text(name):
 
 
 def check_monitor(check):
-    """Commands and their answers in turn; .. stands for the rest of a long one. Lines that begin with ( are rules.txt from then on."""
+    """Commands and their answers in turn; .. stands for the rest of a long one."""
     document = inputs.read_text(os.path.join(programs.ROOT, "docs", "MONITOR.md")).partition("## Commands")[2]
     held, answers = ref.Monitor(ref.SIX_FILE), []
-    for text, digits, more in re.findall(r"^((?:    \(.*\n)+)|^    ([0-9A-F]+)(\.\.)?(?:\s|$)", document, re.M):
-        if text:
-            check.equal("answers of docs/MONITOR.md before a text", answers, [])
-            held.rules_txt = "".join(line[4:] for line in text.splitlines(keepends=True)).encode()
-        elif answers:
+    for digits, more in re.findall(r"^    ([0-9A-F]+)(\.\.)?(?:\s|$)", document, re.M):
+        if answers:
             answer = answers.pop(0)
             check.equal("an answer of docs/MONITOR.md", answer[:len(digits)] if more else answer, digits)
         else:

@@ -3,9 +3,8 @@
 and whole runs of `say` and `monitor` with the output that reference.py expects.
 
     python3 tests/generate.py say --seed 7 --into DIR       DIR/rules.hex, DIR/stdin, DIR/expected
-    python3 tests/generate.py monitor --seed 7 --into DIR   DIR/rules.txt too
+    python3 tests/generate.py monitor --seed 7 --into DIR
     python3 tests/generate.py lists --seed 7 --into DIR     for `monitor` too: a long one about the exceptions list
-    python3 tests/generate.py festival --seed 7 --into DIR  for `monitor` too: a Festival text converted and read back
     python3 tests/generate.py stats --count 300 --seed 1    how often each answer and refusal occurs
 """
 
@@ -14,12 +13,10 @@ import collections
 import os
 import random
 import sys
-from typing import NamedTuple
 
 import classes
 import contested
 import contexts
-import festival
 import lists
 import reference as ref
 import sheets
@@ -31,20 +28,6 @@ def split_lines(data):
     """Lines end at 0A only."""
     parts = data.split(b"\n")
     return [p + b"\n" for p in parts[:-1]] + ([parts[-1]] if parts[-1] else [])
-
-
-class Run(NamedTuple):
-    """A run of a program: the files of its folder (None: missing), the lines of its input, what it must write."""
-    rules_hex: bytes | None
-    lines: list
-    expected: bytes
-    rules_txt: bytes | None = None
-
-
-def written(module, program, run):
-    """What the reference, or a copy of it, has the program write in a run; `say` reads no rules.txt."""
-    texts = {} if program == "say" else {"rules_txt": run.rules_txt}
-    return getattr(module, program)(run.rules_hex, b"".join(run.lines), **texts)
 
 
 class Source:
@@ -392,18 +375,14 @@ class Source:
 
     # Whole sessions of `monitor` ---------------------------------------------------------
 
-    def monitor_session(self, texts, length=60):
-        """A run: each command is made for the state the last one left. Conversions change nothing that is held, so that another source,
-        `texts`, chooses the text and puts them among the others."""
-        rules_hex, rules_txt = self.say_rules(), festival.some_file(texts)
-        held, alphabet = ref.Monitor(rules_hex, rules_txt), self.alphabet()
+    def monitor_session(self, length=60):
+        """(rules.hex or None, lines, answers): each command is made for the state the last one left."""
+        rules_hex = self.say_rules()
+        held, alphabet = ref.Monitor(rules_hex), self.alphabet()
         lines, answers = [], []
         # Most sessions start with something to speak by.
         bodies = [b"\x13", lists.BUILDING] if self.chance(0.6) else []
         for _ in range(self.upto(length)):
-            if texts.chance(0.05):
-                lines.append(frame_line(festival.command(texts, rules_txt)))
-                answers.append(held.answer(lines[-1][:-1]))
             bodies = bodies or self.commands(held, alphabet)
             line = frame_line(bodies.pop(0))
             if self.chance(0.04):
@@ -421,7 +400,7 @@ class Source:
         if lines and self.chance(0.05):
             lines.append(self.pick([b"13ED", b"0", frame_line(b"\x1F")[:-1]]))
             answers.append(held.answer(None))
-        return Run(rules_hex, lines, b"".join(answers), rules_txt)
+        return rules_hex, lines, answers
 
     def commands(self, held, alphabet):
         """One command, or several that belong together: a name and the count of its contested letters, a sheet and what it left, a change of
@@ -521,28 +500,24 @@ class Source:
 
 
 def say_case(seed):
+    """(rules.hex or None, input lines, expected output)."""
     rules_hex, names = Source(f"say {seed}").say_run()
-    return Run(rules_hex, split_lines(names), ref.say(rules_hex, names))
+    return rules_hex, split_lines(names), ref.say(rules_hex, names)
 
 
 def monitor_case(seed):
-    return Source(f"monitor {seed}").monitor_session(Source(f"texts {seed}"))
+    rules_hex, lines, answers = Source(f"monitor {seed}").monitor_session()
+    return rules_hex, lines, b"".join(answers)
 
 
 def lists_case(seed):
     lines, answers = lists.session(Source(f"lists {seed}"))
-    return Run(None, lines, b"".join(answers))
-
-
-def festival_case(seed):
-    source = Source(f"festival {seed}")
-    rules_txt = festival.some_file(source)
-    return conversation(lambda: festival.conversions(source, rules_txt), festival.converted(rules_txt), rules_txt)
+    return None, lines, b"".join(answers)
 
 
 # What is compared: the program that it runs, and a run by its seed.
-PROGRAMS = {"say": "say", "monitor": "monitor", "lists": "monitor", "festival": "monitor"}
-CASES = {"say": say_case, "monitor": monitor_case, "lists": lists_case, "festival": festival_case}
+PROGRAMS = {"say": "say", "monitor": "monitor", "lists": "monitor"}
+CASES = {"say": say_case, "monitor": monitor_case, "lists": lists_case}
 
 
 # Fixed runs ---------------------------------------------------------------------------
@@ -564,12 +539,12 @@ def long_lines():
                      speech_line(command, most + 1)[:-1], longest + b"\r", longest + longest, longest + b"13ED",
                      b"0" * 100_000]:
             lines += [text + b"\n", frame_line(b"\x17" + bytes(4))]
-    return Run(None, lines, ref.monitor(None, b"".join(lines)))
+    return None, lines, ref.monitor(None, b"".join(lines))
 
 
-def conversation(bodies, rules_hex=None, rules_txt=None):
+def conversation(bodies, rules_hex=None):
     lines = [frame_line(body) for body in bodies()]
-    return Run(rules_hex, lines, ref.monitor(rules_hex, b"".join(lines), rules_txt), rules_txt)
+    return rules_hex, lines, ref.monitor(rules_hex, b"".join(lines))
 
 
 def conversations(fixed):
@@ -579,23 +554,18 @@ def conversations(fixed):
 def short_names():
     """Every name of up to four of k, n, e, a and the space bar, by the six rules."""
     lines = [frame_line(b"\x03" + name) for name in lists.short_names()]
-    return Run(ref.SIX_FILE, lines, ref.say(ref.SIX_FILE, b"".join(lines)))
+    return ref.SIX_FILE, lines, ref.say(ref.SIX_FILE, b"".join(lines))
 
 
 def one_file(rules_hex, names=(b"\x0B\5", b"\x0E\x0B\1\x0D", b"\x0B")):
     """A file, sound or not, and names by it."""
     lines = [frame_line(b"\x03" + name) for name in names]
-    return Run(rules_hex, lines, ref.say(rules_hex, b"".join(lines)))
+    return rules_hex, lines, ref.say(rules_hex, b"".join(lines))
 
 
 def refused_file():
     """Bodies about a file that is refused: the ruleset, its edit count and its tables stay."""
     return lists.SIX + [lists.BUILDING, b"\x13", lists.ASKING_EDITS, lists.walking(lists.KNEE), classes.WRITING, b"\x1F", b"\x13", classes.WRITING]
-
-
-def festival_run(text):
-    """A text converted, with much room and with little, and what it gives read back."""
-    return conversation(lambda: festival.whole(text), festival.converted(text), text)
 
 
 LOW_FILE = frame_line(b"\1\1" + two(6) + two(5)) + ref.SIX_FILE.partition(b"\n")[2]
@@ -617,13 +587,11 @@ FIXED = {"say": {"short names": short_names, **files()},
                      "the longest file": lambda: conversation(contexts.longest_file, ref.file_text(ref.longest_ruleset())),
                      "many rules": lambda: conversation(contested.many_rules, contested.many_rules_file()),
                      "many states": lambda: conversation(contexts.many_states, ref.file_text(contexts.many_states_ruleset()))},
-         "lists": conversations(lists.FIXED),
-         "festival": {"what conversions leave": lambda: conversation(festival.leaving, ref.SIX_FILE, ref.SIX_TEXT),
-                      **{name: lambda text=text: festival_run(text) for name, text in festival.texts().items()}}}
+         "lists": conversations(lists.FIXED)}
 
 
 def runs(kind, count, seed):
-    """(which, run) for every run of a comparison: the fixed ones first."""
+    """(which, case) for every run of a comparison: the fixed ones first."""
     for name, case in FIXED[kind].items():
         yield name, case()
     for k in range(seed, seed + count):
@@ -635,7 +603,7 @@ def stats(count, seed):
     for what, case in CASES.items():
         seen = collections.Counter()
         for k in range(count):
-            for line in case(seed + k).expected.splitlines():
+            for line in case(seed + k)[2].splitlines():
                 kind = int(line[:2], 16)
                 number = {5: line[2:4], 8: line[6:8]}.get(kind)
                 seen[f"{kind:02X}" + (f" refusal {int(number, 16)}" if number else "")] += 1
@@ -654,9 +622,9 @@ def main():
     if given.what == "stats":
         stats(given.count, given.seed)
         return
-    run = CASES[given.what](given.seed)
+    rules_hex, lines, expected = CASES[given.what](given.seed)
     os.makedirs(given.into, exist_ok=True)
-    files = {"rules.hex": run.rules_hex, "rules.txt": run.rules_txt, "stdin": b"".join(run.lines), "expected": run.expected}
+    files = {"rules.hex": rules_hex, "stdin": b"".join(lines), "expected": expected}
     for name, data in files.items():
         if data is not None:
             with open(os.path.join(given.into, name), "wb") as file:

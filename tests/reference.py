@@ -13,10 +13,8 @@ Readings of open points are marked 'Reading:'.
 """
 
 import math
-import re
 import sys
 from array import array
-from bisect import bisect_left
 from collections import Counter
 from functools import lru_cache
 from hashlib import blake2b
@@ -50,7 +48,6 @@ MAX_RIGHT_STATES = 1 + MAX_RULES * (MAX_TARGET + MAX_CONTEXT)
 LONGEST_LINES = ((1, 6), (len(CLASS_SYMBOLS), 3 + MAX_CLASS), (MAX_RULES, 1 + SLOT))
 LONGEST_FILE = sum(lines * (2 * (size + 1) + 1) for lines, size in LONGEST_LINES)
 LONGEST_INPUT = 32_768  # bytes of either input of `say`
-LONGEST_TEXT = 65_536   # bytes of the Festival text that `monitor` converts
 SAY_WORDS = 32_768
 SAY_SETS = 4_096
 SAY_PHONES = 256
@@ -697,61 +694,6 @@ def read_file(data, memory_length=MEMORY):
     return Ruleset(tuple(rules), last, tuple(classes))
 
 
-# Festival text (document 02, request 9) ------------------------------------------
-
-GAP = rb"[ \n]+"        # between any two neighbouring tokens
-
-
-def run_of(token):
-    """None or more, each behind a gap."""
-    return rb"((?:" + GAP + token + rb")*)"
-
-
-SYMBOLS_WRITTEN, PHONES_WRITTEN = run_of(rb"[a-z#]"), run_of(rb"[0-9A-F]{2}")
-WRITTEN_RULE = (rb"\(" + SYMBOLS_WRITTEN + GAP + rb"\[" + SYMBOLS_WRITTEN + GAP + rb"\]" + SYMBOLS_WRITTEN + GAP + rb"=" + PHONES_WRITTEN
-                + GAP + rb"\)")
-FESTIVAL_TEXT = rb"[ \n]*(?:" + WRITTEN_RULE + rb"(?:" + GAP + WRITTEN_RULE + rb")*[ \n]*)?"
-# What completes a beginning of such a text: outside a rule, in its left context, target, right context and phones, within a phone.
-COMPLETIONS = (b"", b" [ ] = )", b" ] = )", b" = )", b" )", b"0 )")
-
-
-def is_festival(text):
-    return re.fullmatch(FESTIVAL_TEXT, text) is not None
-
-
-def begins_festival(text):
-    """Some text of the form begins so."""
-    return any(is_festival(text + completion) for completion in COMPLETIONS)
-
-
-@lru_cache(maxsize=16)
-def first_wrong(text):
-    """The first byte that no text of the form can have there, or the length of a text that ends early: the shortest beginning that no
-    text of the form has ends behind it. Looked for by halves, since what begins a beginning is one."""
-    return bisect_left(range(len(text) + 1), True, key=lambda length: not begins_festival(text[:length])) - 1
-
-
-@lru_cache(maxsize=16)
-def written_rules(text):
-    """The rules of a text of the form."""
-    symbols = lambda part: bytes(BOUNDARY if token == b"#" else 1 + token[0] - ord("a") for token in part.split())
-    return tuple(Rule(symbols(left), symbols(target), symbols(right), bytes.fromhex(phones.decode()))
-                 for left, target, right, phones in re.findall(WRITTEN_RULE, text))
-
-
-def convert(text, room):
-    """The rule file of a Festival text, or 25, 26 instead at a repeat mark, then 6, 21, 15."""
-    if not is_festival(text):
-        place = first_wrong(text)
-        return Refusal(26 if text[place:place + 1] in (b"*", b"+") else 25, place)
-    rules = written_rules(text)
-    if not all(map(has_shape, rules)):
-        return Refusal(6, 0)
-    if len(rules) > MAX_RULES:
-        return Refusal(21, 0)
-    return write_file(Ruleset(tuple(Numbered(number, rule) for number, rule in enumerate(rules, 1)), len(rules)), room)
-
-
 # The tables, over the literal rules ----------------------------------------------
 
 def left_pattern(rule):
@@ -1058,8 +1000,8 @@ class Monitor:
     its end.
     """
 
-    def __init__(self, rules_hex=None, rules_txt=None):
-        self.rules_hex, self.rules_txt = rules_hex, rules_txt       # of the working folder; None: missing
+    def __init__(self, rules_hex=None):
+        self.rules_hex = rules_hex
         self.hold(EMPTY)
         self.words = array("H", [0xFFFF]) * MONITOR_WORDS
         self.sets = array("Q", [2**64 - 1]) * MONITOR_SETS
@@ -1267,11 +1209,6 @@ class Monitor:
         self.held = self.held._replace(edits=edits)
         return frame_line(b"\x06")
 
-    def convert(self, room):
-        """A missing file counts as empty. What is too long is wrong behind the last byte that is read, whatever it says."""
-        text = self.rules_txt if self.rules_txt is not None else b""
-        return Refusal(25, LONGEST_TEXT) if len(text) > LONGEST_TEXT else convert(text, min(room, LONGEST_FILE))
-
     # First byte: the call and the sizes of its fixed fields.
     COMMANDS = {
         0x10: (add, 2, 1, 1, 1, 1), 0x11: (drop, 2), 0x12: (move, 2, 2), 0x13: (read,),
@@ -1282,13 +1219,12 @@ class Monitor:
         0x22: (read_out, 4), 0x23: (show_read_out, 4, 1), 0x24: (clear_list,), 0x25: (lend_units, 4),
         0x26: (store_unit, 4, 4), 0x27: (show_contested,), 0x28: (set_class, 1),
         0x29: (show_edits,), 0x2A: (store_edits, 4), 0x2B: (sheet, 4, 4, 2, 2),
-        0x2C: (convert, 4),
     }
 
 
-def monitor(rules_hex, data, rules_txt=None):
+def monitor(rules_hex, data):
     """Standard output of a whole `monitor` session."""
-    held = Monitor(rules_hex, rules_txt)
+    held = Monitor(rules_hex)
     return b"".join(held.answer(line) for line in lines_of(data))
 
 
@@ -1895,60 +1831,6 @@ def check_sheets(check, six):
     said("nothing that leaves the tables", typed("knee,keen"), [knee, keen], 8 + 10, tables=hurt)
 
 
-SIX_TEXT = b"( # [ k ] n = )\n( [ k ] = 6B )\n( [ e ] # = )\n( [ e e ] = 69 )\n( [ e ] = 65 )\n( [ n ] = 6E )\n"
-
-
-def check_festival(check):
-    """Texts of the form and what they give; what is no such text, with its place; the order of the refusals."""
-    plain, full = b"( [ a ] = )", b"( # a b c [ a b c z ] x y z # = 01 7F 80 FF )"
-    ruleset = lambda *rules: Ruleset(tuple(Numbered(number, rule) for number, rule in enumerate(rules, 1)), len(rules))
-    check.equal("festival, the six rules", convert(SIX_TEXT, len(SIX_FILE)), SIX_FILE)
-    full_rule = Rule(b"\0\1\2\3", b"\1\2\3\x1A", b"\x18\x19\x1A\0", b"\x01\x7F\x80\xFF")
-    for what, text, rules in [
-            ("no bytes", b"", ()), ("white alone", b" \n \n", ()), ("a rule", plain, (Rule(b"", b"\1"),)), ("a full rule", full, (full_rule,)),
-            ("lines", plain.replace(b" ", b"\n"), (Rule(b"", b"\1"),)), ("much white", b"\n " + full.replace(b" ", b" \n\n ") + b" \n", (full_rule,)),
-            ("two rules", plain + b" " + full, (Rule(b"", b"\1"), full_rule)), ("512 rules", (plain + b"\n") * 512, (Rule(b"", b"\1"),) * 512)]:
-        file = file_text(ruleset(*rules))
-        check.equal("festival, " + what, convert(text, LONGEST_FILE), file)
-        check.equal(f"festival, {what}, read back", read_file(file), ruleset(*rules))
-        check.equal(f"festival, {what}, just enough", convert(text, len(file)), file)
-        check.equal(f"festival, {what}, a byte short", convert(text, len(file) - 1), (15, len(file)))
-    for text, wanted in [
-            (b"(", (25, 1)), (b" x", (25, 1)), (b"( [ a ] = 0 )", (25, 11)), (b"( [ a ] = 0f )", (25, 11)), (b"( [ a ] = 0FF )", (25, 12)),
-            (b"( [ a ] = 0F)", (25, 12)), (b"( [ a ] =)", (25, 9)), (b"( [ a ] = ) )", (25, 12)), (b"( [ a ] = )( [ b ] = )", (25, 11)),
-            (b"([ a ] = )", (25, 1)), (b"( ab [ a ] = )", (25, 3)), (b"( A [ a ] = )", (25, 2)), (b"( a [ a ] b [ = )", (25, 12)), (b"( a = )", (25, 4)),
-            (b"( [ a ] ] = )", (25, 8)), (b"( [ a ] = a )", (25, 10)), (b"( [ a ] = # )", (25, 10)), (b"( [ a ] = 0F = )", (25, 13)), (b"( ( [ a ] = )", (25, 2)),
-            (b"( [ a ] = 0*", (26, 11)), (b"( a* [ a ] = )", (26, 3)), (b"( a + [ a ] = )", (26, 4)), (b"*", (26, 0)), (b"( [ a ] = )+", (26, 11)),
-            (b"( [ a ] = ) x *", (25, 12)), (b"( [ a ] = ) * x", (26, 12)), (b"( [ 0 ] = )", (25, 4)), (b"( [ a ] = \t)", (25, 10)), (b"( [ a ] = )\r\n", (25, 11)),
-            (b"( [ a ] = )\0", (25, 11)), (b"\xFF", (25, 0)), (b"( [ ` ] = )", (25, 4)), (b"( [ { ] = )", (25, 4)), (b"( [ a ] = 0G )", (25, 11)),
-            (b"( [ a ] = 0@ )", (25, 11)), (b"( [ a ] = 0: )", (25, 11)), (b"( [ a ] = 0/ )", (25, 11))]:
-        check.equal(f"festival, {text}", convert(text, 0), wanted)
-    for text in (plain, full):
-        for at in (at for at, byte in enumerate(text) if byte == ord(" ")):
-            check.equal(f"festival, touching at {at} of {text}", convert(text[:at] + text[at + 1:], 0), (25, at))
-    for length in range(len(full) + 1):
-        wanted = (25, length) if 0 < length < len(full) else (15, 15 if length == 0 else 15 + 49)
-        check.equal(f"festival, the first {length} bytes", convert(full[:length], 0), wanted)
-        # By definition, and not by halves: the longest beginning that is one.
-        for text in (full[:length] + b"+" + full[length:], full[:length] + full[length + 1:], full[:length] + b"a" + full[length:]):
-            beginnings = [at for at in range(len(text) + 1) if begins_festival(text[:at])]
-            check.equal("what begins a beginning is one", beginnings, list(range(len(beginnings))))
-            check.equal(f"festival, {text}", first_wrong(text) if not is_festival(text) else len(text), beginnings[-1])
-    long = lambda part: b" ".join([part] * 5)
-    broken = [b"( [ ] = )", b"( [ # ] = )", b"( [ a # ] = )", b"( a # [ a ] = )", b"( # # [ a ] = )", b"( [ a ] # a = )", b"( [ a ] # # = )", b"( [ a ] = 00 )",
-              b"( [ a ] = 0F 00 )", b"( %b [ a ] = )" % long(b"a"), b"( [ %b ] = )" % long(b"a"), b"( [ a ] %b = )" % long(b"a"), b"( [ a ] = %b )" % long(b"0F")]
-    for text in broken:
-        check.equal(f"festival, 6 of {text}", convert(text, LONGEST_FILE), (6, 0))
-        check.equal(f"festival, 6 of {text} among others", convert(plain + b" " + text + b" " + plain, 0), (6, 0))
-        check.equal(f"festival, 25 before 6 of {text}", convert(text + b" " + plain + b"x", 0), (25, len(text + plain) + 1))
-        check.equal(f"festival, 6 of {text} before 21", convert((plain + b" ") * 512 + text, 0), (6, 0))
-    many = (plain + b" ") * 513
-    check.equal("festival, 21 before 15", convert(many, 0), (21, 0))
-    check.equal("festival, 25 before 21", convert(many + b"(", 0), (25, len(many) + 1))
-    check.equal("festival, 26 before 21", convert(many + b"+", 0), (26, len(many)))
-    check.equal("festival, 15 of 512 full rules", convert((full + b" ") * 512, 0), (15, 15 + 512 * 49))
-
-
 def check_limits(check):
     """The documents' numbers, with those of the memory that a host lends, beside what follows here from the limits."""
     check.equal("state bounds", (MAX_LEFT_STATES, MAX_RIGHT_STATES), (2_049, 4_097))
@@ -2229,18 +2111,6 @@ def check_programs(check, six):
             ("phones stay", "1C", ["0A6B6E6B696E" + "EE" * 251])]:
         wanted = b"".join(frame_line(bytes.fromhex(line)) for line in wanted)
         check.equal("monitor, sheets: " + what, held.answer(frame_line(bytes.fromhex(body))[:-1]), wanted)
-    whole, empty = "2CFFFFFFFF", frame_line(b"\1\1" + bytes(4))
-    for what, text, body, wanted in [
-            ("missing", None, whole, empty), ("empty", b"", whole, empty), ("six rules", SIX_TEXT, whole, SIX_FILE),
-            ("exact room", SIX_TEXT, "2C00000091", SIX_FILE), ("15", SIX_TEXT, "2C00000090", (15, 145)), ("no room", None, "2C00000000", (15, 15)),
-            ("no lent bytes", SIX_TEXT, "2C", (13, 0)), ("three bytes", SIX_TEXT, "2CFFFFFF", (13, 0)), ("five bytes", SIX_TEXT, whole + "00", (13, 0)),
-            ("65,536 bytes", SIX_TEXT.ljust(LONGEST_TEXT), whole, SIX_FILE), ("65,536 bytes, the last wrong", b"+".rjust(LONGEST_TEXT), whole, (26, 65_535)),
-            ("65,536 bytes, ended early", b"(".rjust(LONGEST_TEXT), whole, (25, 65_536)), ("65,537 bytes", b" " * 65_537, whole, (25, 65_536)),
-            ("65,537 bytes, the first wrong", b"+" * 65_537, whole, (25, 65_536)), ("65,537 bytes, no room", b" " * 65_537, "2C00000000", (25, 65_536))]:
-        held = Monitor(SIX_FILE, text)
-        check.equal("monitor, festival: " + what, held.answer(frame_line(bytes.fromhex(body))[:-1]),
-                    refusal_line(Refusal(*wanted)) if isinstance(wanted, tuple) else wanted)
-        check.equal(f"monitor, festival: {what}, the ruleset stays", held.answer(frame_line(b"\x14" + four(15))[:-1]), empty)
     too_long = frame_line(bytes.fromhex("050200000000"))
     for digits, wanted in [(4_095, UNSOUND), (4_096, too_long), (4_097, UNSOUND), (4_098, UNSOUND)]:
         line = frame_line(b"\x17" + bytes(4) + b"\5" * (digits // 2 - 6))[:-1].ljust(digits, b"0")
@@ -2258,7 +2128,6 @@ def self_test():
     check_list(check, six)
     check_stale(check, six)
     check_sheets(check, six)
-    check_festival(check)
     check_limits(check)
     check_contexts(check)
     check_tables(check)
@@ -2267,17 +2136,12 @@ def self_test():
     return 1 if check.failed else 0
 
 
-def file_here(name, longest):
-    """As much of it as tells that it is too long; None: missing."""
+def rules_hex_here():
     try:
-        with open(name, "rb") as file:
-            return file.read(longest + 1)
+        with open("rules.hex", "rb") as file:
+            return file.read(LONGEST_INPUT + 1)
     except OSError:
         return None
-
-
-def rules_hex_here():
-    return file_here("rules.hex", LONGEST_INPUT)
 
 
 def main(arguments):
@@ -2289,7 +2153,7 @@ def main(arguments):
     if arguments == ["monitor"]:
         held = Monitor()
         for line in sys.stdin.buffer:
-            held.rules_hex, held.rules_txt = rules_hex_here(), file_here("rules.txt", LONGEST_TEXT)
+            held.rules_hex = rules_hex_here()
             try:
                 answer = held.answer(line[:-1] if line.endswith(b"\n") else None)
             except Unspecified:

@@ -121,9 +121,9 @@ def refused_names():
               sheet_of([long]), sheet_of([b"\5" * 255, b"\x0B" * 64]), typed("knee,keen,kn,eke"), typed("keenkeen,kn,k,keen,e"), typed("a,knee a,knee")]
     rooms = [(256, 64), (0xFFFF, 0xFFFF), (0, 64), (256, 0), (1, 64), (2, 3), (3, 64), (3, 3), (4, 5), (256, 4), (5, 64), (6, 7), (256, 8)]
     bodies = SIX + [BUILDING] + left([speaking(sheet, *room) for sheet in sheets for room in rooms])
-    # Each length of a name, and sheets that fill the monitor's phones and numbers, also where more are lent than it has.
+    # Each length of a name, and sheets that fill the monitor's phones and numbers.
     bodies += left([speaking(sheet_of([b"\x0B" * count, KNEE])) for count in (1, 63, 64, 65, 66, 128, 255)])
-    bodies += left([speaking(sheet_of([b"\x0B" * count] * 10), 256, numbers) for count in (6, 7, 64) for numbers in (64, 0xFFFF)])
+    bodies += left([speaking(sheet_of([b"\x0B" * count] * 10)) for count in (6, 7, 64)])
     return bodies + left([speaking(b"\1\x0B" * 100), speaking(b"\1\5" * 100), speaking(typed("keen,kneekneekneekneekneeknee,keen"), 60, 63)])
 
 
@@ -135,7 +135,7 @@ def listed():
              " ,knee", "  , ", "nab,knee,eke nab eke nab,knee", "ab,ab ab,knee ab"]
     for lent in (ALL, 0):
         bodies += left([speaking(typed(text), phones, words=lent) for text in texts for phones in (256, 3, 0)])
-    bodies += left([speaking(typed(" ,knee, , , ,knee,n"), phones) for phones in (0xFFFF, 256, 132, 131, 66, 63)])
+    bodies += left([speaking(typed(" ,knee, , , ,knee,n"), phones) for phones in (256, 132, 131, 66, 63)])
     return bodies + [counting(9)] + left([speaking(typed(text)) for text in texts])
 
 

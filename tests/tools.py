@@ -68,9 +68,6 @@ FILES = {       # in the folder that the tools are called in
     "sum.hex": SIX.replace(b"F2", b"F3"),
     "context.hex": LONG_CONTEXT,
     "large.rules": "".join(f"[{a}{b}] = 61\n" for a in "abcdefghijklmnopqrs" for b in "abcdefghijklmnopqrstuvwxyz").encode(),
-    "rules.txt": b"( [ k ] = 6B )\n",
-    "touching.txt": b"( [ k ] = 6B )( [ e ] = 65 )\n",
-    "repeat.txt": b"( k+ [ n ] = 6E )\n",
     "source.rules": b"[k] = 6B\n[e] = \xE7",
     "three.rules": "letter 1B ç\n# [çk] # = 61\n[ç] k = 62 63\n[ç] =\n[k] = 64\n".encode(),
     "classes.rules": CLASSES.encode(),
@@ -355,8 +352,7 @@ def monitor(tools):
             ("store unit 1 0xFF", "2600000001000000FFDA"), ("contested", "27D9"), ("repeat 2 remove @", "210101DD\n210102DC"),
             ("repeat 1 exception @@ = @61", "20040101010101016175"), ("class \\40 a e", "2840010592"), ("class \\40", "284098"),
             ("class k ba", "280B0201CA"), ("sheet knee,n", "2BFFFFFFFFFFFFFFFF01000040040B0E0505010E66"), ("sheet", "2BFFFFFFFFFFFFFFFF010000409C"),
-            ("sheet k n , words=1 sets=2 phones=3 numbers=4", "2B000000010000000200030004030B3F0E0070"), ("edits", "29D7"), ("edits 0", "2A00000000D6"), ("edits 0x10002", "2A00010002D3"),
-            ("convert", "2CFFFFFFFFD8"), ("convert bytes=144", "2C0000009044"), ("add 0 \\40 [k] = 61", "10000001010001400B6141")]:
+            ("sheet k n , words=1 sets=2 phones=3 numbers=4", "2B000000010000000200030004030B3F0E0070"), ("edits", "29D7"), ("edits 0", "2A00000000D6"), ("edits 0x10002", "2A00010002D3"), ("add 0 \\40 [k] = 61", "10000001010001400B6141")]:
         tools.expect(["monitor.py", "--frames"], 0, frames + "\n", given=text.encode())
     tools.expect(["monitor.py"], 0, "> exception k n = 61\ndone, names 1, states 4\n> exception \\1D = 6263\ndone, names 2, states 5\n"
                                     "> exceptions\nk n = 61\n\\1D = 62 63\n> plain k_n\n61 by no rules, 0 steps\n"
@@ -399,14 +395,6 @@ def monitor(tools):
                  "> frame 2B FFFFFFFF FFFFFFFF 0100 0040 01\nrefused 24 at 0: the sheet has more than 256 names, or its last name is cut short (0 steps)\n",
                  given=b"read\nbuild\nsheet knee, nab, eke knee\ncontested\nsheet knee, knee phones=3\nsheet\nsheet knee words=3\n"
                        b"frame 2B FFFFFFFF FFFFFFFF 0100 0040 01\n")
-    # The text that is named, or the folder's; the rules in either case are the folder's.
-    both = b"convert\nread\n"
-    tools.expect(["monitor.py"], 0, "> convert\n010100010001FC\n020001000100010B6B85\n> read\ndone, last 6\n", given=both)
-    for name, refusal in [("touching.txt", "refused 25 at 14: the text is not of Festival's form at that place, or ends early"),
-                          ("six.hex", "refused 25 at 0: the text is not of Festival's form at that place, or ends early"),
-                          ("repeat.txt", "refused 26 at 3: a repeat mark, * or +, stands at that place of the text")]:
-        tools.expect(["monitor.py", "--text", name], 0, f"> convert\n{refusal}\n> read\ndone, last 6\n", given=both)
-    tools.expect(["monitor.py", "--text", "missing.txt"], 2, err="monitor: missing.txt: No such file or directory\n", given=both)
     tools.expect(["monitor.py", "--rules", os.path.join(tools.root, "examples", "basque.hex")], 0,
                  "> exception ñ = 61\ndone, names 1, states 2\n> exceptions\nñ = 61 [a]\n", given="exception ñ = 61\nexceptions\n".encode())
     names = "".join(f"{letter}{letter}{letter} = 61 62 63\n" for letter in "abcdefghijklmnopqrstuvwxyz")
@@ -430,7 +418,7 @@ def monitor(tools):
                         ("lend some", "'some' is no number"), ("lend 4294967296", "4294967296 does not fit into 4 bytes"),
                         ("store list 0 0", "store word, store set or store unit"), ("exceptions now", "exceptions has other fields: see help"),
                         ("contested knee", "contested has other fields: see help"), ("edits 1 2", "edits has other fields: see help"),
-                        ("edits none", "'none' is no number"), ("edits 4294967296", "4294967296 does not fit into 4 bytes"), ("convert rules.txt", "unknown: rules.txt"),
+                        ("edits none", "'none' is no number"), ("edits 4294967296", "4294967296 does not fit into 4 bytes"),
                         ("show readout", "show words, sets or readout INDEX COUNT, show phones or show numbers")]:
         tools.expect(["monitor.py"], 2, f"> {text}\nmonitor: {fault}\n", given=text.encode() + b"\n")
 
@@ -544,7 +532,7 @@ def time_left(tools):
     for seconds, text in [(0.1, "10 s"), (10, "10 s"), (11, "20 s"), (89, "90 s"), (90, "2 min"), (149, "2 min"), (151, "3 min")]:
         tools.compare(f"{seconds} s", progress.roughly(seconds), text)
 
-    tools.compare("without the toolchain's crates", programs.crates_of("rule_files"), {"rule_files"})
+    tools.compare("without the toolchain's crates", programs.crates_of("rules_hex"), {"rules_hex"})
     tools.compare("crates not in the file", programs.crates_of("nothing"), {"nothing"})
     tools.compare("crates of crates", {"say", "rules", "numbers"} - programs.crates_of("say"), set())
     needed = programs.crates_of("say") | programs.crates_of("monitor")

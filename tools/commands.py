@@ -77,10 +77,6 @@ class Commands:
         room, = only_lent(typed, bytes=ALL)
         return b"\x14" + four(room)
 
-    def convert(self, *typed):
-        room, = only_lent(typed, bytes=ALL)
-        return b"\x2C" + four(room)
-
     def build(self, *typed):
         room, set_room = only_lent(typed, words=ALL, sets=ALL)
         return b"\x15" + four(room) + four(set_room)

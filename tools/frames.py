@@ -29,8 +29,6 @@ REFUSALS = {
     22: "the tables are from before an edit of the rules",
     23: "the last edit count, 4,294,967,295, is reached",
     24: "the sheet has more than 256 names, or its last name is cut short",
-    25: "the text is not of Festival's form at that place, or ends early",
-    26: "a repeat mark, * or +, stands at that place of the text",
 }
 
 

@@ -7,7 +7,6 @@
                                   text names it so)
     read                          rules.hex of the working folder (or the --rules file)
     write [bytes=N]               build [words=N] [sets=N]
-    convert [bytes=N]             rules.txt of the working folder (or the --text file), rules in Festival's writing, as a rule file
     say NAME [words=N] [sets=N] [phones=N] [numbers=N]      the walk through the tables
     plain NAME [phones=N] [numbers=N]                       the plain reading
     sheet NAME, NAME, .. [words=N] [sets=N] [phones=N] [numbers=N]      a whole transect by walk: names that begin alike share steps
@@ -38,14 +37,12 @@ A space separates the words of a name; _ is one too, at an end or beside another
 \\40 in a name or rule stands for the byte 40. ; starts a comment.
 
     python3 tools/monitor.py --rules examples/six.hex
-    printf 'convert\\n' | python3 tools/monitor.py --text rules.txt
     printf 'read\\nbuild\\nsay knee\\n' | python3 tools/monitor.py --rules examples/six.hex
     printf 'say knee\\n' | python3 tools/monitor.py --frames        only print the frames (of `exceptions`, its first)
 """
 
 import argparse
 import contextlib
-import os
 import re
 import subprocess
 import sys
@@ -213,17 +210,11 @@ def print_frames(alphabet):
                 raise Mistake(f"standard input: line {number}: {mistake}") from None
 
 
-def found(name):
-    """A file of the folder that the tool is called in; None: there is none."""
-    return inputs.read_bytes(name) if os.path.exists(name) else None
-
-
 def main():
     parser = argparse.ArgumentParser(description=__doc__, epilog=inputs.STATUSES,
                                      formatter_class=argparse.RawDescriptionHelpFormatter)
     parser.add_argument("--rules", metavar="FILE", help="what `read` finds: a rule file, NAME.hex, or readable rules "
                                                         "(tools/rules2hex.py --help); default: the folder's rules.hex")
-    parser.add_argument("--text", metavar="FILE", help="what `convert` finds; default: the folder's rules.txt")
     parser.add_argument("--program", metavar="PATH", help="what to run; default: target/bin/monitor")
     parser.add_argument("--frames", action="store_true", help="print each command's line, start no program")
     given = parser.parse_args()
@@ -231,10 +222,7 @@ def main():
     if given.frames:
         return print_frames(alphabet)
     command = programs.command(given.program, "monitor")
-    own = contextlib.nullcontext()      # the folder that the tool is called in
-    if given.rules or given.text:
-        own = programs.folder_with(rule_file if given.rules else found("rules.hex"), inputs.read_bytes(given.text) if given.text else found("rules.txt"))
-    with own as folder:
+    with programs.folder_with(rule_file) if given.rules else contextlib.nullcontext() as folder:
         with subprocess.Popen(command, cwd=folder, stdin=subprocess.PIPE, stdout=subprocess.PIPE) as child:
             return talk(child, alphabet)
 

@@ -87,11 +87,9 @@ def linked(source, folder):
 
 
 @contextlib.contextmanager
-def folder_with(rule_file, text=None):
-    """The programs read rules.hex, and `monitor` rules.txt, of their working folder, so they get a folder of their own; None: missing there."""
+def folder_with(rule_file):
+    """The programs read rules.hex of their working folder, so they get a folder of their own."""
     with tempfile.TemporaryDirectory() as folder:
-        for name, data in (("rules.hex", rule_file), ("rules.txt", text)):
-            if data is not None:
-                with open(os.path.join(folder, name), "wb") as file:
-                    file.write(data)
+        with open(os.path.join(folder, "rules.hex"), "wb") as file:
+            file.write(rule_file)
         yield folder

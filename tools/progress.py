@@ -12,9 +12,9 @@ SECONDS = {
     "minimality": 12, "measures": 7, "phone_strings": 8, "exceptions": 12, "change": 16, "readout": 10, "slots": 10, "edits": 15,
     "fitting": 8, "speech": 12, "reading": 17, "tables": 3, "literals": 5, "side": 16, "count": 11, "patterns": 8, "build": 21,
     "passes": 14, "prefix_tree": 15, "sheet_passes": 13, "table_reading": 15, "walk": 17, "compiled": 15, "many_names": 12, "sheet_name": 17,
-    "sheet_judging": 12, "sheet_answers": 15, "sheet": 30, "frames": 13, "file_format": 3, "rule_lines": 10, "file": 40, "festival": 6,
-    "festival_rule": 9, "conversion": 12, "lines": 4, "answer_lines": 7, "transcript": 10, "rule_files": 3, "say": 43, "command_parts": 23,
-    "sheet_lines": 12, "sheet_command": 20, "commands": 67, "list_commands": 22, "festival_command": 10, "monitor": 56,
+    "sheet_judging": 12, "sheet_answers": 15, "sheet": 30, "frames": 13, "file_format": 3, "file": 40, "lines": 4,
+    "answer_lines": 7, "transcript": 10, "rules_hex": 3, "say": 43, "command_parts": 23, "sheet_lines": 12, "sheet_command": 20, "commands": 67, "list_commands": 22,
+    "monitor": 56,
 }
 
 PROVED = re.compile(r"rt: (\w+) proved \((\d+ s|unchanged)")

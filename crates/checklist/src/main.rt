@@ -68,7 +68,7 @@ fn run<'a>(
     words: &'a mut [u16],
     sets: &'a mut [u64],
 ) {
-    let n = rule_files::read_hex(&mut *buf);
+    let n = rules_hex::read(&mut *buf);
     let file = &buf[..n];
     if !is_prepared(file, &mut *image, &mut *words, &mut *sets) {
         return;

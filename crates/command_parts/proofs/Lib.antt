@@ -1,4 +1,3 @@
 pub mod Replies
 pub mod Shown
 pub mod Eights
-pub mod WrittenBack

@@ -1,15 +1,15 @@
 -- The rule file written into a part of the lent bytes: what is answered, and all of the bytes after it.
 -- Assumes nothing.
-use Prim.Native.Nat.{ℕ, ◌≤◌}
+use Prim.Native.Nat.{ℕ, zero, suc, ◌≤◌}
 use mathlib.Core.Path.{◌≡◌, refl, sym, ap, ◌∙◌, subst}
 use mathlib.Core.Bool.{Bool, true, false, cond}
-use mathlib.Core.List.{List}
+use mathlib.Core.List.{List, [], ◌∷◌}
+use native.Mathlib.Omega.{arith}
 use borrow.Author.Tests.{eq-eqb, ne_eqb, leb-true}
 use lib.Dec.{leb}
 use lib.ListN.{length, take, replicate, take-append-drop, length-replicate}
 use lib.Seq.{length-take-le}
 use Rattle.rules.specs.Memory.{over}
-use Rattle.rules.proofs.Reports.{refused_not_wrote}
 use Rattle.rules.specs.Refusals.{refusal_number, refusal_place, Report, wrote, refused, report_of}
 use Rattle.rules.specs.declared.Refusal.{Refusal}
 use Rattle.image.specs.Image.{valid}
@@ -20,11 +20,16 @@ use Rattle.rules.specs.declared.Written.TheVariants.{Bytes, Refused}
 use Rattle.lines.specs.Printed.{refused_body, refusal_line}
 use Rattle.lines.proofs.Printed.{length_printed}
 use Rattle.file_format.specs.Layout.{longest_file}
-use Rattle.command_parts.specs.Fields.{four, lent_of}
+use Rattle.command_parts.specs.Fields.{four, lent_of, back}
 use Rattle.command_parts.specs.Answers.{malformed_line}
 use Rattle.commands.specs.Filing.{filed_back, filed_in, report_line, file_line, write_line}
 use Rattle.command_parts.proofs.Replies.{Gives, length_malformed}
-use Rattle.command_parts.proofs.WrittenBack.{back_over, same_count}
+
+back_over : (ys xs : List ℕ) (n : ℕ) → length ys ≤ n → n ≤ length xs → back n (over ys (take n xs)) xs ≡ over ys xs
+back_over [] xs n h k = take-append-drop n xs
+back_over (y ∷ ys) xs zero h k = absurd (omega arith)
+back_over (y ∷ ys) [] (suc n) h k = absurd (omega arith)
+back_over (y ∷ ys) (x ∷ xs) (suc n) h k = ap (λ (l : List ℕ). y ∷ l) (back_over ys xs n (omega arith) (omega arith))
 
 -- a writing by its two tests: of the ruleset, and of the room
 abbrev tested : Bool → Bool → List ℕ → List ℕ → Filed
@@ -45,10 +50,16 @@ tested_back true true text out ys n h k = ap (filing (wrote (length text))) (bac
 tested_back true false text out ys n h k = ap (filing (refused 15 (length text))) (take-append-drop n out)
 tested_back false r text out ys n h k = ap (filing (refused 0 0)) (take-append-drop n out)
 
+same_count : (a b : ℕ) → wrote a ≡ wrote b → b ≡ a
+same_count a b e = cc
+
+never : (a b k : ℕ) → refused a b ≡ wrote k → ⊥
+never a b k e = let z : ◌≡◌ {A = ℕ} 0 1 = cc in omega arith
+
 tested_wrote : (v r : Bool) (text ys : List ℕ) (k : ℕ) → (tested v r text ys).report ≡ wrote k → k ≡ length text
 tested_wrote true true text ys k e = same_count (length text) k e
-tested_wrote true false text ys k e = refused_not_wrote 15 (length text) k e
-tested_wrote false r text ys k e = refused_not_wrote 0 0 k e
+tested_wrote true false text ys k e = absurd (never 15 (length text) k e)
+tested_wrote false r text ys k e = absurd (never 0 0 k e)
 
 module _ (n : ℕ) (image : List ℕ) where
   abbrev text : List ℕ

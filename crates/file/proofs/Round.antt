@@ -18,8 +18,7 @@ use Rattle.classes.specs.Classes.{OnlyClasses}
 use Rattle.rules.specs.Limits.{max_number}
 use Rattle.rules.specs.Memory.{over}
 use Rattle.rules.proofs.Cases.{by_bool, and_i}
-use Rattle.rules.specs.Refusals.{accepted, wrote}
-use Rattle.rules.proofs.Reports.{refused_not_wrote}
+use Rattle.rules.specs.Refusals.{accepted, wrote, refused}
 use Rattle.classes.proofs.Bytes.{outside_in}
 use Rattle.image.specs.State.{Ruleset, ruleset_of}
 use Rattle.image.specs.Image.{image_size, last_of, masks_in, classes_of, whole, valid, Edited, outcome}
@@ -109,6 +108,9 @@ read_written file xs out e h =
 
 -- ---- a file written and read
 
+no_wrote : {A : Type 0} (a p n : ℕ) → refused a p ≡ wrote n → A
+no_wrote a p n e = let z : ◌≡◌ {A = ℕ} 0 1 = cc in absurd (omega arith)
+
 same_wrote : (m n : ℕ) → wrote m ≡ wrote n → m ≡ n
 same_wrote m n e = cc
 
@@ -130,15 +132,8 @@ put d out n e =
           let m : length f ≡ n = same_wrote (length f) n (rw (t, u) at e) in
           rw (t, u) (ap (λ (k : ℕ). take k (over f out)) (sym m) ∙ take-append_seam f (drop (length f) out));
     })
-    (λ u. refused_not_wrote 15 (length (encode (ruleset_in d))) n (rw (t, u) at e)))
-    (λ t. refused_not_wrote 0 0 n (rw t at e))
-
--- the file of a well-formed ruleset, read into any memory long enough
-pub loaded_reads : (b : Ruleset) → well_formed b ≡ true → OnlyClasses b.classes → (memory : List ℕ) → image_size ≤ length memory
-    → ((loaded (encode b) memory).reply ≡ accepted) × (ruleset_in (loaded (encode b) memory).image ≡ b)
-loaded_reads b v only memory long =
-    let l = loaded_accepted (encode b) b memory long (accepts b v only) in
-    (ap (λ (q : Edited). q.reply) l, ap (λ (q : Edited). ruleset_in q.image) l ∙ kept b v only memory long)
+    (λ u. no_wrote 15 (length (encode (ruleset_in d))) n (rw (t, u) at e)))
+    (λ t. no_wrote 0 0 n (rw t at e))
 
 pub written_reads_back : (image out memory : List ℕ) (n : ℕ) → Bytes image → image_size ≤ length memory → (filed image out).report ≡ wrote n
     → ((loaded (take n (filed image out).bytes) memory).reply ≡ accepted)
@@ -148,7 +143,6 @@ written_reads_back image out memory n h long e =
     let b = ruleset_in image in
     let v = formed image h p.ok in
     let only = only_classes image in
-    let l = loaded_reads b v only memory long in (
-      ap (λ (f : List ℕ). (loaded f memory).reply) p.front ∙ l.0,
-      ap (λ (f : List ℕ). ruleset_in (loaded f memory).image) p.front ∙ l.1,
-    )
+    let l : loaded (take n (filed image out).bytes) memory ≡ outcome accepted (whole (ledger_for b) memory) =
+    ap (λ (f : List ℕ). loaded f memory) p.front ∙ loaded_accepted (encode b) b memory long (accepts b v only) in
+    (ap (λ (q : Edited). q.reply) l, ap (λ (q : Edited). ruleset_in q.image) l ∙ kept b v only memory long)

@@ -1,23 +1,28 @@
--- The line of the rule at a place of an image, by its fields and by its bytes where they lie.
+-- The frame and the line of the rule at a place of an image, as the writer sends its parts.
 -- Assumes nothing.
-use Prim.Native.Nat.{ℕ, ◌+◌, ◌-◌, ◌*◌, ◌≤◌, ◌<◌}
+use Prim.Native.Nat.{ℕ, ◌+◌, ◌*◌, ◌%◌, ◌≤◌, ◌<◌}
 use mathlib.Core.Path.{◌≡◌, sym, ap, ◌∙◌}
-use mathlib.Core.List.{List}
+use mathlib.Core.List.{List, [], ◌∷◌, ◌++◌, append_assoc}
 use mathlib.Core.Bool.{true}
 use native.Mathlib.Omega.{arith}
-use lib.ListN.{length, get_or, take, drop}
-use lib.Seq.{drop-drop}
+use lib.ListN.{length, length-append}
 use Rattle.rules.specs.Limits.{max_context, max_target, max_phones}
-use Rattle.rules.specs.Shape.{Entry, view}
-use Rattle.rules.proofs.Laws.{length_first}
-use Rattle.rules.proofs.Memory.{tail_is}
-use Rattle.rule_bytes.specs.RuleBytes.{left_start, target_start, right_start, phones_start, rule_size, rule_of}
-use Rattle.image.specs.Image.{head_size, slot_size, number_size, slot_of, slot_start, rule_start, valid, count_of, entry_at, numbered_at}
-use Rattle.image.proofs.Entries.{Shaped, entry_slot, entry_shaped, number_is_at}
+use Rattle.rules.specs.Shape.{Entry}
+use Rattle.image.specs.Image.{valid, count_of, entry_at, numbered_at}
+use Rattle.image.proofs.Entries.{entry_shaped, number_is_at}
+use Rattle.frames.specs.Lines.{framed, sum_byte}
+use Rattle.frames.proofs.Lines.{length_line}
 use Rattle.file_format.specs.Layout.{line_size, front_size, longest_frame}
-use Rattle.file_format.specs.File.{rule_line}
-use Rattle.rule_lines.specs.Fields.{entry_bytes, Within}
+use Rattle.file_format.specs.File.{rule_body, rule_line}
+use Rattle.file.specs.Loading.{field_bytes, body_bytes}
 use Rattle.file_format.proofs.Lengths.{length_rule}
+
+-- four fields sent one after the other
+pub fields_are : (l t r p : List ℕ) → ((l ++ t) ++ r) ++ p ≡ field_bytes l t r p
+fields_are l t r p = append_assoc (l ++ t) r p ∙ append_assoc l t (r ++ p)
+
+pub fields_length : (l t r p : List ℕ) → length (field_bytes l t r p) ≡ length l + length t + length r + length p
+fields_length l t r p = omega (arith, length-append l (t ++ (r ++ p)), length-append t (r ++ p), length-append r p)
 
 -- the fields of a rule
 pub record Fields (e : Entry) (l t r p : List ℕ) : Type 0 where
@@ -25,6 +30,9 @@ pub record Fields (e : Entry) (l t r p : List ℕ) : Type 0 where
   pub target : t ≡ e.rule.target
   pub right : r ≡ e.rule.right
   pub phones : p ≡ e.rule.phones
+
+pub line_length : (e : Entry) → length (rule_line e) ≡ 2 * length (rule_body e) + 3
+line_length e = omega (arith, length_line (framed (rule_body e)), length-append (rule_body e) (sum_byte (rule_body e) ∷ []))
 
 module _ (image : List ℕ) (ok : valid image ≡ true) (place : ℕ) (h : place < count_of image) (l t r p : List ℕ) (f : Fields (entry_at image place) l t r p) where
   abbrev e : Entry
@@ -39,36 +47,15 @@ module _ (image : List ℕ) (ok : valid image ≡ true) (place : ℕ) (h : place
   pub all_short : length l + length t + length r + length p + front_size + 1 ≤ longest_frame
   all_short = omega (arith, short.0, short.1.0, short.1.1.0, short.1.1.1)
 
+  pub body_is : (n : ℕ) → n ≡ (numbered_at image place).number → body_bytes n l t r p ≡ rule_body e
+  body_is n q =
+      let a : length l % 256 ≡ length l = omega (arith, all_short) in
+      let b : length t % 256 ≡ length t = omega (arith, all_short) in
+      let c : length r % 256 ≡ length r = omega (arith, all_short) in
+      let d : length p % 256 ≡ length p = omega (arith, all_short) in
+      rw (q ∙ sym (number_is_at image ok place h), a, b, c, d, f.left, f.target, f.right, f.phones)
+
   -- the bytes of its line, by its lengths
   pub size_is : (m : ℕ) → m ≡ line_size (front_size + (length l + (length t + (length r + length p))) + 1) → (m ≡ length (rule_line e)) × (m ≤ line_size longest_frame)
   size_is m q =
       (omega (arith, length_rule e, ap length f.left, ap length f.target, ap length f.right, ap length f.phones), omega (arith, all_short))
-
--- a rule ends its slot
-pub bytes_from : (image : List ℕ) (place : ℕ) → take (length image - (head_size + slot_size * (place + 1) - rule_size)) (drop (head_size + slot_size * (place + 1) - rule_size) image) ≡ drop (rule_start place) image
-bytes_from image place =
-    let n : head_size + slot_size * (place + 1) - rule_size ≡ rule_start place = omega arith in
-    tail_is (head_size + slot_size * (place + 1) - rule_size) image ∙ ap (λ (k : ℕ). drop k image) n
-
--- where bytes are a rule of the shape, none of its lengths is above its limit
-pub shaped_within : (s : List ℕ) → Shaped (view (rule_of s)) → Within s
-shaped_within s f = record {
-  left = omega (arith, f.left-most, length_first (get_or s 0 0) (take max_context (drop left_start s)) 0);
-  target = omega (arith, f.target-most, length_first (get_or s 1 0) (take max_target (drop target_start s)) 0);
-  right = omega (arith, f.right-most, length_first (get_or s 2 0) (take max_context (drop right_start s)) 0);
-  phones = omega (arith, f.phones-most, length_first (get_or s 3 0) (take max_phones (drop phones_start s)) 0);
-}
-
--- its bytes where they lie
-module _ (image : List ℕ) (ok : valid image ≡ true) (place : ℕ) (h : place < count_of image) (s : List ℕ) (es : s ≡ drop (rule_start place) image) where
-  rule_is : view (rule_of s) ≡ (entry_at image place).rule
-  unfolding slot_of
-  rule_is =
-      ap (λ (l : List ℕ). view (rule_of l)) (es ∙ (ap (λ (k : ℕ). drop k image) (let n : rule_start place ≡ slot_start place + number_size = omega arith in n) ∙ sym (drop-drop number_size (slot_start place) image)))
-      ∙ sym (ap (λ (e : Entry). e.rule) (entry_slot image place h))
-
-  pub bytes_within : Within s
-  bytes_within = shaped_within s (rw rule_is (entry_shaped image ok place h))
-
-  pub entry-is : (n : ℕ) → n ≡ (numbered_at image place).number → entry_bytes n s ≡ entry_at image place
-  entry-is n q = rw (q ∙ sym (number_is_at image ok place h), rule_is)

@@ -1,7 +1,7 @@
 -- What reading a file into lent memory, and writing a ruleset to lent bytes, give: the answer with document 01's number and place, and
 -- the memory after it.
 -- Assumes nothing.
-use Rattle.std.specs.Prelude.{ℕ, suc, ◌+◌, ◌-◌, ◌≡◌, List, [], ◌∷◌, map, Bool, true, false, cond, ◌&&◌, length, drop, leb, eqb}
+use Rattle.std.specs.Prelude.{ℕ, suc, ◌+◌, ◌-◌, ◌/◌, ◌%◌, ◌≡◌, List, [], ◌∷◌, ◌++◌, map, Bool, true, false, cond, ◌&&◌, length, drop, leb, eqb}
 use Rattle.rules.specs.Limits.{max_rules}
 use Rattle.rules.specs.Memory.{over}
 use Rattle.rules.specs.Shape.{Production, shape}
@@ -20,7 +20,7 @@ use Rattle.file.specs.declared.defining.ClassLine.{ClassLine}
 use Rattle.file.specs.declared.defining.ClassesEnd.{ClassesEnd}
 use Rattle.file.specs.declared.parsing.Ruled.{Ruled}
 use Rattle.file.specs.declared.parsing.RuleLine.{RuleLine}
-use Rattle.file_format.specs.Layout.{frame_type, head_count, head_last, class_type, class_symbol, letters_of, entry_in, numbered_of}
+use Rattle.file_format.specs.Layout.{frame_type, head_count, head_last, class_type, class_symbol, letters_of, rule_type, entry_in, numbered_of}
 use Rattle.file_format.specs.File.{encode, Read, is_head, class_fits, Defined, is_rule, read_rules, readFile}
 use Rattle.file_format.specs.File.Read.{Accepted, Malformed, Broken}
 
@@ -134,3 +134,16 @@ RulesFrom file last count from =
 abbrev pub with_rules : ℕ → List Numbered → List ℕ → List ℕ
 with_rules place [] image = image
 with_rules place (x ∷ l) image = with_rules (suc place) l (with_rule place x image)
+
+-- a rule's frame without its checksum, part by part
+abbrev pub number_bytes : ℕ → List ℕ
+number_bytes n = rule_type ∷ n / 256 ∷ n % 256 ∷ []
+
+abbrev pub length_bytes : List ℕ → List ℕ → List ℕ → List ℕ → List ℕ
+length_bytes l t r p = length l % 256 ∷ length t % 256 ∷ length r % 256 ∷ length p % 256 ∷ []
+
+abbrev pub field_bytes : List ℕ → List ℕ → List ℕ → List ℕ → List ℕ
+field_bytes l t r p = l ++ (t ++ (r ++ p))
+
+abbrev pub body_bytes : ℕ → List ℕ → List ℕ → List ℕ → List ℕ → List ℕ
+body_bytes n l t r p = (number_bytes n ++ length_bytes l t r p) ++ field_bytes l t r p

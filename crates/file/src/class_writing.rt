@@ -9,7 +9,9 @@ ghost use Rattle.file_format.specs.File.{class_body, class_line, class_lines};
 use frames::writer;
 use frames::writer::Writer;
 
-// The bytes of the line of a class without its letters: two digits for each byte of the frame, and 0A.
+// The bytes of the lines of a head, and of a class without its letters: two digits for each byte of the frame, and 0A.
+const HEAD_LINE: usize = 2 * file_format::HEAD + 1;
+
 const CLASS_FRONT_LINE: usize = 2 * (file_format::LETTERS + 1) + 1;
 
 // The letters of a mask, ascending.
@@ -60,7 +62,7 @@ pub fn write_classes(masks: &[u8], pairs: &[u8], out: &mut [u8]) -> usize
     ensures next { result ≡ head_line_size + length (class_lines (classes_in masks.now)) }
     ensures bytes { out.new ≡ over_at head_line_size (class_lines (classes_in masks.now)) out.old }
 {
-    let mut at: usize = rule_lines::HEAD_LINE;
+    let mut at: usize = HEAD_LINE;
     let mut symbol = rules::FIRST_CLASS;
     while symbol <= rules::MAX_SYMBOL {
         let mask = classes::storing::mask_at(masks, symbol);

@@ -44,7 +44,7 @@ fn letter_value(a: u8) -> u8
 }
 
 // The number of a digit, 16 for what is none. Both tests choose between two numbers, so that none is mispredicted.
-pub fn hex_value(a: u8) -> u8
+fn hex_value(a: u8) -> u8
     ensures { result ≡ value a }
 {
     let d = std::num::wrapping_sub_u8(a, 48);

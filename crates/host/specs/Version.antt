@@ -6,7 +6,7 @@ abbrev pub version_major : ℕ
 version_major = 8
 
 abbrev pub version_minor : ℕ
-version_minor = 3
+version_minor = 2
 
 abbrev pub version : ℕ
 version = 256 * version_major + version_minor

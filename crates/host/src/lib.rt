@@ -1,7 +1,6 @@
 // What a firmware links: the library's calls on numbers and lent memory. host/pirrozketa.h says the same to C.
 // A call answers with a code: 255 where it is accepted, else the refusal's number in documents 01 and 02.
 mod codes;
-pub mod festival;
 mod given;
 pub mod lists;
 mod many;
@@ -28,7 +27,7 @@ ghost use Rattle.host.specs.Version.{version};
 // Of this interface, as host/pirrozketa.h has it.
 const VERSION_MAJOR: u16 = 8;
 
-const VERSION_MINOR: u16 = 3;
+const VERSION_MINOR: u16 = 2;
 
 // The version of the library that is linked, which may be another than that of the host's header.
 #[unsafe(no_mangle)]

@@ -77,8 +77,8 @@ fn literal_count_at(image: &[u8], place: usize) -> usize
     if without_classes(image, at) {
         return 1; // as most rules are: the classes need not be read
     }
-    let left = rule_bytes::run_at(image, at + rule_bytes::LEFT_LEN, at + rule_bytes::LEFT);
-    let right = rule_bytes::run_at(image, at + rule_bytes::RIGHT_LEN, at + rule_bytes::RIGHT);
+    let left = crate::run_at(image, at + rule_bytes::LEFT_LEN, at + rule_bytes::LEFT);
+    let right = crate::run_at(image, at + rule_bytes::RIGHT_LEN, at + rule_bytes::RIGHT);
     classes::runs::literal_count(crate::class_bytes::masks(image), left, right)
 }
 

@@ -9,22 +9,19 @@ use libc::STDOUT_FILENO;
 use lines::{MAX_LINE, Next};
 use list_commands::Reply;
 
-// A command: how many bytes it has, and how many the file that it asks for.
+// A command: how many bytes it has, and how many rules.hex where it asks for them.
 #[derive(Drop)]
 struct Command {
     len: usize,
     file: usize,
 }
 
-// The bytes of the file that the command asks for.
+// The bytes of rules.hex where the command asks for them.
 fn fetch(command: &[u8], file: &mut [u8]) -> usize
     ensures { IsPrefixLen result file.new }
 {
     if commands::asks_for_file(command) {
-        return rule_files::read_hex(file);
-    }
-    if festival_command::is_festival_command(command) {
-        return rule_files::read_text(file);
+        return rules_hex::read(file);
     }
     0
 }
@@ -58,10 +55,6 @@ fn answer(
 {
     if list_commands::is_list_command(command) {
         return list_commands::answer(command, list, lent, text, out);
-    }
-    if festival_command::is_festival_command(command) {
-        let len = festival_command::answer(command, file, out);
-        return Reply { len, lent };
     }
     let len = commands::answer(
         command,
@@ -138,7 +131,7 @@ fn main() {
     let mut piece = io::buffer();
     let mut line = [0u8; MAX_LINE + 1];
     let mut frame = [0u8; MAX_LINE / 2];
-    let mut file = [0u8; festival_command::MAX_TEXT + 1]; // for both files: no more of rules.hex is taken
+    let mut file = [0u8; file_format::MAX_INPUT + 1];
     let mut image = [0u8; image::SIZE];
     let mut list = [0u32; exceptions::SIZE];
     exceptions::clear(&mut list);

@@ -32,10 +32,10 @@ followed_on xs ys (uncovered i) t e = let z : ◌≡◌ {A = ℕ} 0 1 = cc in ab
 followed_on xs ys bad_tables t e = let z : ◌≡◌ {A = ℕ} 0 1 = cc in absurd (omega arith)
 
 -- nothing follows where reading ended in a word
-stopped-at : (xs : List Piece) (r t : Reading) (i : ℕ) → uncovered i ≡ after xs r → uncovered i ≡ after xs (followed r t)
-stopped-at xs (finished zs) t i e = let z : ◌≡◌ {A = ℕ} 0 1 = cc in absurd (omega arith)
-stopped-at xs (uncovered j) t i e = e
-stopped-at xs bad_tables t i e = e
+stopped_at : (xs : List Piece) (r t : Reading) (i : ℕ) → uncovered i ≡ after xs r → uncovered i ≡ after xs (followed r t)
+stopped_at xs (finished zs) t i e = let z : ◌≡◌ {A = ℕ} 0 1 = cc in absurd (omega arith)
+stopped_at xs (uncovered j) t i e = e
+stopped_at xs bad_tables t i e = e
 
 stopped_bad : (xs : List Piece) (r t : Reading) → bad_tables ≡ after xs r → bad_tables ≡ after xs (followed r t)
 stopped_bad xs (finished zs) t e = let z : ◌≡◌ {A = ℕ} 0 1 = cc in absurd (omega arith)
@@ -112,7 +112,7 @@ module _ (image list : List ℕ) (m : Str → Str) (read : Str → Reading) (nam
             by : (x : Reached) → r ≡ x
                 → parts_reading image list ps' x ≡ after (parts_at image list (take count ps)) (followed (read_word m read (word b (word_at name b))) (read_words m read (words_from name e)))
             by (Rules k) q = absurd (never k q)
-            by (Uncovered i) q = stopped-at (parts_at image list (take count ps)) (read_word m read (word b (word_at name b))) (read_words m read (words_from name e)) i (ap (parts_reading image list ps') (sym q) ∙ o.says)
+            by (Uncovered i) q = stopped_at (parts_at image list (take count ps)) (read_word m read (word b (word_at name b))) (read_words m read (words_from name e)) i (ap (parts_reading image list ps') (sym q) ∙ o.says)
             by BadTables q = stopped_bad (parts_at image list (take count ps)) (read_word m read (word b (word_at name b))) (read_words m read (words_from name e)) (ap (parts_reading image list ps') (sym q) ∙ o.says)
 
     -- all words are read

@@ -1,6 +1,6 @@
 // A rule as bytes, four lengths and then its fields with all their places, and as a struct: the one made of the other. No other crate below the
 // programs makes the arrays of a rule.
-ghost use Rattle.std.specs.Prelude.{◌≡◌, ◌++◌, ◌+◌, ◌<◌, ◌≤◌, length, get_or, take, drop};
+ghost use Rattle.std.specs.Prelude.{◌≡◌, ◌++◌, ◌+◌, ◌≤◌, length, take};
 ghost use Rattle.std.proofs.Math.Seq.{paste};
 ghost use Rattle.rules.specs.Memory.{over, over_at};
 ghost use Rattle.rules.specs.Shape.{view, shape};
@@ -123,15 +123,6 @@ pub fn rule_from(
         &s[right..phones],
         &s[phones..end],
     )
-}
-
-// The bytes from `from` on, as many as the byte at `len` says.
-pub fn run_at(s: &[u8], len: usize, from: usize) -> &[u8]
-    requires { (len < length s.now) × (from + get_or s.now len 0 ≤ length s.now) }
-    ensures { result.now ≡ take (get_or s.now len 0) (drop from s.now) }
-{
-    let end = from + numbers::wide(s[len]);
-    &s[from..end]
 }
 
 // The rule that `s` starts with.

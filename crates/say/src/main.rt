@@ -54,7 +54,7 @@ fn judge(answer: Answer) -> bool
 fn load(buf: &mut [u8], image: &mut [u8], words: &mut [u16], sets: &mut [u64]) -> bool
     ensures { result ≡ true → valid image.new ≡ true }
 {
-    let n = rule_files::read_hex(&mut *buf);
+    let n = rules_hex::read(&mut *buf);
     if MAX_INPUT < n {
         print_refusal(Refusal::BadLine(MAX_INPUT));
         return false;

@@ -6,7 +6,7 @@ use crate::lent::{header_size, version};
 use crate::random::Random;
 use crate::reference::classes::{CLASSES, MOST_LETTERS};
 use crate::reference::exceptions::{LIST, MOST_PHONES, READ_OUT};
-use crate::reference::file::{LONGEST, LONGEST_UNCLASSED};
+use crate::reference::file::LONGEST;
 use crate::reference::image::{HEAD, IMAGE, LITERAL, LITERALS, MASK, MASKS, NUMBER, SLOT, TOTAL};
 use crate::reference::many::REPLY;
 use crate::reference::rule::{CONTEXT, PHONES, RULE, STARTS, TARGET};
@@ -19,7 +19,7 @@ use std::ffi::CStr;
 const TEXT: &str = include_str!("../../../host/pirrozketa.h");
 
 pub fn header(tally: &mut Tally, _: &mut Random) {
-    let own: [(&CStr, usize); 28] = [
+    let own: [(&CStr, usize); 27] = [
         (c"CONTEXT", CONTEXT),
         (c"TARGET", TARGET),
         (c"RULE_PHONES", PHONES),
@@ -42,7 +42,6 @@ pub fn header(tally: &mut Tally, _: &mut Random) {
         (c"SETS", sets_needed(MOST_LEFT, MOST_RIGHT)),
         (c"PHONES", 32 * MOST_PHONES),
         (c"NUMBERS", 64),
-        (c"CONVERTED", LONGEST_UNCLASSED),
         (c"FILE", LONGEST),
         (c"READ_OUT", READ_OUT),
         (c"SHEET_NAMES", MOST_NAMES),

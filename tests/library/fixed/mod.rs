@@ -5,7 +5,6 @@ mod classes;
 mod contested;
 mod contexts;
 mod extremes;
-mod festival;
 mod header;
 mod lists;
 mod paper;
@@ -27,7 +26,7 @@ type Case = fn(&mut Tally, &mut Random);
 
 pub fn fixed(tally: &mut Tally) {
     let random = &mut Random::new(1);
-    let cases: [(&str, Case); 15] = [
+    let cases: [(&str, Case); 14] = [
         ("the header's sizes", header::header),
         ("the paper's marks", paper::paper),
         ("the paper's refusals", refusals::refusals),
@@ -41,7 +40,6 @@ pub fn fixed(tally: &mut Tally) {
         ("tables from before an edit", stale::stale),
         ("contexts of four", contexts::contexts),
         ("sheets", sheets::sheets),
-        ("Festival text", festival::festival),
         ("threads", threads::threads),
     ];
     for (subject, case) in cases {

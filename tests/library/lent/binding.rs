@@ -43,13 +43,6 @@ extern "C" {
         out_len: usize,
         bytes: *mut usize,
     ) -> u8;
-    pub fn pirrozketa_convert(
-        text: *const u8,
-        text_len: usize,
-        out: *mut u8,
-        out_len: usize,
-        bytes: *mut usize,
-    ) -> u8;
     pub fn pirrozketa_build(
         image: *const u8,
         image_len: usize,

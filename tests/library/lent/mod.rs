@@ -3,7 +3,6 @@
 
 mod binding;
 mod edits;
-mod festival;
 mod files;
 pub mod lists;
 mod memory;
@@ -12,7 +11,6 @@ mod sheets;
 mod tables;
 
 pub use edits::{add, check, clear, drop, edits, set_class, shift};
-pub use festival::convert;
 pub use files::{read_file, write_file};
 pub use lists::List;
 pub use memory::Lent;
@@ -45,7 +43,7 @@ pub fn version() -> u16 {
 }
 
 /// The codes that the header names with each call, in rising order.
-pub const NAMED: [(&str, &[u8]); 21] = [
+pub const NAMED: [(&str, &[u8]); 20] = [
     ("clear", &[0, 255]),
     ("check", &[0, 255]),
     ("add", &[0, 6, 7, 10, 20, 21, 23, 255]),
@@ -54,7 +52,6 @@ pub const NAMED: [(&str, &[u8]); 21] = [
     ("set_class", &[0, 20, 255]),
     ("read_file", &[0, 13, 14, 255]),
     ("write_file", &[0, 15, 255]),
-    ("convert", &[6, 15, 21, 25, 26, 255]),
     ("build", &[0, 11, 12, 255]),
     ("list_clear", &[17, 255]),
     ("list_check", &[17, 255]),

@@ -1,7 +1,6 @@
-//! What the trials try: rulesets, exceptions lists, names, texts, and memory of every kind of soundness.
+//! What the trials try: rulesets, exceptions lists, names, and memory of every kind of soundness.
 
 pub mod classes;
-pub mod festival;
 pub mod files;
 pub mod images;
 pub mod lists;

@@ -1,6 +1,6 @@
 //! Ways to make the reference wrong on purpose, to see that the trials notice: the paper's "Ways to be
 //! wrong that pass a short trial", two more, and ways to mistake the exceptions list and its memory, names of
-//! several words, contested letters, letter classes, the edit count, the limit of contexts, sheets and Festival text.
+//! several words, contested letters, letter classes, the edit count, the limit of contexts and sheets.
 
 use std::sync::OnceLock;
 
@@ -168,44 +168,6 @@ pub enum Break {
     LongSheet,
     /// A sheet with room for fewer replies is not refused.
     RepliesCut,
-    /// Tokens of a Festival text may touch.
-    Touching,
-    /// The rules of a Festival text may touch.
-    RulesTouching,
-    /// Tabs and carriage returns are white in a Festival text.
-    TabWhite,
-    /// Phones of a Festival text may have lower-case digits.
-    LowerDigits,
-    /// A phone 00 is not of Festival's form.
-    ZeroNotOfForm,
-    /// A Festival text that ends within a rule is its rules before.
-    CutAccepted,
-    /// The place of a Festival text that ends early is its last byte.
-    EndEarlier,
-    /// The place of 25 and 26 is one byte late.
-    PlaceLate,
-    /// A phone's second digit is told at its first.
-    DigitEarly,
-    /// + is refused with 25.
-    PlusPlain,
-    /// * is.
-    StarPlain,
-    /// 26 is for a repeat mark anywhere in the text.
-    RepeatAnywhere,
-    /// 6 of a rule comes before 25 and 26 of what follows it.
-    ShapeFirst,
-    /// 21 of a Festival text comes before 6.
-    CountFirst,
-    /// 15 of a Festival text comes before 21.
-    RoomBeforeCount,
-    /// A Festival text may have one rule more.
-    MoreConverted,
-    /// 15 of a Festival text does not tell the bytes needed.
-    NeedUntold,
-    /// The rules of a Festival text are numbered from 0.
-    FromZero,
-    /// A part of a rule that is too long is cut in a Festival text.
-    LongCut,
     /// Memory in which a free word is not 0 is no list.
     FreeWords,
     /// Memory that has all cells is a list, however short.
@@ -230,7 +192,7 @@ pub enum Break {
     ZeroPhone,
 }
 
-pub const BREAKS: [(&str, Break); 111] = [
+pub const BREAKS: [(&str, Break); 92] = [
     ("early", Break::Early),
     ("longest", Break::Longest),
     ("inside", Break::Inside),
@@ -312,25 +274,6 @@ pub const BREAKS: [(&str, Break); 111] = [
     ("all-blank", Break::AllBlank),
     ("long-sheet", Break::LongSheet),
     ("replies-cut", Break::RepliesCut),
-    ("touching", Break::Touching),
-    ("rules-touching", Break::RulesTouching),
-    ("tab-white", Break::TabWhite),
-    ("lower-digits", Break::LowerDigits),
-    ("zero-not-of-form", Break::ZeroNotOfForm),
-    ("cut-accepted", Break::CutAccepted),
-    ("end-earlier", Break::EndEarlier),
-    ("place-late", Break::PlaceLate),
-    ("digit-early", Break::DigitEarly),
-    ("plus-plain", Break::PlusPlain),
-    ("star-plain", Break::StarPlain),
-    ("repeat-anywhere", Break::RepeatAnywhere),
-    ("shape-first", Break::ShapeFirst),
-    ("count-first", Break::CountFirst),
-    ("room-before-count", Break::RoomBeforeCount),
-    ("more-converted", Break::MoreConverted),
-    ("need-untold", Break::NeedUntold),
-    ("from-zero", Break::FromZero),
-    ("long-cut", Break::LongCut),
     ("free-words", Break::FreeWords),
     ("short-list", Break::ShortList),
     ("later-successor", Break::LaterSuccessor),

@@ -6,11 +6,9 @@ use super::rule::{Rule, MOST, RULE};
 use super::ruleset::{Ruleset, MOST_RULES};
 use super::{refuse, Answer};
 
-/// The longest file without classes: the head, and rules whose parts are full.
-pub const LONGEST_UNCLASSED: usize = line_length(HEAD) + MOST_RULES * line_length(3 + RULE);
-
-/// The longest file: all classes too, with all the letters that one may have.
-pub const LONGEST: usize = LONGEST_UNCLASSED + CLASSES * line_length(3 + MOST_LETTERS);
+/// The longest file: the head, all classes with all the letters that one may have, and rules whose parts are full.
+pub const LONGEST: usize =
+    line_length(HEAD) + CLASSES * line_length(3 + MOST_LETTERS) + MOST_RULES * line_length(3 + RULE);
 
 /// A head's bytes without its sum.
 const HEAD: usize = 6;

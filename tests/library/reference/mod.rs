@@ -7,7 +7,6 @@
 pub mod broken;
 pub mod classes;
 pub mod exceptions;
-pub mod festival;
 pub mod file;
 pub mod image;
 pub mod list_words;

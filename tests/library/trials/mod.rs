@@ -3,7 +3,6 @@
 mod chain;
 pub mod damaged_lists;
 mod edits;
-mod festival;
 mod files;
 mod full_lists;
 mod lists;
@@ -17,7 +16,7 @@ use crate::tally::Tally;
 
 type Trial = fn(&mut Tally, &mut Random);
 
-const TRIALS: [(&str, Trial); 13] = [
+const TRIALS: [(&str, Trial); 12] = [
     ("edits", edits::edits),
     ("images", edits::images),
     ("files", files::files),
@@ -30,7 +29,6 @@ const TRIALS: [(&str, Trial); 13] = [
     ("full lists", full_lists::full),
     ("damaged lists", damaged_lists::damaged),
     ("sheets", sheets::sheets),
-    ("Festival texts", festival::texts),
 ];
 
 /// A round has a seed of its own, so that it can be repeated alone.

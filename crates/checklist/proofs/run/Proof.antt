@@ -5,8 +5,8 @@ use borrow.Author.Tests.{not-false}
 use Rattle.checklist.proofs.run.Statement.{statement}
 use Rattle.checklist.proofs.run.Tie as tie
 
-read-hex-requires : tie.Need-read-hex-requires
-read-hex-requires c κs = search rules
+read-requires : tie.Need-read-requires
+read-requires c κs = search rules
 
 slice-reshare-prefix-file : tie.Need-slice-reshare-prefix-file
 slice-reshare-prefix-file c = search rules
@@ -66,7 +66,7 @@ pub run_spec : {M : Type 1} → statement M
 run_spec =
     tie.close
     (tie.spec
-    read-hex-requires
+    read-requires
     slice-reshare-prefix-file
     slice-aggregate-file
     is-prepared-requires

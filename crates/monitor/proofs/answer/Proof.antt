@@ -1,4 +1,4 @@
--- `monitor::answer` meets its contract: the commands on the list and 2C have their own functions, and the others are lent the lent part of the list.
+-- `monitor::answer` meets its contract: the commands on the list have their own function, and the others are lent the lent part of it.
 -- Assumes nothing.
 use mathlib.Core.Path.{sym, ◌∙◌}
 use native.Mathlib.Omega.{arith}
@@ -25,26 +25,17 @@ same-length-3 c = search rules
 returns : tie.Need-returns
 returns c = search rules
 
-is-festival-command-requires : tie.Need-is-festival-command-requires
-is-festival-command-requires c κs = search rules
+slice-reshare-prefix-answer : tie.Need-slice-reshare-prefix-answer
+slice-reshare-prefix-answer c = search rules
+
+slice-aggregate-answer : tie.Need-slice-aggregate-answer
+slice-aggregate-answer c = sym (length-take-le c.before.before.before.before.before.before.before.before.before.before.before.before.before.before.args.lent c.before.before.before.before.before.before.before.before.before.before.before.before.before.before.args.list.now c.before.before.before.before.before.before.before.before.before.before.before.before.before.before.requires.0)
 
 answer-requires-2 : tie.Need-answer-requires-2
 answer-requires-2 c κs = search rules
 
 same-length-4 : tie.Need-same-length-4
 same-length-4 c = search rules
-
-returns-2 : tie.Need-returns-2
-returns-2 c = search rules
-
-slice-reshare-prefix-answer : tie.Need-slice-reshare-prefix-answer
-slice-reshare-prefix-answer c = search rules
-
-slice-aggregate-answer : tie.Need-slice-aggregate-answer
-slice-aggregate-answer c = let e = c.before.before.before.before.before.before.before.before.before.before.before.before.before.before.before.before in sym (length-take-le e.args.lent e.args.list.now e.requires.0)
-
-answer-requires-3 : tie.Need-answer-requires-3
-answer-requires-3 c κs = search rules
 
 same-length-5 : tie.Need-same-length-5
 same-length-5 c = search rules
@@ -64,11 +55,8 @@ same-length-9 c = search rules
 same-length-10 : tie.Need-same-length-10
 same-length-10 c = search rules
 
-same-length-11 : tie.Need-same-length-11
-same-length-11 c = search rules
-
-returns-3 : tie.Need-returns-3
-returns-3 c = search rules
+returns-2 : tie.Need-returns-2
+returns-2 c = search rules
 
 pub answer-spec : {M : Type 1} → statement M
 answer-spec =
@@ -80,18 +68,14 @@ answer-spec =
     same-length-2
     same-length-3
     returns
-    is-festival-command-requires
-    answer-requires-2
-    same-length-4
-    returns-2
     slice-reshare-prefix-answer
     slice-aggregate-answer
-    answer-requires-3
+    answer-requires-2
+    same-length-4
     same-length-5
     same-length-6
     same-length-7
     same-length-8
     same-length-9
     same-length-10
-    same-length-11
-    returns-3)
+    returns-2)

@@ -5,7 +5,7 @@ use Rattle.numbers.proofs.Bits.{bit_test}
 use Rattle.numbers.proofs.has_bit.Statement.{statement}
 use Rattle.numbers.proofs.has_bit.Tie as tie
 
-shr-result : tie.Need-overflow_shr-result
+shr-result : tie.Need-overflow-shr-result
 shr-result c = search rules
 
 returns : tie.Need-returns

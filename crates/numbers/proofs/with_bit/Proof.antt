@@ -6,7 +6,7 @@ use Rattle.numbers.proofs.Bits.{bit_put}
 use Rattle.numbers.proofs.with_bit.Statement.{statement}
 use Rattle.numbers.proofs.with_bit.Tie as tie
 
-shl-result : tie.Need-overflow_shl-result
+shl-result : tie.Need-overflow-shl-result
 shl-result c = search rules
 
 returns : tie.Need-returns

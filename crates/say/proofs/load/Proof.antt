@@ -9,8 +9,8 @@ use borrow.Author.Rules.{rules}
 use Rattle.say.proofs.load.Statement.{statement}
 use Rattle.say.proofs.load.Tie as tie
 
-read-hex-requires : tie.Need-read-hex-requires
-read-hex-requires c κs = search rules
+read-requires : tie.Need-read-requires
+read-requires c κs = search rules
 
 print-refusal-requires : tie.Need-print-refusal-requires
 print-refusal-requires c κs = search rules
@@ -69,7 +69,7 @@ pub load_spec : {M : Type 1} → statement M
 load_spec =
     tie.close
     (tie.spec
-    read-hex-requires
+    read-requires
     print-refusal-requires
     same_length
     returns

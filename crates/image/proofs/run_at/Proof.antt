@@ -1,12 +1,12 @@
--- `rule_bytes::run_at` meets its contract.
+-- `image::run_at` meets its contract.
 -- Assumes nothing.
 use Prim.Native.Nat.{ℕ, ◌+◌, ◌-◌}
 use mathlib.Core.Path.{◌≡◌, ap}
 use native.Mathlib.Omega.{arith}
 use borrow.Author.Rules.{rules}
 use lib.ListN.{get_or, take, drop}
-use Rattle.rule_bytes.proofs.run_at.Statement.{statement}
-use Rattle.rule_bytes.proofs.run_at.Tie as tie
+use Rattle.image.proofs.run_at.Statement.{statement}
+use Rattle.image.proofs.run_at.Tie as tie
 
 shared-slice-read-wide : tie.Need-shared-slice-read-wide
 shared-slice-read-wide c = search rules
