@@ -151,8 +151,8 @@ in_digits (suc n) b x zero h =
 in_digits (suc n) b x (suc e) h =
     let s : b + suc e ≡ suc b + e = omega arith in
     by_digit x
-    (λ q. rw (q, s) (in_digits n (suc b) (x / 2) e (omega arith)))
-    (λ q. rw (q, s, ne_eqb b (suc b + e) (λ z. omega arith)) (in_digits n (suc b) (x / 2) e (omega arith)))
+    (λ q. rw q (ap (λ (u : ℕ). is_in u (digits_from n (suc b) (x / 2))) s ∙ in_digits n (suc b) (x / 2) e (omega arith)))
+    (λ q. rw (q, ne_eqb b (b + suc e) (λ z. omega arith)) (ap (λ (u : ℕ). is_in u (digits_from n (suc b) (x / 2))) s ∙ in_digits n (suc b) (x / 2) e (omega arith)))
 
 -- letter y is in a mask where bit y is set
 pub in_letters : (x y : ℕ) → y < 64 → is_in y (letters_in x) ≡ bit x y

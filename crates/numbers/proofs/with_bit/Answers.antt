@@ -1,0 +1,9 @@
+-- `numbers::with_bit` meets its contract.
+-- Assumes nothing.
+use native.Mathlib.Omega.{arith}
+use borrow.Author.Rules.{rules}
+use Rattle.numbers.proofs.Bits.{bit_put}
+use Rattle.numbers.proofs.with_bit.Goals as goal
+
+pub returns : goal.returns
+returns c = bit_put c.args.word c.args.k (omega arith)

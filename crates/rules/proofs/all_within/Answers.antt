@@ -1,0 +1,28 @@
+-- `rules::all_within` meets its contract.
+-- Assumes nothing.
+use Prim.Native.Nat.{◌≤◌, ◌-◌}
+use mathlib.Core.Path.{◌≡◌, sym, ◌∙◌}
+use borrow.Author.Rules.{rules}
+use native.Mathlib.Omega.{arith}
+use lib.ListN.{length, drop}
+use Rattle.rules.specs.Shape.{all_from}
+use Rattle.rules.proofs.Laws.{scan_on, scan_low, scan_high, scan_end}
+use Rattle.rules.proofs.all_within.Goals as goal
+
+pub returns-then-x-lt1 : goal.returns-then-x-lt1
+returns-then-x-lt1 c = sym (c.loop-i.invariant.1 ∙ scan_low _ _ _ c.loop-i-test.true c.if-x-lt1.true)
+
+pub returns-then-hi-x : goal.returns-then-hi-x
+returns-then-hi-x c = sym
+    (c.loop-i.invariant.1
+    ∙ scan_high _ _ _ c.loop-i-test.true c.if-x-lt1.false c.if-hi-x.true)
+
+pub loop-i-preserved : goal.loop-i-preserved
+loop-i-preserved c = (
+  omega arith,
+  c.loop-i.invariant.1
+      ∙ scan_on _ _ _ c.loop-i-test.true c.if-x-lt1.false c.if-hi-x.false,
+)
+
+pub returns : goal.returns
+returns c = sym (c.loop-i.invariant.1 ∙ scan_end _ _ _ c.loop-i-test.false)

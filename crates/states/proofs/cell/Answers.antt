@@ -1,0 +1,10 @@
+-- `states::cell` meets its contract.
+-- Assumes nothing.
+use Rattle.automaton.specs.Automaton.{key_of, val_of, cell_of}
+use mathlib.Core.Path.{refl}
+use borrow.Author.Rules.{rules}
+use Rattle.states.proofs.cell.Goals as goal
+
+pub returns : goal.returns
+unfolding key_of val_of cell_of
+returns c = refl

@@ -1,0 +1,11 @@
+-- `states::val` meets its contract.
+-- Assumes nothing.
+use native.Mathlib.Omega.{arith}
+use Rattle.automaton.specs.Automaton.{key_of, val_of, cell_of}
+use mathlib.Core.Path.{refl}
+use borrow.Author.Rules.{rules}
+use Rattle.states.proofs.val.Goals as goal
+
+pub returns : goal.returns
+unfolding key_of val_of cell_of
+returns c = (refl, omega arith)
