@@ -14,7 +14,7 @@ use crate::{last_letters, names, ruleset, searches, speaking};
 // What each catches: a walk that stops before the last letter, which its phones do not show where that letter is silent; one that applies
 // another than the first of the rules that fit, as the longest; one that takes a class for fewer letters than it has; one that skips or guesses
 // what no rule covers.
-#[derive(Drop)]
+#[derive(Clone, Copy)]
 pub enum Item {
     SilentEnd,
     TwoFitting,

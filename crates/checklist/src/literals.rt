@@ -6,7 +6,7 @@ use crate::ruleset;
 use rules::Rule;
 
 // A literal rule, the place of its rule, and which of that rule's literal rules it is.
-#[derive(Drop)]
+#[derive(Clone, Copy)]
 pub struct Literal {
     pub rule: Rule,
     pub place: usize,

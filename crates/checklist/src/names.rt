@@ -4,7 +4,7 @@ ghost use Rattle.std.specs.Prelude.{◌≤◌};
 use rules::{MAX_NAME, Rule};
 
 // A name: the first `len` of its letters.
-#[derive(Drop)]
+#[derive(Clone, Copy)]
 pub struct Name {
     pub len: usize,
     pub letters: [u8; MAX_NAME],
@@ -110,7 +110,7 @@ pub fn is_longer(rule: Rule, other: Rule) -> bool {
 
 // The shortest name in which two rules could both fit at one position, after its first `before` letters: their contexts and targets, laid
 // over each other.
-#[derive(Drop)]
+#[derive(Clone, Copy)]
 pub struct Overlaid {
     pub name: Name,
     pub before: usize,

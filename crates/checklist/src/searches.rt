@@ -11,7 +11,7 @@ use rules::MAX_LETTER;
 const MAX_TRIED: usize = 4096;
 
 // How a search stands: whether its name was found, how many were tried, and for rules that fit, where they do and their places.
-#[derive(Drop)]
+#[derive(Clone, Copy)]
 pub struct Search {
     pub found: bool,
     pub tried: usize,

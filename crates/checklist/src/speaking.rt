@@ -7,7 +7,7 @@ use crate::{names, ruleset};
 use speech::Speech;
 
 // What came of a name: SPOKEN with so many phones, rules and contested letters, or a refusal's number with its place.
-#[derive(Drop)]
+#[derive(Clone, Copy)]
 pub struct Came {
     pub code: u8,
     pub place: usize,
@@ -118,7 +118,7 @@ fn same_came(a: Came, b: Came) -> bool {
 }
 
 // What came of a walk, and whether the plain reading gives the same.
-#[derive(Drop)]
+#[derive(Clone, Copy)]
 pub struct Compared {
     pub came: Came,
     pub alike: bool,

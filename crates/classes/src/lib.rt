@@ -12,7 +12,7 @@ pub const MASK_SIZE: usize = 8;
 pub const MASKS_SIZE: usize = 256;
 
 // Whether a letter is the one that a symbol stands for at an ordinal; where it is, what is left of the ordinal for the symbols before.
-#[derive(Drop)]
+#[derive(Clone, Copy)]
 pub enum Rest {
     Differs,
     Next(usize),

@@ -14,7 +14,7 @@ ghost use Rattle.count.specs.Tree.{key_of, node_at, has_symbol, next_node, Tree,
 const NODES: usize = rules::MAX_RULES + 1;
 
 // Where a pattern branches off from the nodes before it: the last node that it follows, and how many of its symbols it has in common with it.
-#[derive(Drop)]
+#[derive(Clone, Copy)]
 struct Branch {
     node: usize,
     depth: usize,

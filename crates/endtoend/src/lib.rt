@@ -12,7 +12,7 @@ use speech::Speech;
 use walk::WalkAnswer;
 
 // The answers of the four calls.
-#[derive(Drop)]
+#[derive(Clone, Copy)]
 pub struct Answers {
     pub replay: Answer,
     pub build: Answer,

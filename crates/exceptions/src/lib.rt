@@ -24,7 +24,7 @@ pub const SIZE: usize = 35886;
 pub const START: usize = 4199;
 
 // What a list says of a name: nothing; so many phones, which were given; or so many, for which there was no room.
-#[derive(Drop)]
+#[derive(Clone, Copy)]
 pub enum Lookup {
     Unlisted,
     Given(usize),
@@ -32,7 +32,7 @@ pub enum Lookup {
 }
 
 // The state in which a listed name ends; any other name is absent.
-#[derive(Drop)]
+#[derive(Clone, Copy)]
 pub enum Ending {
     State(usize),
     Absent,

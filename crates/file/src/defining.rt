@@ -7,7 +7,7 @@ ghost use Rattle.file_format.specs.File.{class_fits, read_defined};
 ghost use Rattle.file.specs.Loading.{no_class_line, class_mask, class_at, classes_end};
 
 // A line where a class may stand: whether it is of a class's type, and its class. A mask of 0 says that it defines none.
-#[derive(Drop)]
+#[derive(Clone, Copy)]
 pub struct ClassLine {
     pub defines: bool,
     pub next: usize,
@@ -16,7 +16,7 @@ pub struct ClassLine {
 }
 
 // Where class lines end: at another line, or at one of their type that defines no class.
-#[derive(Drop)]
+#[derive(Clone, Copy)]
 pub struct ClassesEnd {
     pub ok: bool,
     pub at: usize,

@@ -4,7 +4,7 @@ ghost use Rattle.frames.specs.Lines.{sound_line};
 ghost use Rattle.file.specs.Loading.{no_head, head_in, head_at};
 
 // A head that was read from a frame.
-#[derive(Drop)]
+#[derive(Clone, Copy)]
 pub struct Head {
     pub ok: bool,
     pub count: usize,
@@ -12,7 +12,7 @@ pub struct Head {
 }
 
 // The first line of a file.
-#[derive(Drop)]
+#[derive(Clone, Copy)]
 pub struct HeadLine {
     pub sound: bool,
     pub next: usize,

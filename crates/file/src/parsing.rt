@@ -11,14 +11,14 @@ ghost use Rattle.file.specs.Loading.{none_ruled, rule_frame, ruled_in, rule_at, 
 use rules::{Numbered, Rule};
 
 // A rule that was read from a frame.
-#[derive(Drop)]
+#[derive(Clone, Copy)]
 pub struct Ruled {
     pub ok: bool,
     pub entry: Numbered,
 }
 
 // A line after the first.
-#[derive(Drop)]
+#[derive(Clone, Copy)]
 pub struct RuleLine {
     pub sound: bool,
     pub next: usize,

@@ -9,7 +9,7 @@ ghost use Rattle.fitting.specs.Reading.{passing};
 ghost use Rattle.fitting.specs.Search.{FitAt};
 
 // A rule that fits, by its place, and how many rules fit there.
-#[derive(Drop)]
+#[derive(Clone, Copy)]
 pub enum Fit {
     Rule(usize, usize),
     Nothing,

@@ -6,7 +6,7 @@ ghost use Rattle.rules.specs.Memory.{over};
 ghost use Rattle.frames.specs.Lines.{digit, value, complement, Parsed, sound_line, pair_of, decoded, report, line_after};
 
 // A line that was read: whether it is sound, where the next one starts and how many bytes its frame has, the checksum among them.
-#[derive(Drop)]
+#[derive(Clone, Copy)]
 pub struct Line {
     pub sound: bool,
     pub next: usize,
@@ -14,7 +14,7 @@ pub struct Line {
 }
 
 // Two digits that were read: whether they are, and their byte.
-#[derive(Drop)]
+#[derive(Clone, Copy)]
 struct Pair {
     ok: bool,
     byte: u8,

@@ -6,7 +6,7 @@ ghost use Rattle.frames.specs.Lines.{digit};
 ghost use Rattle.frames.specs.Output.{output, begun, Sent, SumKept, ended, digit_pairs};
 
 // A frame that is being written: where its next byte goes, and the sum modulo 256 of its bytes so far.
-#[derive(Drop)]
+#[derive(Clone, Copy)]
 pub struct Writer {
     pub at: usize,
     pub sum: u8,

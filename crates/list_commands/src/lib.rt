@@ -8,7 +8,7 @@ ghost use Rattle.std.specs.Prelude.{◌≡◌, true, false, ◌≤◌, length, g
 ghost use Rattle.list_commands.specs.ListCommands.{longest_answer, is_list_command, holding, Replied};
 
 // What a command gives: the length of its answer, and how many units of the list are lent from now on.
-#[derive(Drop)]
+#[derive(Clone, Copy)]
 pub struct Reply {
     pub len: usize,
     pub lent: usize,

@@ -31,7 +31,7 @@ pub fn has_next(names: &[u8], at: usize, count: usize, limit: usize) -> bool
 }
 
 // Whether a sheet is sound, and how many whole names it begins with.
-#[derive(Drop)]
+#[derive(Clone, Copy)]
 pub struct SheetSize {
     pub sound: bool,
     pub count: usize,
@@ -59,7 +59,7 @@ pub fn size_of(sheet: &[u8]) -> SheetSize
 pub const REPLY: usize = 5;
 
 // How far the answering has come: the place in the names, the names answered, the phones and the numbers given.
-#[derive(Drop)]
+#[derive(Clone, Copy)]
 pub struct Progress {
     pub at: usize,
     pub count: usize,

@@ -11,7 +11,7 @@ pub const MAX_LINE: usize = 4096;
 // How far the input is. Of the piece that was read last, the bytes before `end` have arrived, and those before `at` are in lines already; the
 // line buffer holds the first `held` bytes of a line that has not ended. A line that fills the buffer is too long: its 0A has no room. Once the
 // input is over, nothing is read any more.
-#[derive(Drop)]
+#[derive(Clone, Copy)]
 pub struct Input {
     pub over: bool,
     pub at: usize,
@@ -20,7 +20,7 @@ pub struct Input {
 }
 
 // What comes next: a line, so many bytes with its 0A; one that is too long; one that the input ends in; nothing more.
-#[derive(Drop)]
+#[derive(Clone, Copy)]
 pub enum Next {
     Line(usize),
     TooLong,
@@ -29,7 +29,7 @@ pub enum Next {
 }
 
 // What comes next, and how far the input is then.
-#[derive(Drop)]
+#[derive(Clone, Copy)]
 pub struct LineRead {
     pub next: Next,
     pub input: Input,

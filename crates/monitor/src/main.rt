@@ -10,7 +10,7 @@ use lines::{MAX_LINE, Next};
 use list_commands::Reply;
 
 // A command: how many bytes it has, and how many rules.hex where it asks for them.
-#[derive(Drop)]
+#[derive(Clone, Copy)]
 struct Command {
     len: usize,
     file: usize,

@@ -6,7 +6,7 @@ ghost use Rattle.tables.specs.Words.{row_size, needed_words};
 ghost use Rattle.passes.specs.Passes.{max_steps, Stepped, Symbols, rows_at, left_on, right_on, Passed, Both, Rows, memory, Sized, WordPassed, AllPassed};
 
 // A state, and how many entries have been looked up.
-#[derive(Drop)]
+#[derive(Clone, Copy)]
 pub struct Step {
     pub state: u16,
     pub steps: usize,
@@ -26,7 +26,7 @@ pub fn look_up(words: &[u16], rows: usize, s: Step, c: u8) -> Step
 }
 
 // Whether every state of a pass is below the state count, and how many entries it looked up.
-#[derive(Drop)]
+#[derive(Clone, Copy)]
 pub struct Pass {
     pub usable: bool,
     pub steps: usize,

@@ -7,7 +7,7 @@ ghost use Rattle.phone_strings.specs.Packed.{Packed};
 ghost use Rattle.phone_strings.specs.Groups.{PhoneCells, LastBytes, group_bytes, byte_from, HoldsPhones};
 
 // Where phones stand: the first of their cells, and how many phones there are.
-#[derive(Drop)]
+#[derive(Clone, Copy)]
 pub struct Located {
     pub from: usize,
     pub count: usize,

@@ -15,7 +15,7 @@ pub const NODE: usize = 4;
 
 // Where the left pass of a word stands: whether no state was out of range, its node, how many nodes there are, and how many entries have been looked
 // up.
-#[derive(Drop)]
+#[derive(Clone, Copy)]
 pub struct SharedStep {
     pub usable: bool,
     pub node: usize,

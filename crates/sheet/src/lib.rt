@@ -15,7 +15,7 @@ use compiled::Compiled;
 use rules::{Answer, Refusal};
 
 // The answer to a sheet, the one count of entries looked up, and how many names were answered.
-#[derive(Drop)]
+#[derive(Clone, Copy)]
 pub struct SheetAnswer {
     pub answer: Answer,
     pub steps: usize,

@@ -15,7 +15,7 @@ ghost use Rattle.sheet_judging.specs.Kept.{Root, NextJudged, SheetJudged};
 
 // How far the judging has come: the place in the sheet, the names judged, the parts kept, the nodes of the tree, the entries looked up, and the refusal of
 // the sheet, or 0.
-#[derive(Drop)]
+#[derive(Clone, Copy)]
 pub struct Judging {
     pub at: usize,
     pub count: usize,

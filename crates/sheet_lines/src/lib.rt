@@ -21,7 +21,7 @@ pub fn sheet_line(steps: usize, names: usize, out: &mut [u8]) -> usize
 }
 
 // A name's line: its length, the phones and numbers in it, and the contested letters of the last name spoken, after it.
-#[derive(Drop)]
+#[derive(Clone, Copy)]
 pub struct NamePrinted {
     pub len: usize,
     pub phones: usize,
@@ -63,7 +63,7 @@ fn name_line(
 }
 
 // The lines of names: their length, and the contested letters of the last name spoken, after them.
-#[derive(Drop)]
+#[derive(Clone, Copy)]
 pub struct NamesPrinted {
     pub len: usize,
     pub contested: u8,

@@ -17,7 +17,7 @@ use speech::Reached;
 
 // What the words of a name came to: whether no state was out of range, how many nodes the tree has, how many entries have been looked up, and how
 // reading ended.
-#[derive(Drop)]
+#[derive(Clone, Copy)]
 pub struct Judged {
     pub usable: bool,
     pub nodes: usize,
@@ -111,7 +111,7 @@ pub fn parts_in(end: u32) -> usize
 }
 
 // What a name of the sheet came to: the number of the refusal of the whole sheet, 0 where there is none; the nodes and the steps; how reading ended.
-#[derive(Drop)]
+#[derive(Clone, Copy)]
 pub struct Judgement {
     pub refusal: u8,
     pub nodes: usize,

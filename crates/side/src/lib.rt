@@ -25,7 +25,7 @@ fn clear_row(rows: &mut [u16], at: usize)
 }
 
 // Where the numbering of a pattern stands: the state of its symbols so far, and how many states there are.
-#[derive(Drop)]
+#[derive(Clone, Copy)]
 struct Place {
     state: usize,
     count: usize,

@@ -16,7 +16,7 @@ use rules::Refusal;
 
 // The answer of a call that speaks a name: how many phones and rule numbers it gave, and at how many reached letters more than one rule fits; or
 // why it declined.
-#[derive(Drop)]
+#[derive(Clone, Copy)]
 pub enum Speech {
     Spoken {
         phones: usize,
@@ -27,7 +27,7 @@ pub enum Speech {
 }
 
 // How reading ended: how many rules were applied, the letter that none covers, or tables that are unusable.
-#[derive(Drop)]
+#[derive(Clone, Copy)]
 pub enum Reached {
     Rules(usize),
     Uncovered(usize),
@@ -131,7 +131,7 @@ fn numbers_fit(parts: &[u32], room: usize) -> bool
 }
 
 // How many phones and numbers are given, and how many letters were contested.
-#[derive(Drop)]
+#[derive(Clone, Copy)]
 struct Given {
     phones: usize,
     numbers: usize,
@@ -264,7 +264,7 @@ pub fn answer(
 }
 
 // What a list says of a name: an answer, or nothing.
-#[derive(Drop)]
+#[derive(Clone, Copy)]
 pub enum Listed {
     Said(Speech),
     Unlisted,

@@ -5,21 +5,21 @@ ghost use Rattle.automaton.specs.Changes.{Phones, First};
 ghost use Rattle.states.specs.States.{past, Split, Valued, AsksState, Placing, Lowered, Ended, Compared, Equal, FoundOrAdded, Written, copy_of, group_of, CellPut, Skipped, AppendAsks, Appended, with_successor, with_phones, Interned, PathOf, PutAsks, PutGives, EndAsks};
 
 // What a change gives: the last row in use, and the row that is the new start.
-#[derive(Drop)]
+#[derive(Clone, Copy)]
 pub struct Placed {
     pub top: usize,
     pub root: usize,
 }
 
 // Where the cells of a row lie.
-#[derive(Drop)]
+#[derive(Clone, Copy)]
 pub struct Span {
     pub from: usize,
     pub to: usize,
 }
 
 // Cells from `at` to `to` are left to copy, to `out`.
-#[derive(Drop)]
+#[derive(Clone, Copy)]
 pub struct Cut {
     pub at: usize,
     pub to: usize,

@@ -13,7 +13,7 @@ ghost use Rattle.table_reading.specs.Letters.{found_of, lowest_shared, count_sha
 use speech::Reached;
 
 // The lowest place that two sets share.
-#[derive(Drop)]
+#[derive(Clone, Copy)]
 enum Found {
     Place(usize),
     Empty,
@@ -98,7 +98,7 @@ fn count_shared(sets: &[u64], s: usize, t: usize) -> usize
 
 // What is found at a reached letter: the place of the numbered rule to apply, how many literal rules fit and where reading goes on; none; or tables
 // that are unusable.
-#[derive(Drop)]
+#[derive(Clone, Copy)]
 enum Chosen {
     Rule(usize, usize, usize),
     Nothing,

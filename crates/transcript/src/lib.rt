@@ -45,7 +45,7 @@ fn name_in(text: &[u8], at: usize, frame: &mut [u8]) -> usize
 }
 
 // The answer to a line: where the next line starts, and the length of what is to be printed.
-#[derive(Drop)]
+#[derive(Clone, Copy)]
 pub struct Answered {
     pub next: usize,
     pub len: usize,

@@ -14,7 +14,7 @@ use rules::Refusal;
 use speech::{Reached, Speech};
 
 // The answer of a walk: the entries looked up, and what was said.
-#[derive(Drop)]
+#[derive(Clone, Copy)]
 pub struct WalkAnswer {
     pub steps: usize,
     pub speech: Speech,
