@@ -8,6 +8,7 @@ use borrow.Author.Rules.{rules}
 use Rattle.image.specs.Image.{count_of}
 use Rattle.fitting.proofs.Search.{fits_from, count_next, count_end}
 use Rattle.fitting.proofs.count_fits.Goals as goal
+use Rattle.fitting.proofs.count_fits.Goals.{then-fits_by, else-fits_by}
 
 pub loop-p-init : goal.loop-p-init
 loop-p-init c = (search rules, omega arith, omega arith)
@@ -18,10 +19,14 @@ fits_by-requires c = (c.requires.0, (c.requires.1.0, (omega (arith, c.loop-p-tes
 pub loop-p-preserved : goal.loop-p-preserved
 loop-p-preserved c = let l = c.loop-p in
     let h : l.p < count_of c.args.image.now = omega (arith, c.loop-p-test.true, c.requires.1.1.0) in
-    ⊎_elim
-    (λ b. rw b.1 (omega arith, omega (arith, l.invariant.1), omega (arith, count_next c.args.image.now c.args.frame.now c.args.i l.p h _ (sym c.fits_by.ensures ∙ b.0.taken), l.invariant.2)))
-    (λ b. rw b.1 (omega arith, omega (arith, l.invariant.1), omega (arith, count_next c.args.image.now c.args.frame.now c.args.i l.p h _ (sym c.fits_by.ensures ∙ b.0.left), l.invariant.2)))
-    c.if-fits_by.branch
+    elim c.if-fits_by.branch [
+      | then-fits_by b ↦
+          rw b.fitting-is
+          (omega arith, omega (arith, l.invariant.1), omega (arith, count_next c.args.image.now c.args.frame.now c.args.i l.p h _ (sym c.fits_by.ensures ∙ b.if-fits_by.true), l.invariant.2))
+      | else-fits_by b ↦
+          rw b.fitting-is
+          (omega arith, omega (arith, l.invariant.1), omega (arith, count_next c.args.image.now c.args.frame.now c.args.i l.p h _ (sym c.fits_by.ensures ∙ b.if-fits_by.false), l.invariant.2))
+    ]
 
 pub returns : goal.returns
 returns c = omega (arith, c.loop-p.invariant.2, count_end c.args.image.now c.args.frame.now c.args.i c.loop-p.p (omega (arith, c.loop-p-test.false, c.requires.1.1.0)))

@@ -1,0 +1,36 @@
+-- `edits::drop_rule` meets its contract.
+-- Assumes nothing.
+use mathlib.Core.Path.{sym, ◌∙◌}
+use native.Mathlib.Omega.{arith}
+use borrow.Author.Rules.{rules}
+use borrow.Author.Tests.{not-true, not-false}
+use Rattle.image.proofs.Tests.{valid_long, valid_count}
+use Rattle.edits.proofs.Answers.{invalid, drop_none, drop_spent, drop_sound, drop_yes}
+use Rattle.edits.proofs.drop_rule.Goals as goal
+
+pub returns-then-not-is_ruleset : goal.returns-then-not-is_ruleset
+returns-then-not-is_ruleset c = invalid c.args.image.now _ (sym c.is_ruleset.ensures ∙ c.if-not-is_ruleset.true)
+
+pub rule_count-count-requires : goal.rule_count-count-requires
+rule_count-count-requires c = valid_long c.args.image.now (sym c.is_ruleset.ensures ∙ c.if-not-is_ruleset.false)
+
+pub place_of-k-requires : goal.place_of-k-requires
+place_of-k-requires c = (omega (arith, c.rule_count-count.ensures.0, valid_count c.args.image.now (sym c.is_ruleset.ensures ∙ c.if-not-is_ruleset.false)), valid_long c.args.image.now (sym c.is_ruleset.ensures ∙ c.if-not-is_ruleset.false))
+
+pub returns-then-count-k : goal.returns-then-count-k
+returns-then-count-k c = drop_none c.args.image.now (sym c.is_ruleset.ensures ∙ c.if-not-is_ruleset.false) _ c.rule_count-count.ensures.0 c.args.number _ c.place_of-k.ensures c.if-count-k.true
+
+pub edit_count-requires : goal.edit_count-requires
+edit_count-requires c = valid_long c.args.image.now (sym c.is_ruleset.ensures ∙ c.if-not-is_ruleset.false)
+
+pub returns-then-edit_count-ge-MAX_EDITS : goal.returns-then-edit_count-ge-MAX_EDITS
+returns-then-edit_count-ge-MAX_EDITS c = drop_spent c.args.image.now (sym c.is_ruleset.ensures ∙ c.if-not-is_ruleset.false) _ c.rule_count-count.ensures.0 c.args.number _ c.place_of-k.ensures c.if-count-k.false _ c.edit_count.ensures c.if-edit_count-ge-MAX_EDITS.true
+
+pub remove-requires : goal.remove-requires
+remove-requires c = (valid_long c.args.image.now (sym c.is_ruleset.ensures ∙ c.if-not-is_ruleset.false), (omega (arith, c.rule_count-count.ensures.0, c.if-count-k.false), (valid_count c.args.image.now (sym c.is_ruleset.ensures ∙ c.if-not-is_ruleset.false), omega (arith, c.edit_count.ensures, c.if-edit_count-ge-MAX_EDITS.false))))
+
+pub settle-requires : goal.settle-requires
+settle-requires c = drop_sound c.args.image.now (sym c.is_ruleset.ensures ∙ c.if-not-is_ruleset.false) _ c.rule_count-count.ensures.0 c.args.number _ c.place_of-k.ensures c.if-count-k.false _ c.edit_count.ensures c.if-edit_count-ge-MAX_EDITS.false _ c.remove.ensures
+
+pub returns : goal.returns
+returns c = drop_yes c.args.image.now (sym c.is_ruleset.ensures ∙ c.if-not-is_ruleset.false) _ c.rule_count-count.ensures.0 c.args.number _ c.place_of-k.ensures c.if-count-k.false _ c.edit_count.ensures c.if-edit_count-ge-MAX_EDITS.false _ c.remove.ensures _ c.settle.ensures
