@@ -1,0 +1,19 @@
+-- `file::read_file` meets its contract: the file is judged, then stored.
+-- Assumes nothing.
+use mathlib.Core.Path.{sym, ap, ◌∙◌}
+use Rattle.rules.specs.Refusals.{reply_of}
+use Rattle.file.proofs.FileStored.{load_short, load_refused, load_accepted}
+use borrow.Author.Rules.{rules}
+use Rattle.file.proofs.read_file.Goals as goal
+
+pub returns-then-image-lt-SIZE : goal.returns-then-image-lt-SIZE
+returns-then-image-lt-SIZE c = load_short c.args.file.now c.args.image.now c.if-image-lt-SIZE.true
+
+pub returns-in-Refused : goal.returns-in-Refused
+returns-in-Refused c = load_refused c.args.file.now c.args.image.now c.if-image-lt-SIZE.false _ _ (sym (ap reply_of c.in-Refused.is) ∙ c.judge-answer.ensures)
+
+pub store_file-requires : goal.store_file-requires
+store_file-requires c = (c.if-image-lt-SIZE.false, sym c.judge-answer.ensures ∙ ap reply_of c.in_default.is)
+
+pub returns : goal.returns
+returns c = load_accepted c.args.file.now c.args.image.now c.if-image-lt-SIZE.false (sym c.judge-answer.ensures ∙ ap reply_of c.in_default.is) _ c.store_file.ensures
