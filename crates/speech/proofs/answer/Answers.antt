@@ -11,13 +11,11 @@ use Rattle.speech.specs.declared.Reached.{Reached}
 use Rattle.speech.proofs.answer.Goals as goal
 
 pub slice_bounds-deliver-end : goal.slice_bounds-deliver-end
-slice_bounds-deliver-end c = let k = c.reached-1.given in
-    let f : c.in-Rules.k ≤ frame_size = subst (EndsBy frame_size) c.in-Rules.is c.requires.1.few in
+slice_bounds-deliver-end c = let f : c.in-Rules.k ≤ frame_size = subst (EndsBy frame_size) c.in-Rules.is c.requires.1.few in
     sym (length-take-le c.in-Rules.k c.args.parts.now (omega (arith, c.requires.1.sized)))
 
 pub deliver-requires : goal.deliver-requires
-deliver-requires c = let k = c.reached-1.given in
-    let f : c.in-Rules.k ≤ frame_size = subst (EndsBy frame_size) c.in-Rules.is c.requires.1.few in
+deliver-requires c = let f : c.in-Rules.k ≤ frame_size = subst (EndsBy frame_size) c.in-Rules.is c.requires.1.few in
     let l = length-take-le c.in-Rules.k c.args.parts.now (omega (arith, c.requires.1.sized)) in
     (c.requires.0, (omega arith, c.requires.1.within _ c.in-Rules.is))
 
