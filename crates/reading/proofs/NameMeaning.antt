@@ -58,5 +58,6 @@ module _ (k : Classes) (rules : List Entry) (m : Str → Str) (targets : Targets
   said_finished (w ∷ ws) zs (next {xs} {ys} s t) = ap₂ followed (word_finished w xs s) (said_finished ws ys t)
 
   pub uncovered_stops : (ws : List Word) (i : ℕ) → UncoveredIn k rules m ws i → read_words m (plain k rules) ws ≡ uncovered i
+  uncovered_stops [] j x' = elim x' [ ]
   uncovered_stops (w ∷ ws) j (here {i} e d) = ap (λ (r : Reading). followed r (read_words m (plain k rules) ws)) (word_uncovered w i e d)
   uncovered_stops (w ∷ ws) j (later {xs} s u) = ap₂ followed (word_finished w xs s) (uncovered_stops ws j u)

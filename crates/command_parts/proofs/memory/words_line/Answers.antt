@@ -1,0 +1,20 @@
+-- `command_parts::memory::words_line` meets its contract: 0A and the words go out.
+-- Assumes nothing.
+use mathlib.Core.List.{◌∷◌}
+use native.Mathlib.Omega.{arith}
+use Rattle.frames.proofs.Output.{sent_then}
+use Rattle.lines.proofs.Printed.{printed_sent, length_printed, length_twos}
+use Rattle.lines.specs.Printed.{twos}
+use borrow.Author.Rules.{rules}
+use Rattle.command_parts.proofs.memory.words_line.Goals as goal
+
+pub returns : goal.returns
+returns c = let a = c.args in
+    let b = c.begin-start.ensures in
+    let k = c.put-kind.ensures in
+    let s = c.put_numbers-body.ensures in
+    let e = c.end.ensures in
+    record {
+      len = omega (arith, length_printed (10 ∷ twos a.words.now), length_twos a.words.now, b.next, k.next, s.next, e.next);
+      bytes = printed_sent a.out.now b.begun (sent_then k.sent s.sent) e.line;
+    }

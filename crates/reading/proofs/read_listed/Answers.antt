@@ -1,0 +1,21 @@
+-- `reading::read_listed` meets its contract: what the list says, or else the reading of its words.
+-- Assumes nothing.
+use Rattle.speech.proofs.Lookup.{listed_answer, unlisted_answer, unlisted_none, says_all, unsaid_list}
+use Rattle.speech.specs.Speech.{Outcome, answered, delivered, plain_words}
+use Rattle.fitting.specs.Fitting.{Str}
+use Rattle.image.specs.Image.{entries_of, classes_of}
+use Rattle.exceptions.specs.Layout.{words_of, phones_for}
+use Prim.Native.Nat.{ℕ}
+use mathlib.Core.List.{List}
+use mathlib.Core.Path.{ap, ◌∙◌}
+use borrow.Author.Rules.{rules}
+use Rattle.reading.proofs.read_listed.Goals as goal
+
+pub read_sound-requires : goal.read_sound-requires
+read_sound-requires c = (c.requires.0, unsaid_list c.args.list.now c.args.name.now c.requires.1.0 c.requires.1.1 (unlisted_none (phones_for (words_of c.args.list.now) c.args.name.now) (answered (plain_words (classes_of c.args.image.now) (entries_of c.args.image.now) c.args.name.now (phones_for (words_of c.args.list.now))) 0) c.args.phones.now _ c.args.numbers.now _ c.say_listed-found.ensures c.in-Unlisted.is))
+
+pub returns-in-Said : goal.returns-in-Said
+returns-in-Said c = listed_answer _ _ c.args.phones.now _ c.args.numbers.now _ c.say_listed-found.ensures _ c.in-Said.is
+
+pub returns-in-Unlisted : goal.returns-in-Unlisted
+returns-in-Unlisted c = c.read_sound.ensures ∙ (ap (λ (m : Str → Str). delivered (answered (plain_words (classes_of c.args.image.now) (entries_of c.args.image.now) c.args.name.now m) 0) c.say_listed-found.new.phones c.args.numbers.now) (says_all c.args.list.now c.requires.1.0) ∙ unlisted_answer _ _ c.args.phones.now _ c.args.numbers.now _ c.say_listed-found.ensures (λ (o : Outcome) (l : List ℕ). delivered o l c.args.numbers.now) c.in-Unlisted.is)
