@@ -23,7 +23,7 @@ pub returns : goal.returns
 unfolding shown_edits
 returns c = let a = c.args in
     let told = is_shown (eqb (length a.f.now) 1) (bytes4 (edits_of a.image.now)) _ a.out.now _ (eq-eqb (length a.f.now) 1 c.if-f-ne1.false)
-    (edits_shown _ (edits_of a.image.now) _ a.out.now _ c.edit_count.ensures c.edits_line.ensures) in
+    (edits_shown _ (edits_of a.image.now) _ a.out.now _ c.edit_count.ensures (c.edits_line.ensures.len, c.edits_line.ensures.bytes)) in
     record {
       len = told.0;
       bytes = told.1;

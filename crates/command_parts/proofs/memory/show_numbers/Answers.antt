@@ -21,7 +21,7 @@ returns-then-f-ne1 c = let a = c.args in
 pub returns : goal.returns
 unfolding shown_numbers
 returns c = let a = c.args in
-    let told = is_shown (eqb (length a.f.now) 1) (twos a.numbers.now) _ a.out.now _ (eq-eqb (length a.f.now) 1 c.if-f-ne1.false) c.words_line.ensures in
+    let told = is_shown (eqb (length a.f.now) 1) (twos a.numbers.now) _ a.out.now _ (eq-eqb (length a.f.now) 1 c.if-f-ne1.false) (c.words_line.ensures.len, c.words_line.ensures.bytes) in
     record {
       len = told.0;
       bytes = told.1;

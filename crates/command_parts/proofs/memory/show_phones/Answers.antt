@@ -20,7 +20,7 @@ returns-then-f-ne1 c = let a = c.args in
 pub returns : goal.returns
 unfolding shown_phones
 returns c = let a = c.args in
-    let told = is_shown (eqb (length a.f.now) 1) a.phones.now _ a.out.now _ (eq-eqb (length a.f.now) 1 c.if-f-ne1.false) c.bytes_line.ensures in
+    let told = is_shown (eqb (length a.f.now) 1) a.phones.now _ a.out.now _ (eq-eqb (length a.f.now) 1 c.if-f-ne1.false) (c.bytes_line.ensures.len, c.bytes_line.ensures.bytes) in
     record {
       len = told.0;
       bytes = told.1;

@@ -30,7 +30,7 @@ slice_bounds-sets_line-end c = omega (arith, c.wide.ensures.0, c.four_at-i.ensur
 pub returns : goal.returns
 unfolding shown_sets
 returns c = let a = c.args in
-    let told = part_shown eights a.f.now a.sets.now _ a.out.now _ (sym c.is_inside.ensures ∙ c.if-not-is_inside.false) _ _ c.four_at-i.ensures.0 c.wide.ensures.0 c.sets_line.ensures in
+    let told = part_shown eights a.f.now a.sets.now _ a.out.now _ (sym c.is_inside.ensures ∙ c.if-not-is_inside.false) _ _ c.four_at-i.ensures.0 c.wide.ensures.0 (c.sets_line.ensures.len, c.sets_line.ensures.bytes) in
     record {
       len = told.0;
       bytes = told.1;

@@ -31,7 +31,7 @@ slice_bounds-words_line-end c = omega (arith, c.wide.ensures.0, c.four_at-i.ensu
 pub returns : goal.returns
 unfolding shown_words
 returns c = let a = c.args in
-    let told = part_shown twos a.f.now a.words.now _ a.out.now _ (sym c.is_inside.ensures ∙ c.if-not-is_inside.false) _ _ c.four_at-i.ensures.0 c.wide.ensures.0 c.words_line.ensures in
+    let told = part_shown twos a.f.now a.words.now _ a.out.now _ (sym c.is_inside.ensures ∙ c.if-not-is_inside.false) _ _ c.four_at-i.ensures.0 c.wide.ensures.0 (c.words_line.ensures.len, c.words_line.ensures.bytes) in
     record {
       len = told.0;
       bytes = told.1;

@@ -1,0 +1,17 @@
+-- `passes::run_words` meets its contract: one word more at each turn.
+-- Assumes nothing.
+use mathlib.Core.Path.{sym, ◌∙◌}
+use Prim.Native.Nat.{◌+◌, ◌-◌}
+use lib.ListN.{length}
+use borrow.Author.Tests.{not-true, not-false}
+use borrow.Author.Rules.{rules}
+use Rattle.passes.specs.Passes.{memory}
+use Rattle.passes.proofs.WordsPassed.{PassedTo, passed-begin, passed-word, passed-next, passed-bad, passed-end}
+use native.Mathlib.Omega.{arith}
+use Rattle.passes.proofs.run_words.Given as goal
+
+abbrev pub invariant-loop-from : goal.invariant-loop-from
+invariant-loop-from l = PassedTo l.words l.left_states l.right_states l.fit l.list l.name (memory l.found l.left l.right) l.steps l.from
+
+abbrev pub decreases-loop-from : goal.decreases-loop-from
+decreases-loop-from l = length l.name + 2 - l.from

@@ -1,0 +1,39 @@
+-- `side::complete_level` meets its contract: a loop over the patterns completes the states of one length.
+-- Assumes nothing.
+use mathlib.Core.Logic.{⊎_elim}
+use Prim.Native.Nat.{◌-◌}
+use Rattle.side.proofs.Filling as F
+use borrow.Author.Rules.{rules}
+use native.Mathlib.Omega.{arith}
+use Rattle.side.proofs.complete_level.Goals as goal
+
+pub loop-i-init : goal.loop-i-init
+loop-i-init c = let pre = c.requires in
+    F.rise-begin _ _ _ _ _ _ _ pre.0 pre.1 pre.2 pre.3 pre.4 pre.6
+
+pub overflow_add-e : goal.overflow_add-e
+overflow_add-e c = let pre = c.requires in
+    omega (arith, pre.0.few)
+
+pub complete_one-top-requires : goal.complete_one-top-requires
+complete_one-top-requires c = let pre = c.requires in
+    F.rise-asks _ _ _ _ _ _ _ pre.0 pre.1 pre.2 pre.3 pre.4 _ _ _ _ c.loop-i.invariant (omega arith) (omega (arith, c.wide-len.ensures.0))
+
+pub loop-i-preserved : goal.loop-i-preserved
+loop-i-preserved c = let pre = c.requires in
+    ⊎_elim
+    (λ a. F.rise-same a.8 a.9 a.10
+    (F.rise-next _ _ _ _ _ _ _ pre.0 pre.1 pre.2 pre.3 pre.4 _ _ _ _ c.loop-i.invariant (omega arith) (omega (arith, c.wide-len.ensures.0, a.0.taken)) _ _ _ a.3.ensures))
+    (λ a. F.rise-same a.1 a.2 a.3
+    (F.rise-skip _ _ _ _ _ _ _ pre.0 pre.1 pre.2 pre.3 pre.4 _ _ _ _ c.loop-i.invariant (omega arith) (omega (arith, c.wide-len.ensures.0, a.0.left))))
+    c.if-d-len.branch
+
+pub shape_of-rows : goal.shape_of-rows
+shape_of-rows c = c.loop-i.invariant.rows_past.len
+
+pub shape_of-sets : goal.shape_of-sets
+shape_of-sets c = c.loop-i.invariant.sets_past.len
+
+pub returns : goal.returns
+returns c = let pre = c.requires in
+    F.rise-end _ _ _ _ _ _ _ pre.0 pre.1 pre.2 pre.3 pre.4 _ _ _ _ c.loop-i.invariant (omega arith)

@@ -1,0 +1,9 @@
+-- One bit of one set word is set.
+-- Assumes nothing.
+use Rattle.side.proofs.Writing.{one}
+use native.Mathlib.Omega.{arith}
+use borrow.Author.Rules.{rules}
+use Rattle.side.proofs.put_place.Goals as goal
+
+pub returns : goal.returns
+returns c = one _ _ _ _ c.with_bit.ensures (omega arith)
