@@ -21,8 +21,8 @@ shape_of-left-then-not-first c = c.left_pass-first.auto.states
 pub returns-then-not-first : goal.returns-then-not-first
 returns-then-not-first c = let a = c.args in
     let one = c.left_pass-first in
-    both_bad a.words.now a.left-states a.right-states a.frame.now (length a.frame.now - 2) a.steps one.new.states a.right.now one.result
-    (subst (λ (n : ℕ). Passed (left_on (rows_at a.words.now head_words a.left-states) a.steps a.frame.now) a.left-states n n (a.steps + frame_size) one.new.states one.result) (shorter (length a.frame.now) c.requires.3) one.ensures)
+    both_bad a.words.now a.left_states a.right_states a.frame.now (length a.frame.now - 2) a.steps one.new.states a.right.now one.result
+    (subst (λ (n : ℕ). Passed (left_on (rows_at a.words.now head_words a.left_states) a.steps a.frame.now) a.left_states n n (a.steps + frame_size) one.new.states one.result) (shorter (length a.frame.now) c.requires.3) one.ensures)
     (not-true _ c.if-not-first.true)
 
 pub right_pass-requires : goal.right_pass-requires
@@ -39,8 +39,8 @@ pub returns : goal.returns
 returns c = let a = c.args in
     let one = c.left_pass-first in
     let two = c.right_pass in
-    both_good a.words.now a.left-states a.right-states a.frame.now (length a.frame.now - 2) a.steps one.new.states two.new.states one.result
-    (subst (λ (n : ℕ). Passed (left_on (rows_at a.words.now head_words a.left-states) a.steps a.frame.now) a.left-states n n (a.steps + frame_size) one.new.states one.result) (shorter (length a.frame.now) c.requires.3) one.ensures)
+    both_good a.words.now a.left_states a.right_states a.frame.now (length a.frame.now - 2) a.steps one.new.states two.new.states one.result
+    (subst (λ (n : ℕ). Passed (left_on (rows_at a.words.now head_words a.left_states) a.steps a.frame.now) a.left_states n n (a.steps + frame_size) one.new.states one.result) (shorter (length a.frame.now) c.requires.3) one.ensures)
     (not-false _ c.if-not-first.false) two.result
-    (subst (λ (n : ℕ). Passed (right_on (rows_at a.words.now (right_rows a.left-states) a.right-states) one.result.steps a.frame.now) a.right-states n 1 (one.result.steps + frame_size) two.new.states two.result)
+    (subst (λ (n : ℕ). Passed (right_on (rows_at a.words.now (right_rows a.left_states) a.right_states) one.result.steps a.frame.now) a.right_states n 1 (one.result.steps + frame_size) two.new.states two.result)
     (shorter (length a.frame.now) c.requires.3) two.ensures)

@@ -12,7 +12,7 @@ use Rattle.passes.proofs.run_words.Goals as goal
 
 pub loop-from-init : goal.loop-from-init
 loop-from-init c = let a = c.args in
-    passed-begin a.words.now a.left-states a.right-states a.fit a.list.now a.name.now (memory a.found.now a.left.now a.right.now) c.requires.3
+    passed-begin a.words.now a.left_states a.right_states a.fit a.list.now a.name.now (memory a.found.now a.left.now a.right.now) c.requires.3
 
 pub run_word-pass-requires : goal.run_word-pass-requires
 run_word-pass-requires c = let a = c.args in
@@ -21,7 +21,7 @@ run_word-pass-requires c = let a = c.args in
       p.0,
       p.1,
       p.2,
-      passed-word a.words.now a.left-states a.right-states a.fit a.list.now a.name.now p.1.sound (memory k.found k.left k.right) k.steps k.from k.invariant (omega arith) _ c.word_end-end.ensures,
+      passed-word a.words.now a.left_states a.right_states a.fit a.list.now a.name.now p.1.sound (memory k.found k.left k.right) k.steps k.from k.invariant (omega arith) _ c.word_end-end.ensures,
       omega (arith, k.invariant.few, k.invariant.near, p.1.sound.short),
       k.invariant.sized,
     )
@@ -39,7 +39,7 @@ pub returns-then-not-pass : goal.returns-then-not-pass
 returns-then-not-pass c = let a = c.args in
     let k = c.loop-from in
     let one = c.run_word-pass in
-    passed-bad a.words.now a.left-states a.right-states a.fit a.list.now a.name.now c.requires.1.sound (memory k.found k.left k.right) k.steps k.from k.invariant (omega (arith, c.loop-from-test.true)) _ c.word_end-end.ensures
+    passed-bad a.words.now a.left_states a.right_states a.fit a.list.now a.name.now c.requires.1.sound (memory k.found k.left k.right) k.steps k.from k.invariant (omega (arith, c.loop-from-test.true)) _ c.word_end-end.ensures
     _ one.result one.ensures (not-true _ c.if-not-pass.true)
 
 pub loop-from-smaller : goal.loop-from-smaller
@@ -49,7 +49,7 @@ pub loop-from-preserved : goal.loop-from-preserved
 loop-from-preserved c = let a = c.args in
     let k = c.loop-from in
     let one = c.run_word-pass in
-    passed-next a.words.now a.left-states a.right-states a.fit a.list.now a.name.now c.requires.1.sound (memory k.found k.left k.right) k.steps k.from k.invariant (omega (arith, c.loop-from-test.true)) _ c.word_end-end.ensures
+    passed-next a.words.now a.left_states a.right_states a.fit a.list.now a.name.now c.requires.1.sound (memory k.found k.left k.right) k.steps k.from k.invariant (omega (arith, c.loop-from-test.true)) _ c.word_end-end.ensures
     _ one.result one.ensures (not-false _ c.if-not-pass.false)
 
 pub shape_of-found : goal.shape_of-found
@@ -64,4 +64,4 @@ shape_of-right c = c.loop-from.invariant.sized.right ∙ sym c.requires.3.right
 pub returns : goal.returns
 returns c = let a = c.args in
     let k = c.loop-from in
-    passed-end a.words.now a.left-states a.right-states a.fit a.list.now a.name.now c.requires.1.sound (memory k.found k.left k.right) k.steps k.from k.invariant (omega arith)
+    passed-end a.words.now a.left_states a.right_states a.fit a.list.now a.name.now c.requires.1.sound (memory k.found k.left k.right) k.steps k.from k.invariant (omega arith)

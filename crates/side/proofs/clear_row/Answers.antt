@@ -12,9 +12,6 @@ use Rattle.side.proofs.clear_row.Goals as goal
 pub loop-c-init : goal.loop-c-init
 loop-c-init c = (omega arith, begin _ _ _)
 
-pub offset_bounds-rows-at : goal.offset_bounds-rows-at
-offset_bounds-rows-at c = omega (arith, c.well-formed.0)
-
 pub bounds-rows-at : goal.bounds-rows-at
 bounds-rows-at c = omega (arith, c.loop-c.invariant.1.len)
 

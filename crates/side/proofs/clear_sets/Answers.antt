@@ -11,9 +11,6 @@ use Rattle.side.proofs.clear_sets.Goals as goal
 pub loop-k-init : goal.loop-k-init
 loop-k-init c = (omega arith, begin _ _ _)
 
-pub offset_bounds-sets-k : goal.offset_bounds-sets-k
-offset_bounds-sets-k c = omega (arith, c.well-formed.0)
-
 pub bounds-sets-k : goal.bounds-sets-k
 bounds-sets-k c = omega (arith, c.loop-k.invariant.1.len)
 

@@ -6,6 +6,7 @@ use Rattle.side.proofs.Filling as F
 use borrow.Author.Rules.{rules}
 use native.Mathlib.Omega.{arith}
 use Rattle.side.proofs.complete_level.Goals as goal
+use Rattle.side.proofs.complete_level.Goals.{then-d-len, else-d-len}
 
 pub loop-i-init : goal.loop-i-init
 loop-i-init c = let pre = c.requires in
@@ -21,12 +22,14 @@ complete_one-top-requires c = let pre = c.requires in
 
 pub loop-i-preserved : goal.loop-i-preserved
 loop-i-preserved c = let pre = c.requires in
-    ⊎_elim
-    (λ a. F.rise-same a.8 a.9 a.10
-    (F.rise-next _ _ _ _ _ _ _ pre.0 pre.1 pre.2 pre.3 pre.4 _ _ _ _ c.loop-i.invariant (omega arith) (omega (arith, c.wide-len.ensures.0, a.0.taken)) _ _ _ a.3.ensures))
-    (λ a. F.rise-same a.1 a.2 a.3
-    (F.rise-skip _ _ _ _ _ _ _ pre.0 pre.1 pre.2 pre.3 pre.4 _ _ _ _ c.loop-i.invariant (omega arith) (omega (arith, c.wide-len.ensures.0, a.0.left))))
-    c.if-d-len.branch
+    elim c.if-d-len.branch [
+      | then-d-len a ↦
+          F.rise-same a.rows-is a.sets-is a.top-is
+          (F.rise-next _ _ _ _ _ _ _ pre.0 pre.1 pre.2 pre.3 pre.4 _ _ _ _ c.loop-i.invariant (omega arith) (omega (arith, c.wide-len.ensures.0, a.if-d-len.true)) _ _ _ a.complete_one-top.ensures)
+      | else-d-len a ↦
+          F.rise-same a.rows-is a.sets-is a.top-is
+          (F.rise-skip _ _ _ _ _ _ _ pre.0 pre.1 pre.2 pre.3 pre.4 _ _ _ _ c.loop-i.invariant (omega arith) (omega (arith, c.wide-len.ensures.0, a.if-d-len.false)))
+    ]
 
 pub shape_of-rows : goal.shape_of-rows
 shape_of-rows c = c.loop-i.invariant.rows_past.len

@@ -10,25 +10,8 @@ use borrow.Author.Rules.{rules}
 use native.Mathlib.Omega.{arith}
 use Rattle.side.proofs.state_of.Goals as goal
 
--- the entry that is looked up lies inside the rows
-look : (c : tie.After-wide invariant-loop decreases-loop) → row_size * c.before.before.before.loop.q + c.wide.result < length c.before.before.before.before.before.before.args.rows.now
-look c =
-    let st = c.before.before.before.before.before.before in
-    let l = c.before.before.before in
-    let h = at st.args.rows.now st.args.pats.now st.args.count st.args.a st.args.e st.requires.0 st.requires.1 l.loop.q l.loop.j l.loop.invariant (omega arith) in
-    omega (arith, c.wide.ensures.0, st.requires.0.room)
-
 pub loop-j-init : goal.loop-j-init
 loop-j-init c = begin _ _ _ _ _ c.requires.0 c.requires.1
-
-pub overflow_add-k : goal.overflow_add-k
-overflow_add-k c = omega (arith, look c, c.well-formed.0.0)
-
-pub offset_bounds-rows-k : goal.offset_bounds-rows-k
-offset_bounds-rows-k c = omega (arith, look c, c.well-formed.0.1)
-
-pub bounds-rows-k : goal.bounds-rows-k
-bounds-rows-k c = omega (arith, look c {-After-wide-})
 
 pub loop-j-preserved : goal.loop-j-preserved
 loop-j-preserved c = let e : c.wide16-q.result ≡ cell c.args.rows.now c.loop-j.q (get_or c.args.pats.now c.loop-j.j 0) =
