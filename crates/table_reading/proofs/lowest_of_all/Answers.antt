@@ -1,7 +1,6 @@
 -- `table_reading::lowest_of_all` meets its contract. The loop's invariant: the lowest place from word j on is the lowest from word k on, and word k has one
 -- unless all words are passed.
 -- Assumes nothing.
--- the lowest place from word j on
 use mathlib.Core.Path.{◌≡◌, refl, sym, ap, ◌∙◌}
 use Prim.Native.Nat.{ℕ, ◌+◌, ◌-◌, ◌≤◌, ◌<◌}
 use native.Mathlib.Omega.{arith}
@@ -12,25 +11,22 @@ use Rattle.tables.specs.Words.{set_size}
 use Rattle.tables.specs.SetWords.{lowest_from, meet_word}
 use Rattle.tables.proofs.SetWords.{from_found, from_next, from_end}
 use Rattle.table_reading.specs.Letters.{found_of}
+use Rattle.table_reading.proofs.lowest_of_all.Invariants.{lowest_at}
 use Rattle.table_reading.proofs.lowest_of_all.Goals as goal
-
-abbrev lowestAt : (ℕ → ℕ) → ℕ → Option ℕ
-lowestAt a j = lowest_from a j (set_size - j)
-
--- word j - 1 has a place
-loop-again : tie.Need-loop-preserved invariant-loop decreases-loop
-loop-again c = (omega (arith, c.before.before.before.before.loop.invariant.0), refl, λ h. c.if1.true)
-
--- it has none
-loop-again-2 : tie.Need-loop-preserved-2 invariant-loop decreases-loop
-loop-again-2 c =
-    let a = meet_word c.before.before.before.before.before.args.sets.now c.before.before.before.before.before.args.s c.before.before.before.before.before.args.t in
-    let l = c.before.before.before.before.loop in
-    let e : l.j - 1 + 1 ≡ l.j = omega arith in
-    (omega (arith, l.invariant.0), from_next a (l.j - 1) set_size (omega (arith, l.invariant.0)) (omega arith) ∙ (ap (lowestAt a) e ∙ l.invariant.1), l.invariant.2)
 
 pub loop-j-init : goal.loop-j-init
 loop-j-init c = (omega arith, refl, λ h. absurd (omega arith))
+
+-- word j - 1 has a place
+pub loop-j-preserved-then-x-lt64 : goal.loop-j-preserved-then-x-lt64
+loop-j-preserved-then-x-lt64 c = (omega (arith, c.loop-j.invariant.0), refl, λ h. c.if-x-lt64.true)
+
+-- it has none
+pub loop-j-preserved : goal.loop-j-preserved
+loop-j-preserved c = let a = meet_word c.args.sets.now c.args.s c.args.t in
+    let l = c.loop-j in
+    let e : l.j - 1 + 1 ≡ l.j = omega arith in
+    (omega (arith, l.invariant.0), from_next a (l.j - 1) set_size (omega (arith, l.invariant.0)) (omega arith) ∙ (ap (lowest_at a) e ∙ l.invariant.1), l.invariant.2)
 
 pub overflow_cast-z : goal.overflow_cast-z
 overflow_cast-z c = omega (arith, trailing_le 64 (meet_word c.args.sets.now c.args.s c.args.t c.loop-j.k))
@@ -42,10 +38,10 @@ pub returns-then-k-lt-SET : goal.returns-then-k-lt-SET
 returns-then-k-lt-SET c = let a = meet_word c.args.sets.now c.args.s c.args.t in
     let l = c.loop-j in
     let z : 0 ≡ l.j = omega arith in
-    ap found_of (sym (ap (lowestAt a) z ∙ (l.invariant.1 ∙ from_found a l.k set_size c.if-k-lt-SET.true (l.invariant.2 c.if-k-lt-SET.true))))
+    ap found_of (sym (ap (lowest_at a) z ∙ (l.invariant.1 ∙ from_found a l.k set_size c.if-k-lt-SET.true (l.invariant.2 c.if-k-lt-SET.true))))
 
 pub returns : goal.returns
 returns c = let a = meet_word c.args.sets.now c.args.s c.args.t in
     let l = c.loop-j in
     let z : 0 ≡ l.j = omega arith in
-    ap found_of (sym (ap (lowestAt a) z ∙ (l.invariant.1 ∙ from_end a l.k set_size (omega arith))))
+    ap found_of (sym (ap (lowest_at a) z ∙ (l.invariant.1 ∙ from_end a l.k set_size (omega arith))))

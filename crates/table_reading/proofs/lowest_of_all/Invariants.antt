@@ -1,7 +1,6 @@
 -- `table_reading::lowest_of_all` meets its contract. The loop's invariant: the lowest place from word j on is the lowest from word k on, and word k has one
 -- unless all words are passed.
 -- Assumes nothing.
--- the lowest place from word j on
 use mathlib.Core.Path.{◌≡◌, refl, sym, ap, ◌∙◌}
 use Prim.Native.Nat.{ℕ, ◌+◌, ◌-◌, ◌≤◌, ◌<◌}
 use native.Mathlib.Omega.{arith}
@@ -14,11 +13,12 @@ use Rattle.tables.proofs.SetWords.{from_found, from_next, from_end}
 use Rattle.table_reading.specs.Letters.{found_of}
 use Rattle.table_reading.proofs.lowest_of_all.Given as goal
 
-abbrev lowestAt : (ℕ → ℕ) → ℕ → Option ℕ
-lowestAt a j = lowest_from a j (set_size - j)
+-- the lowest place from word j on
+abbrev pub lowest_at : (ℕ → ℕ) → ℕ → Option ℕ
+lowest_at a j = lowest_from a j (set_size - j)
 
 abbrev pub invariant-loop-j : goal.invariant-loop-j
-invariant-loop-j l = (l.j ≤ set_size) × (lowestAt (meet_word l.sets l.s l.t) l.j ≡ lowestAt (meet_word l.sets l.s l.t) l.k) × (l.k < set_size → count_trailing_zeros 64 (meet_word l.sets l.s l.t l.k) < 64)
+invariant-loop-j l = (l.j ≤ set_size) × (lowest_at (meet_word l.sets l.s l.t) l.j ≡ lowest_at (meet_word l.sets l.s l.t) l.k) × (l.k < set_size → count_trailing_zeros 64 (meet_word l.sets l.s l.t l.k) < 64)
 
 abbrev pub decreases-loop-j : goal.decreases-loop-j
 decreases-loop-j l = l.j

@@ -19,17 +19,17 @@ use Rattle.table_reading.proofs.Choosing.{Gone, begin, by_states, next, unusable
 use Rattle.table_reading.proofs.read_letters.Goals as goal
 
 -- an answer that is neither unusable nor a rule
-none_left : (image : List ℕ) (x : Chosen) → ((tag_of the_type x ≡ 0) ⊎ (tag_of the_type x ≡ 1)) → ((tag_of the_type x ≡ 1) ⊎ (tag_of the_type x ≡ 2)) → choice_of image x ≡ nothing
-none_left image (Rule p n k) u r = ⊎_elim (λ w. absurd (omega arith)) (λ w. absurd (omega arith)) r
+none_left : (image : List ℕ) (x : Chosen) → (x ≡ Unusable → ⊥) → ((p n k : ℕ) → x ≡ Rule p n k → ⊥) → choice_of image x ≡ nothing
+none_left image (Rule p n k) u r = absurd (r p n k refl)
 none_left image Nothing u r = refl
-none_left image Unusable u r = ⊎_elim (λ w. absurd (omega arith)) (λ w. absurd (omega arith)) u
+none_left image Unusable u r = absurd (u refl)
 
 pub literal_total-total-requires : goal.literal_total-total-requires
 literal_total-total-requires c = valid_long c.args.image.now c.requires.0
 
 pub loop-i-init : goal.loop-i-init
 loop-i-init c = let a = c.args in
-    (begin a.image.now a.sets.now a.right-sets a.left.now a.right.now a.frame.now c.requires.0 a.parts.now c.requires.4, refl)
+    (begin a.image.now a.sets.now a.right_sets a.left.now a.right.now a.frame.now c.requires.0 a.parts.now c.requires.4, refl)
 
 pub bounds-left-i : goal.bounds-left-i
 bounds-left-i c = omega (arith, c.requires.3.left-room)
@@ -57,8 +57,8 @@ shape_of-parts-in-Unusable c = c.loop-i.invariant.1
 pub returns-in-Unusable : goal.returns-in-Unusable
 returns-in-Unusable c = let a = c.args in
     let k = c.loop-i in
-    unusable_here a.image.now a.sets.now a.right-sets a.left.now a.right.now a.frame.now c.requires.0 k.parts k.count k.i k.invariant.0 (omega arith)
-    (sym (by_states a.image.now a.sets.now a.right-sets a.left.now a.right.now a.frame.now k.i _ _ c.wide16-s.ensures.0 c.wide16.ensures.0 _ c.choose-choice.ensures) ∙ ap (choice_of a.image.now) c.in-Unusable.is)
+    unusable_here a.image.now a.sets.now a.right_sets a.left.now a.right.now a.frame.now c.requires.0 k.parts k.count k.i k.invariant.0 (omega arith)
+    (sym (by_states a.image.now a.sets.now a.right_sets a.left.now a.right.now a.frame.now k.i _ _ c.wide16-s.ensures.0 c.wide16.ensures.0 _ c.choose-choice.ensures) ∙ ap (choice_of a.image.now) c.in-Unusable.is)
 
 pub shape_of-parts-in_default-choice : goal.shape_of-parts-in_default-choice
 shape_of-parts-in_default-choice c = c.loop-i.invariant.1
@@ -66,8 +66,8 @@ shape_of-parts-in_default-choice c = c.loop-i.invariant.1
 pub returns-in_default-choice : goal.returns-in_default-choice
 returns-in_default-choice c = let a = c.args in
     let k = c.loop-i in
-    none_here a.image.now a.sets.now a.right-sets a.left.now a.right.now a.frame.now c.requires.0 k.parts k.count k.i k.invariant.0 (omega arith)
-    (sym (by_states a.image.now a.sets.now a.right-sets a.left.now a.right.now a.frame.now k.i _ _ c.wide16-s.ensures.0 c.wide16.ensures.0 _ c.choose-choice.ensures) ∙ none_left a.image.now c.choose-choice.result c.in_default.in_default-own.keys2 c.in_default-choice.in_default-choice-own.keys2)
+    none_here a.image.now a.sets.now a.right_sets a.left.now a.right.now a.frame.now c.requires.0 k.parts k.count k.i k.invariant.0 (omega arith)
+    (sym (by_states a.image.now a.sets.now a.right_sets a.left.now a.right.now a.frame.now k.i _ _ c.wide16-s.ensures.0 c.wide16.ensures.0 _ c.choose-choice.ensures) ∙ none_left a.image.now c.choose-choice.result c.in_default.not-Unusable c.in_default-choice.not-Rule)
 
 pub part_of-requires : goal.part_of-requires
 part_of-requires c = let h = c.choose-choice.ensures.inside _ _ _ c.in-Rule.is in
@@ -93,10 +93,10 @@ loop-i-preserved c = let a = c.args in
     let e = c.in-Rule.is in
     let h = c.choose-choice.ensures.inside _ _ _ e in
     let w = entry_shaped a.image.now c.requires.0 _ h.0 in (
-      subst (λ (x : ℕ). Gone a.image.now a.sets.now a.right-sets a.left.now a.right.now a.frame.now (set k.parts k.count c.part_of.result) (k.count + 1) x) (sym h.1.1)
-          (next a.image.now a.sets.now a.right-sets a.left.now a.right.now a.frame.now c.requires.0 k.parts k.count k.i k.invariant.0 (omega arith)
+      subst (λ (x : ℕ). Gone a.image.now a.sets.now a.right_sets a.left.now a.right.now a.frame.now (set k.parts k.count c.part_of.result) (k.count + 1) x) (sym h.1.1)
+          (next a.image.now a.sets.now a.right_sets a.left.now a.right.now a.frame.now c.requires.0 k.parts k.count k.i k.invariant.0 (omega arith)
           _ _
-          (sym (by_states a.image.now a.sets.now a.right-sets a.left.now a.right.now a.frame.now k.i _ _ c.wide16-s.ensures.0 c.wide16.ensures.0 _ c.choose-choice.ensures) ∙ ap (choice_of a.image.now) e)
+          (sym (by_states a.image.now a.sets.now a.right_sets a.left.now a.right.now a.frame.now k.i _ _ c.wide16-s.ensures.0 c.wide16.ensures.0 _ c.choose-choice.ensures) ∙ ap (choice_of a.image.now) e)
           h.0 _ c.part_of.ensures _ refl w.target-least w.target-most),
       length-set k.parts k.count _ ∙ k.invariant.1,
     )
@@ -107,4 +107,4 @@ shape_of-parts c = c.loop-i.invariant.1
 pub returns : goal.returns
 returns c = let a = c.args in
     let k = c.loop-i in
-    done a.image.now a.sets.now a.right-sets a.left.now a.right.now a.frame.now c.requires.0 k.parts k.count k.i k.invariant.0 (omega arith)
+    done a.image.now a.sets.now a.right_sets a.left.now a.right.now a.frame.now c.requires.0 k.parts k.count k.i k.invariant.0 (omega arith)

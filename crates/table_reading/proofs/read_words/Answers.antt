@@ -12,7 +12,7 @@ use native.Mathlib.Omega.{arith}
 use Rattle.table_reading.proofs.read_words.Goals as goal
 
 pub loop-from-init : goal.loop-from-init
-loop-from-init c = name_begin c.args.image.now c.args.sets.now c.args.right-sets c.args.name.now c.args.found.now c.args.left.now c.args.right.now c.args.parts.now c.requires.7
+loop-from-init c = name_begin c.args.image.now c.args.sets.now c.args.right_sets c.args.name.now c.args.found.now c.args.left.now c.args.right.now c.args.parts.now c.requires.7
 
 pub offset_bounds-found-from : goal.offset_bounds-found-from
 offset_bounds-found-from c = omega (arith, c.requires.1.short)
@@ -21,7 +21,7 @@ pub bounds-found-from : goal.bounds-found-from
 bounds-found-from c = omega (arith, c.requires.1.short, c.requires.3)
 
 pub read_word-read-requires : goal.read_word-read-requires
-read_word-read-requires c = let v = name_word c.args.image.now c.args.sets.now c.args.right-sets c.args.name.now c.args.found.now c.args.left.now c.args.right.now c.requires.0 c.requires.1 c.args.frame.now c.requires.2 c.loop-from.parts c.loop-from.count c.loop-from.from c.loop-from.invariant (omega arith) _ c.word_end-end.ensures in let i = part_inside c.args.name.now c.args.frame.now c.requires.2 _ _ v in (c.requires.0, omega (arith, c.word_end-end.ensures), i, omega (arith, ap length c.requires.2, frame_length c.args.name.now, c.requires.1.short), (λ z. name_bounded c.args.image.now c.args.sets.now c.args.right-sets c.args.name.now c.args.found.now c.args.left.now c.args.right.now c.requires.0 c.requires.1 c.args.frame.now c.requires.2 c.loop-from.parts c.loop-from.count c.loop-from.from c.loop-from.invariant (omega arith) _ c.word_end-end.ensures c.requires.4 c.requires.5 c.requires.6 z), c.requires.4, c.requires.5, c.loop-from.invariant.sized, c.loop-from.invariant.few)
+read_word-read-requires c = let v = name_word c.args.image.now c.args.sets.now c.args.right_sets c.args.name.now c.args.found.now c.args.left.now c.args.right.now c.requires.0 c.requires.1 c.args.frame.now c.requires.2 c.loop-from.parts c.loop-from.count c.loop-from.from c.loop-from.invariant (omega arith) _ c.word_end-end.ensures in let i = part_inside c.args.name.now c.args.frame.now c.requires.2 _ _ v in (c.requires.0, omega (arith, c.word_end-end.ensures), i, omega (arith, ap length c.requires.2, frame_length c.args.name.now, c.requires.1.short), (λ z. name_bounded c.args.image.now c.args.sets.now c.args.right_sets c.args.name.now c.args.found.now c.args.left.now c.args.right.now c.requires.0 c.requires.1 c.args.frame.now c.requires.2 c.loop-from.parts c.loop-from.count c.loop-from.from c.loop-from.invariant (omega arith) _ c.word_end-end.ensures c.requires.4 c.requires.5 c.requires.6 z), c.requires.4, c.requires.5, c.loop-from.invariant.sized, c.loop-from.invariant.few)
 
 pub shape_of-parts-in_default : goal.shape_of-parts-in_default
 shape_of-parts-in_default c = c.read_word-read.ensures.sized ∙ (c.loop-from.invariant.sized ∙ sym c.requires.7)
@@ -29,17 +29,17 @@ shape_of-parts-in_default c = c.read_word-read.ensures.sized ∙ (c.loop-from.in
 pub returns-in_default : goal.returns-in_default
 returns-in_default c = let a = c.args in
     let k = c.loop-from in
-    let never = not_rules_by c.read_word-read.result c.in_default.in_default-own.keys2 in
+    let never = c.in_default.not-Rules in
     record {
       few = (λ k q. absurd (never k q));
-      read = name_stop a.image.now a.sets.now a.right-sets a.name.now a.found.now a.left.now a.right.now c.requires.0 c.requires.1 a.frame.now c.requires.2 k.parts k.count k.from k.invariant (omega arith) _ c.word_end-end.ensures _ _ c.read_word-read.ensures never;
+      read = name_stop a.image.now a.sets.now a.right_sets a.name.now a.found.now a.left.now a.right.now c.requires.0 c.requires.1 a.frame.now c.requires.2 k.parts k.count k.from k.invariant (omega arith) _ c.word_end-end.ensures _ _ c.read_word-read.ensures never;
     }
 
 pub loop-from-smaller : goal.loop-from-smaller
 loop-from-smaller c = omega (arith, c.word_end-end.ensures)
 
 pub loop-from-preserved : goal.loop-from-preserved
-loop-from-preserved c = name-next c.args.image.now c.args.sets.now c.args.right-sets c.args.name.now c.args.found.now c.args.left.now c.args.right.now c.requires.0 c.requires.1 c.args.frame.now c.requires.2 c.loop-from.parts c.loop-from.count c.loop-from.from c.loop-from.invariant (omega arith) _ c.word_end-end.ensures _ _ c.read_word-read.ensures _ c.in-Rules.is
+loop-from-preserved c = name-next c.args.image.now c.args.sets.now c.args.right_sets c.args.name.now c.args.found.now c.args.left.now c.args.right.now c.requires.0 c.requires.1 c.args.frame.now c.requires.2 c.loop-from.parts c.loop-from.count c.loop-from.from c.loop-from.invariant (omega arith) _ c.word_end-end.ensures _ _ c.read_word-read.ensures _ c.in-Rules.is
 
 pub shape_of-parts : goal.shape_of-parts
 shape_of-parts c = c.loop-from.invariant.sized ∙ sym c.requires.7
@@ -48,6 +48,6 @@ pub returns : goal.returns
 returns c = let a = c.args in
     let k = c.loop-from in
     record {
-      few = few_so_far a.image.now a.sets.now a.right-sets a.name.now a.found.now a.left.now a.right.now k.parts k.count k.from k.invariant;
-      read = name-end a.image.now a.sets.now a.right-sets a.name.now a.found.now a.left.now a.right.now c.requires.0 c.requires.1 a.frame.now c.requires.2 k.parts k.count k.from k.invariant (omega arith);
+      few = few_so_far a.image.now a.sets.now a.right_sets a.name.now a.found.now a.left.now a.right.now k.parts k.count k.from k.invariant;
+      read = name-end a.image.now a.sets.now a.right_sets a.name.now a.found.now a.left.now a.right.now c.requires.0 c.requires.1 a.frame.now c.requires.2 k.parts k.count k.from k.invariant (omega arith);
     }

@@ -1,0 +1,42 @@
+-- The loop that lays the patterns of a side.
+-- Assumes nothing.
+use Prim.Native.Nat.{◌-◌, ◌<◌}
+use native.Mathlib.Omega.{arith}
+use borrow.Author.Rules.{rules}
+use Rattle.image.specs.Image.{total_of}
+use Rattle.image.proofs.Literals.{total_is, literals_few}
+use Rattle.patterns.proofs.Laying.{Laying, begin, fits, lens_room, next, finished, laid_at}
+use Rattle.patterns.proofs.Symbols.{long}
+use Rattle.patterns.proofs.lay_side.Goals as goal
+
+pub loop-i-init : goal.loop-i-init
+loop-i-init c = begin _ _ c.requires.0 _ _ c.requires.2
+
+pub overflow_mul-i : goal.overflow_mul-i
+overflow_mul-i c = omega (arith, c.requires.1, total_is _ c.requires.0, literals_few _ c.requires.0)
+
+pub put_pattern-len-requires : goal.put_pattern-len-requires
+put_pattern-len-requires c = let h : c.loop-i.i < total_of c.args.image.now = omega (arith, c.requires.1, c.loop-i-test.true) in
+    (c.requires.0, h, fits _ _ c.requires.0 _ _ c.requires.2 _ _ _ c.loop-i.invariant h)
+
+pub overflow_cast-lens : goal.overflow_cast-lens
+overflow_cast-lens c = let h : c.loop-i.i < total_of c.args.image.now = omega (arith, c.requires.1, c.loop-i-test.true) in
+    record { fits = omega (arith, c.put_pattern-len.ensures.0, long _ c.requires.0 _ h c.args.right) }
+
+pub bounds-lens-i : goal.bounds-lens-i
+bounds-lens-i c = let h : c.loop-i.i < total_of c.args.image.now = omega (arith, c.requires.1, c.loop-i-test.true) in
+    lens_room _ _ c.requires.0 _ _ c.requires.2 _ _ _ c.loop-i.invariant h
+
+pub loop-i-preserved : goal.loop-i-preserved
+loop-i-preserved c = let h : c.loop-i.i < total_of c.args.image.now = omega (arith, c.requires.1, c.loop-i-test.true) in
+    let e = c.put_pattern-len.ensures in
+    next _ _ c.requires.0 _ _ c.requires.2 _ _ _ c.loop-i.invariant h _ e.0 _ e.1
+
+pub shape_of-pats : goal.shape_of-pats
+shape_of-pats c = c.loop-i.invariant.ps_len
+
+pub shape_of-lens : goal.shape_of-lens
+shape_of-lens c = c.loop-i.invariant.ls_len
+
+pub returns : goal.returns
+returns c = finished _ _ c.requires.0 _ _ c.requires.2 _ _ (laid_at _ (omega (arith, c.requires.1, c.loop-i.invariant.reached)) c.loop-i.invariant)

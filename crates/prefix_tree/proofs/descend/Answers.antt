@@ -1,0 +1,45 @@
+-- A step down the tree: the chain of children is searched, and where it has no child an entry is looked up.
+-- Assumes nothing.
+use mathlib.Core.Path.{ap, ◌∙◌}
+use Prim.Native.Nat.{ℕ}
+use native.Mathlib.Omega.{arith}
+use lib.ListN.{length}
+use Rattle.tables.specs.Siblings.{seek}
+use Rattle.prefix_tree.specs.Tree.{next_of, symbol_of}
+use Rattle.prefix_tree.proofs.Growing.{chain_of}
+use Rattle.prefix_tree.proofs.Stepping as S
+use borrow.Author.Rules.{rules}
+use Rattle.prefix_tree.proofs.descend.Reads as reads
+use Rattle.prefix_tree.proofs.descend.Lts as lts
+use Rattle.numbers.proofs.wide16.Reads as wide16-reads
+use Rattle.passes.proofs.look_up.Reads as look-up-reads
+use Rattle.prefix_tree.proofs.attach.Reads as attach-reads
+use Rattle.prefix_tree.proofs.find.Reads as find-reads
+use Rattle.prefix_tree.proofs.descend.Goals as goal
+
+pub find-child-requires : goal.find-child-requires
+find-child-requires c = let w = c.wide16-first.ensures.0 in
+    let g = chain_of c.args.tree.now c.args.p.nodes c.args.count c.requires.2 c.args.p.node c.requires.3 in
+    (omega (arith, g.0, w), λ k p l. g.1 k p (omega (arith, w)))
+
+pub returns-then-child-ne0 : goal.returns-then-child-ne0
+returns-then-child-ne0 c = let a = c.args in
+    let e = c.find-child.ensures ∙ ap (λ (s : ℕ). seek (length a.tree.now) (next_of a.tree.now) (symbol_of a.tree.now) s a.c) c.wide16-first.ensures.0 in
+    S.there a.words.now a.rows a.count a.tree.now a.p a.c _ e (omega (arith, c.if-child-ne0.true))
+
+pub look_up-next-requires : goal.look_up-next-requires
+look_up-next-requires c = let g = c.requires.2.small c.args.p.node c.requires.3 in
+    (omega (arith, c.requires.0, c.requires.1), c.requires.5)
+
+pub returns-then-count-wide16 : goal.returns-then-count-wide16
+returns-then-count-wide16 c = let a = c.args in
+    let e = c.find-child.ensures ∙ ap (λ (s : ℕ). seek (length a.tree.now) (next_of a.tree.now) (symbol_of a.tree.now) s a.c) c.wide16-first.ensures.0 in
+    let n = c.look_up-next.ensures.next in
+    S.out a.words.now a.rows a.count a.tree.now a.p a.c _ e (omega (arith, c.if-child-ne0.false)) (omega (arith, n, c.if-count-wide16.true, c.wide16.ensures.0)) _ _
+
+pub returns : goal.returns
+returns c = let a = c.args in
+    let e = c.find-child.ensures ∙ ap (λ (s : ℕ). seek (length a.tree.now) (next_of a.tree.now) (symbol_of a.tree.now) s a.c) c.wide16-first.ensures.0 in
+    let n = c.look_up-next.ensures.next in
+    S.new a.words.now a.rows a.count a.tree.now a.p a.c _ e (omega (arith, c.if-child-ne0.false)) (omega (arith, n, c.if-count-wide16.false, c.wide16.ensures.0)) _ c.look_up-next.ensures.more _
+    (rw (← n) c.attach.ensures)
