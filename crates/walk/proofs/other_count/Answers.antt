@@ -1,0 +1,19 @@
+-- `walk::other_count` meets its contract.
+-- Assumes nothing.
+use native.Mathlib.Omega.{arith}
+use borrow.Author.Tests.{not-true, not-false}
+use Rattle.walk.proofs.Walked.{count_differs}
+use borrow.Author.Rules.{rules}
+use Rattle.walk.proofs.other_count.Goals as goal
+
+pub returns-then-not-long : goal.returns-then-not-long
+returns-then-not-long c = rw (c.if-not-long.true)
+
+pub bounds-words-0 : goal.bounds-words-0
+bounds-words-0 c = let h = c.requires (c.if-not-long.false) in omega (arith, h)
+
+pub bounds-words-1 : goal.bounds-words-1
+bounds-words-1 c = let h = c.requires (c.if-not-long.false) in omega (arith, h)
+
+pub returns : goal.returns
+returns c = count_differs c.args.words.now _ _ _ _ c.args.long (c.if-not-long.false) c.wide16-high.ensures.0 c.wide16-low.ensures.0 c.wide32.ensures.0
