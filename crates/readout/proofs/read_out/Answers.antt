@@ -1,9 +1,7 @@
 -- `readout::read_out` meets its contract: the refusals in turn, then the text.
 -- Assumes nothing.
 use Rattle.readout.proofs.Calls.{read_none, read_room, read_done}
-use borrow.Author.Tests.{not-true, not-false}
 use mathlib.Core.Path.{sym, ◌∙◌}
-use borrow.Author.Rules.{rules}
 use Rattle.readout.proofs.read_out.Goals as goal
 
 pub returns-then-not-is_list : goal.returns-then-not-is_list

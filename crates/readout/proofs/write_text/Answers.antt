@@ -4,7 +4,6 @@ use Rattle.readout.proofs.Calls.{words_size, start_asks, start_gives}
 use Rattle.exceptions.proofs.Sizes.{size_is}
 use native.Mathlib.Omega.{arith}
 use mathlib.Core.Path.{refl}
-use borrow.Author.Rules.{rules}
 use Rattle.readout.proofs.write_text.Goals as goal
 
 pub slice_bounds-words-end : goal.slice_bounds-words-end

@@ -2,7 +2,6 @@
 -- Assumes nothing.
 use mathlib.Core.Path.{refl}
 use Rattle.automaton.specs.Automaton.{key_of}
-use borrow.Author.Rules.{rules}
 use Rattle.readout.proofs.writing.letter.Goals as goal
 
 pub returns : goal.returns

@@ -4,7 +4,6 @@ use Rattle.readout.proofs.Entries.{heading_writes}
 use lib.ListN.{length-set}
 use mathlib.Core.Path.{◌∙◌}
 use native.Mathlib.Omega.{arith}
-use borrow.Author.Rules.{rules}
 use Rattle.readout.proofs.writing.write_heading.Goals as goal
 
 pub write_letters-requires : goal.write_letters-requires

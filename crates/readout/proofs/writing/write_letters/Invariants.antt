@@ -1,12 +1,7 @@
 -- `write_letters` meets its contract: byte after byte.
 -- Assumes nothing.
-use Rattle.states.proofs.Rows.{written_begin, written_next, written_end}
 use Rattle.states.specs.States.{Written, copy_of}
-use lib.ListN.{get_or}
-use mathlib.Core.Path.{◌≡◌, ap}
-use Prim.Native.Nat.{ℕ, ◌≤◌, ◌-◌, ◌+◌}
-use native.Mathlib.Omega.{arith}
-use borrow.Author.Rules.{rules}
+use Prim.Native.Nat.{◌≤◌, ◌-◌}
 use Rattle.readout.proofs.writing.write_letters.Given as goal
 
 abbrev pub invariant-loop-k : goal.invariant-loop-k

@@ -1,7 +1,6 @@
 -- `write_own` meets its contract: nothing where no name ends, measured where there is no room.
 -- Assumes nothing.
 use Rattle.readout.proofs.Entries.{own_locates, own_nothing, own_measured, own_writes}
-use borrow.Author.Rules.{rules}
 use Rattle.readout.proofs.writing.write_own.Goals as goal
 
 pub locate-found-requires : goal.locate-found-requires
