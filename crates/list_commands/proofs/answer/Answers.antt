@@ -17,7 +17,7 @@ pub returns-then-f-eq37 : goal.returns-then-f-eq37
 returns-then-f-eq37 c = let a = c.args in
     let r = c.lend_command in
     record {
-      replied = by_lend a.f.now a.list.now a.lent a.text.now _ a.out.now _ _ c.if-f-eq37.true r.ensures.lent r.ensures.len;
+      replied = by_lend a.f.now a.list.now a.lent a.text.now _ a.out.now _ _ c.if-f-eq37.true r.ensures.lent (r.ensures.len, r.ensures.bytes);
       within = (within (lent_line a.f.now) _ a.out.now _ r.ensures.len r.ensures.bytes, r.ensures.within);
     }
 

@@ -27,6 +27,6 @@ returns c = let a = c.args in
     let e = name_line_is a.image.now a.words.now a.sets.now a.name.now (told_of w.result.speech) w.result.steps w.new.phones w.new.numbers w.ensures in
     let s = c.answer_line in
     record {
-      len = s.ensures.0 ∙ ap length e;
+      len = s.ensures.len ∙ ap length e;
       bytes = s.ensures.bytes ∙ ap (λ (l : List ℕ). over l a.out.now) e;
     }
