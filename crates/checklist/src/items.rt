@@ -22,12 +22,12 @@ pub enum Item {
     Uncovered,
 }
 
-fn print_title(item: Item) {
+fn print_title(rt: &impl Print, item: Item) {
     match item {
-        Item::SilentEnd => print(b"the last letter is silent: "),
-        Item::TwoFitting => print(b"two rules fit, the first in order is applied: "),
-        Item::LastLetters => print(b"the last letters of classes: "),
-        Item::Uncovered => print(b"a letter that no rule covers: "),
+        Item::SilentEnd => print(rt, b"the last letter is silent: "),
+        Item::TwoFitting => print(rt, b"two rules fit, the first in order is applied: "),
+        Item::LastLetters => print(rt, b"the last letters of classes: "),
+        Item::Uncovered => print(rt, b"a letter that no rule covers: "),
     }
 }
 
@@ -72,52 +72,52 @@ fn position(before: usize) -> usize {
     before
 }
 
-fn print_tried(item: Item, image: &[u8], s: Search) {
-    print(b"tried ");
+fn print_tried(rt: &impl Print, item: Item, image: &[u8], s: Search) {
+    print(rt, b"tried ");
     let name = s.name;
-    print_name(name);
+    print_name(rt, name);
     if let Item::TwoFitting = item {
-        print(b", where rules ");
-        print_rule_number(ruleset::number_at(image, s.first));
-        print(b" and ");
-        print_rule_number(ruleset::number_at(image, s.second));
-        print(b" fit at ");
-        print_number(position(s.before));
+        print(rt, b", where rules ");
+        print_rule_number(rt, ruleset::number_at(image, s.first));
+        print(rt, b" and ");
+        print_rule_number(rt, ruleset::number_at(image, s.second));
+        print(rt, b" fit at ");
+        print_number(rt, position(s.before));
     }
 }
 
-fn print_came(c: Compared, numbers: &[u16]) {
+fn print_came(rt: &impl Print, c: Compared, numbers: &[u16]) {
     let came = c.came;
     if speaking::is_spoken(came) {
-        print(b", came rules");
-        print_numbers(speaking::front(numbers, came.rules));
+        print(rt, b", came rules");
+        print_numbers(rt, speaking::front(numbers, came.rules));
     } else {
-        print(b", came ");
-        print_refused(came.code, came.place);
+        print(rt, b", came ");
+        print_refused(rt, came.code, came.place);
     }
     if !c.alike {
-        print(b", unlike the plain reading");
+        print(rt, b", unlike the plain reading");
     }
-    print(b"\n");
+    print(rt, b"\n");
 }
 
 // An item's line.
-pub fn try_item<'a>(item: Item, image: &[u8], words: &'a [u16], sets: &'a [u64])
+pub fn try_item<'a>(rt: &impl Print, item: Item, image: &[u8], words: &'a [u16], sets: &'a [u64])
     requires { valid image.now ≡ true }
 {
     let s = search(item, image);
     if !s.found {
-        print(b"none   ");
-        print_title(item);
-        print_none(s.tried);
+        print(rt, b"none   ");
+        print_title(rt, item);
+        print_none(rt, s.tried);
         return;
     }
     let name = s.name;
     let mut numbers = [0u16; 64];
     let c = speaking::compare(image, words, sets, name, &mut numbers);
     let came = c.came;
-    print_verdict(c.alike && is_right(item, image, s, came, &numbers));
-    print_title(item);
-    print_tried(item, image, s);
-    print_came(c, &numbers);
+    print_verdict(rt, c.alike && is_right(item, image, s, came, &numbers));
+    print_title(rt, item);
+    print_tried(rt, item, image, s);
+    print_came(rt, c, &numbers);
 }

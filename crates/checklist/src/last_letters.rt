@@ -4,7 +4,7 @@ ghost use Rattle.image.specs.Image.{valid};
 
 use crate::names::Name;
 use crate::searches::Search;
-use crate::{literals, names, ruleset, searches, speaking};
+use crate::{literal_rules, names, ruleset, searches, speaking};
 
 // Whether the rule at a place is applied in a name after its first `before` letters.
 fn is_applied(image: &[u8], name: Name, before: usize, place: usize) -> bool
@@ -20,10 +20,10 @@ fn is_applied(image: &[u8], name: Name, before: usize, place: usize) -> bool
 fn try_last(image: &[u8], s: Search, p: usize) -> Search
     requires { valid image.now ≡ true }
 {
-    if !literals::is_last(image, p) {
+    if !literal_rules::is_last(image, p) {
         return s;
     }
-    let x = literals::literal_at(image, p);
+    let x = literal_rules::literal_at(image, p);
     let place = x.place;
     let rule = x.rule;
     let o = names::overlay(rule, rule);
@@ -42,7 +42,7 @@ fn try_last(image: &[u8], s: Search, p: usize) -> Search
 pub fn search(image: &[u8]) -> Search
     requires { valid image.now ≡ true }
 {
-    let n = literals::count(image);
+    let n = literal_rules::count(image);
     let mut at = searches::begin();
     let mut p: usize = 0;
     while p < n {

@@ -3,9 +3,9 @@
 ghost use Rattle.std.specs.Prelude.{◌≡◌, true};
 ghost use Rattle.image.specs.Image.{valid};
 
-use crate::literals::Literal;
+use crate::literal_rules::Literal;
 use crate::names::Name;
-use crate::{literals, names, ruleset, speaking};
+use crate::{literal_rules, names, ruleset, speaking};
 use rules::MAX_LETTER;
 
 const MAX_TRIED: usize = 4096;
@@ -78,7 +78,7 @@ fn try_silent(image: &[u8], s: Search, name: Name) -> Search
 fn silent_rule(image: &[u8], s: Search, p: usize) -> Search
     requires { valid image.now ≡ true }
 {
-    let x = literals::literal_at(image, p);
+    let x = literal_rules::literal_at(image, p);
     let rule = x.rule;
     if rule.phone_len != 0 || !names::can_end(rule) {
         return s;
@@ -102,7 +102,7 @@ fn silent_rule(image: &[u8], s: Search, p: usize) -> Search
 pub fn silent(image: &[u8]) -> Search
     requires { valid image.now ≡ true }
 {
-    let n = literals::count(image);
+    let n = literal_rules::count(image);
     let mut at = begin();
     let mut k: usize = 0;
     while k < n {
@@ -168,15 +168,21 @@ fn try_pair(image: &[u8], s: Search, first: Literal, second: Literal, longer: bo
 fn pairs_of(image: &[u8], s: Search, p: usize, longer: bool) -> Search
     requires { valid image.now ≡ true }
 {
-    let n = literals::count(image);
-    let first = literals::literal_at(image, p);
+    let n = literal_rules::count(image);
+    let first = literal_rules::literal_at(image, p);
     let mut at = s;
     let mut q = p;
     while q < n {
         if is_over(at) {
             return at;
         }
-        at = try_pair(image, at, first, literals::literal_at(image, q), longer);
+        at = try_pair(
+            image,
+            at,
+            first,
+            literal_rules::literal_at(image, q),
+            longer,
+        );
         q += 1;
     }
     at
@@ -186,7 +192,7 @@ fn pairs_of(image: &[u8], s: Search, p: usize, longer: bool) -> Search
 fn pairs(image: &[u8], longer: bool) -> Search
     requires { valid image.now ≡ true }
 {
-    let n = literals::count(image);
+    let n = literal_rules::count(image);
     let mut at = begin();
     let mut p: usize = 0;
     while p < n {

@@ -140,7 +140,7 @@ pub fn compare<'a>(
     let mut plain_numbers = [0u16; 64];
     let plain = read(image, name, &mut plain_phones, &mut plain_numbers);
     let alike = same_came(walked, plain)
-        && check::same(&phones, &plain_phones)
+        && phones == plain_phones
         && same_numbers(numbers, &plain_numbers);
     Compared {
         came: walked,

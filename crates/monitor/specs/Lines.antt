@@ -1,9 +1,9 @@
 -- What the cutting of the input into lines keeps to.
 -- Assumes nothing.
 use Rattle.std.specs.Prelude.{ℕ, ◌≤◌}
-use Rattle.monitor.specs.declared.lines.Next.{Next}
-use Rattle.monitor.specs.declared.lines.Next.TheVariants.{Line, TooLong, Unended, End}
-use Rattle.monitor.specs.declared.lines.Input.{Input}
+use Rattle.monitor.specs.declared.input_lines.Next.{Next}
+use Rattle.monitor.specs.declared.input_lines.Next.TheVariants.{Line, TooLong, Unended, End}
+use Rattle.monitor.specs.declared.input_lines.Input.{Input}
 
 -- how many bytes of the line buffer are the text to answer: none for a line that has no whole text there
 abbrev pub text_of : Next → ℕ

@@ -1,13 +1,16 @@
 // The serial monitor: lines of commands on standard input, each answered before the next is read (docs/MONITOR.md).
-mod lines;
+#![tactic(auto)]
+
+mod input_lines;
 
 ghost use Rattle.std.specs.Prelude.{◌≤◌, length};
-ghost use Rattle.io.specs.Counts.{IsPrefixLen};
+ghost use Rattle.rules_hex.specs.Counts.{IsPrefixLen};
 ghost use Rattle.command_parts.specs.Memory.{Held};
 
-use libc::STDOUT_FILENO;
-use lines::{MAX_LINE, Next};
+use input_lines::{MAX_LINE, Next};
 use list_commands::Reply;
+use std::io::Read;
+use std::rt::Files;
 
 // A command: how many bytes it has, and how many rules.hex where it asks for them.
 #[derive(Clone, Copy)]
@@ -17,21 +20,21 @@ struct Command {
 }
 
 // The bytes of rules.hex where the command asks for them.
-fn fetch(command: &[u8], file: &mut [u8]) -> usize
+fn fetch(rt: &impl Files, command: &[u8], file: &mut [u8]) -> usize
     ensures { IsPrefixLen result file.new }
 {
     if commands::asks_for_file(command) {
-        return rules_hex::read(file);
+        return rules_hex::read(rt, file);
     }
     0
 }
 
 // The command in a line's text, and what it asks for.
-fn command_in(text: &[u8], frame: &mut [u8], file: &mut [u8]) -> Command
+fn command_in(rt: &impl Files, text: &[u8], frame: &mut [u8], file: &mut [u8]) -> Command
     ensures { IsPrefixLen result.len frame.new × IsPrefixLen result.file file.new }
 {
     let len = commands::command_in(text, &mut *frame);
-    let size = fetch(&frame[..len], file);
+    let size = fetch(rt, &frame[..len], file);
     Command { len, file: size }
 }
 
@@ -72,8 +75,10 @@ fn answer(
 }
 
 // Each line is answered in turn, until the input ends or an answer cannot be written; all units of the list are lent at first. As in
-// `lines::next_line`, the turns are counted down.
+// `input_lines::next_line`, the turns are counted down.
 fn converse(
+    rt: &(impl Files + Print),
+    from: &mut impl Read,
     piece: &mut [u8],
     line: &mut [u8],
     frame: &mut [u8],
@@ -90,17 +95,17 @@ fn converse(
 )
     requires { Held (length image.old) (length phones.old) (length numbers.old) (length out.old) }
 {
-    let mut input = lines::empty(false);
+    let mut input = input_lines::empty(false);
     let mut lent = list.len();
     let mut turns = u64::MAX;
     while turns > 0 {
-        let read = lines::next_line(input, piece, line);
+        let read = input_lines::next_line(from, input, piece, line);
         let next = read.next;
         if let Next::End = next {
             return;
         }
-        let end = lines::text_len(next);
-        let command = command_in(&line[..end], frame, file);
+        let end = input_lines::text_len(next);
+        let command = command_in(rt, &line[..end], frame, file);
         let len = command.len;
         let size = command.file;
         let reply = answer(
@@ -118,7 +123,7 @@ fn converse(
             out,
         );
         let n = reply.len;
-        if !io::write_all(STDOUT_FILENO, &out[..n]) {
+        if rt.write_all(&out[..n]).is_err() {
             return;
         }
         input = read.input;
@@ -127,8 +132,8 @@ fn converse(
     }
 }
 
-fn main() {
-    let mut piece = io::buffer();
+fn main(rt: HostRuntime) {
+    let mut piece = [0u8; 4096];
     let mut line = [0u8; MAX_LINE + 1];
     let mut frame = [0u8; MAX_LINE / 2];
     let mut file = [0u8; file_format::MAX_INPUT + 1];
@@ -143,6 +148,8 @@ fn main() {
     let mut contested = 0u8;
     let mut out = [0u8; commands::LONGEST_FILE];
     converse(
+        &rt,
+        &mut rt.reader(),
         &mut piece,
         &mut line,
         &mut frame,

@@ -1,0 +1,17 @@
+-- `commands::speaking::walk_in` meets its contract: the parts that were lent come back in front of what lies past them.
+-- Assumes nothing.
+use mathlib.Core.Path.{sym}
+use lib.Seq.{length-take-le}
+use Rattle.commands.proofs.Lent.{walked-back}
+use borrow.Author.Rules.{rules}
+use Rattle.commands.proofs.speaking.walk_in.Goals as goal
+
+pub slice_bounds-speak_compiled-end-2 : goal.slice_bounds-speak_compiled-end-2
+slice_bounds-speak_compiled-end-2 c = sym (length-take-le c.args.n c.args.phones.now c.requires.0)
+
+pub slice_bounds-speak_compiled-end-4 : goal.slice_bounds-speak_compiled-end-4
+slice_bounds-speak_compiled-end-4 c = sym (length-take-le c.args.m c.args.numbers.now c.requires.1)
+
+pub returns : goal.returns
+returns c = let a = c.args in
+    walked-back _ _ a.n a.m a.image.now a.list.now a.words.now a.sets.now a.name.now a.phones.now a.numbers.now _ _ c.speak_compiled.ensures
