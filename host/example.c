@@ -4,8 +4,7 @@
  * addition the tables are old: the first name that needs them is refused, and they are built again. Built and run by host/build, or
  * by hand:
  *
- *     rt staticlib host
- *     gcc -O2 -Wall -Ihost host/example.c target/staticlib/libhost.a -o target/example
+ *     gcc -O2 -Wall -Ihost host/example.c $(host/library) -o target/example
  *     target/example examples/six.hex knee "eke knee" nab
  */
 #include "pirrozketa.h"

@@ -1,7 +1,7 @@
 #!/usr/bin/env python3
 """The checklist on many rulesets: no fault is found in the proved code, and what each line says is so by the reference.
 
-    python3 tests/checklist.py target/bin/checklist --count 40 --seed 1
+    python3 tests/checklist.py crates/checklist/out/checklist --count 40 --seed 1
 
 The rulesets are the examples, the empty one and random ones; files that are refused must give one line that says FAULT.
 """

@@ -1,7 +1,7 @@
 #!/usr/bin/env python3
 """The monitor with its exceptions list's memory stored over (command 26), held to what it then reads out.
 
-    python3 tests/damaged.py target/bin/monitor --count 40 --seed 1
+    python3 tests/damaged.py crates/monitor/out/monitor --count 40 --seed 1
 
 After each store the read-out decides: refused with 17, the memory is no list and every call that it is lent to must refuse it so;
 accepted, it must tell a list within the limits, and every answer from then on must be the one that the reference gives with that list.

@@ -1,7 +1,7 @@
 #!/usr/bin/env python3
 """tools/speak.py --sheet with the library: the example sheet, short sheets, 256 names and more, all as the reference has them.
 
-    PIRROZKETA_LIBRARY=target/staticlib/libhost.a python3 tests/sheet_tool.py
+    PIRROZKETA_LIBRARY=$(host/library) python3 tests/sheet_tool.py
 """
 
 import os

@@ -1,5 +1,5 @@
 #!/usr/bin/env python3
-"""The tools from outside, on good and bad input and from another folder, with the programs in target/bin.
+"""The tools from outside, on good and bad input and from another folder, with the programs that were built.
 
     python3 tests/tools.py
 
@@ -25,7 +25,7 @@ import progress
 import reference as ref
 import ruletext
 
-SAY, MONITOR = (os.path.join(ROOT, "target", "bin", name) for name in ("say", "monitor"))
+SAY, MONITOR = map(programs.built, ("say", "monitor"))
 KNEE, NAB = "knee -> 6E 69 by rules 1 6 4, 10 steps\n", "nab -> refused 3 at 2: no rule fits the letter at that position\n"
 KNEE_CONTESTED = (KNEE.replace("steps", "steps, 2 contested") + "  * 1 k   applied 1: # [k] n = | over 2: [k] = 6B\n"
                   "    2 n   applied 6: [n] = 6E\n  * 3 ee  applied 4: [ee] = 69 | over 5: [e] = 65\n")
@@ -458,8 +458,11 @@ def proving(folder):
         file.write(text.replace("TICK = 1 ", "TICK = 0.1 "))
     os.mkdir(bin_folder)
     tools = Tools(root, folder, bin_folder)
-    built = os.path.join(root, "target", "bin", "say")
-    tools.expect(["speak.py", "knee"], 2, err=f"speak: no program at {built}: `rt check say` in {root} proves and builds it, "
+    for crate in ("say", "monitor"):
+        os.makedirs(os.path.join(root, "crates", crate))
+    crate_folder = os.path.join(root, "crates", "say")
+    built = os.path.join(crate_folder, "out", "say")
+    tools.expect(["speak.py", "knee"], 2, err=f"speak: no program at {built}: `rt run` in {crate_folder} proves and builds it, "
                                               "or name one with --program\n")
     tools.expect(["try", "--rules", "missing.hex"], 2, err="try: missing.hex: No such file or directory\n")
     tools.expect(["try", "knee"], 2, err="try: `rt`, the Rattle toolchain, is not on the PATH; tools/speak.py needs none where "
@@ -467,38 +470,38 @@ def proving(folder):
     status, _, _ = tools.run(["try", "--help"])
     tools.compare("help needs no proof", status, 0)
     write_rt(bin_folder, "echo 'note'; echo 'rt: refused'; exit 3")
-    tools.expect(["try", "knee"], 1, err=PROVING + "note\nrt: refused\ntry: `say` is not proved: rt check ended with 3\n")
+    tools.expect(["try", "knee"], 1, err=PROVING + "note\nrt: refused\ntry: `say` is not proved: rt run ended with 3\n")
     write_rt(bin_folder, "exit 0")
-    tools.expect(["try", "knee"], 1, err=PROVING + f"try: `say` was proved before, but {built} is gone: "
-                                                   f"remove {os.path.join(root, 'target')} and try again\n")
+    tools.expect(["try", "knee"], 1, err=PROVING + f"try: rt run ended well, but {built} is not there: "
+                                                   f"remove {os.path.dirname(built)} and try again\n")
     # Some of the crates after a while, the others later: a line for the quarter passed, on standard error alone, and one at the end.
     tools.environment["PATH"] += os.pathsep + os.environ["PATH"]
-    crates = sorted(programs.crates_of("say") - {"say"})
+    crates = sorted(programs.crates_of("say") - {"say"}, key=lambda crate: len(programs.crates_of(crate)))     # each after those below
     some, most = len(crates) // 3, len(crates) + 1
-    told = [f"echo 'rt: {crate} proved (1 s)'; echo 'fn {crate}::f: proved'" for crate in crates]
-    said = f"mkdir -p target/bin; cp '{SAY}' target/bin/say; echo 'rt: say proved (2 s)'; echo 'rt: say ran'"
-    write_rt(bin_folder, "\n".join(["test \"$*\" = 'check say' || exit 3", "sleep 0.3", *told[:some], "sleep 1", *told[some:], said]))
+    told = [proof_told(crate, 40) for crate in crates]
+    said = f"{proof_told('say', 40)}; mkdir out; cp '{SAY}' out/say; echo 'rt: running out/say'; echo 0D00F3"
+    write_rt(bin_folder, "\n".join([f"test \"$* $PWD\" = 'run {crate_folder}' || exit 3", "sleep 0.3", *told[:some], "sleep 1", *told[some:], said]))
     took, left = r" crates proved in \d+ s", r"(, about \d+ s left)?"
     between, last = rf"\d+ of {most}{took}{left}", f"{most} of {most}{took}"
     status, out, err = tools.run(["try", "knee"])
     tools.compare("what try prints", (status, out), (0, KNEE))
     tools.fits("progress", err, re.escape(PROVING) + f"{some} of {most}{took}{left}\n({between}\n)*{last}\n")
     tools.expect(["try", "knee"], 0, KNEE)
-    os.remove(built)
+    shutil.rmtree(os.path.dirname(built))
     status, shown = tools.at_terminal(["try", "knee"], b"")
     tools.compare("status at a terminal", status, 0)
     tools.fits("progress at a terminal", shown,
                re.escape(PROVING) + f"(\r{between} *)*\r{some} of {most}{took}{left} *(\r{between} *)*\r{last} *\n" + re.escape(KNEE))
-    # What was proved before counts as done. One crate fails: no more is told of the time, then all that rt said.
+    # What was built before, below a crate that is proved now, counts as done. That one fails: no more is told of the time, then all that rt said.
     os.remove(built)
-    write_rt(bin_folder, "echo 'rt: rules proved (unchanged since it was last proved)'; echo 'rt: image NOT PROVED (exit 1, 2 s)'; sleep 0.5; exit 1")
-    failed = ("rt: rules proved (unchanged since it was last proved)\nrt: image NOT PROVED (exit 1, 2 s)\n"
-              "try: `say` is not proved: rt check ended with 1\n")
+    write_rt(bin_folder, "echo 'rt: chose --jobs 2 for rule_bytes'; echo 'crate rule_bytes: modules loaded=30 checked=10'; echo 'logic=not-proved'; "
+                         "sleep 0.5; exit 1")
+    failed = ("rt: chose --jobs 2 for rule_bytes\ncrate rule_bytes: modules loaded=30 checked=10\nlogic=not-proved\n"
+              "try: `say` is not proved: rt run ended with 1\n")
     tools.expect(["try", "knee"], 1, err=PROVING + failed)
     status, shown = tools.at_terminal(["try", "knee"], b"")
     tools.fits("failure at a terminal", shown, re.escape(PROVING) + f"(\r1 of {most}{took} *)+\n" + re.escape(failed))
-    write_rt(bin_folder, f"test \"$*\" = 'check monitor' && cp '{MONITOR}' target/bin/monitor")
-    os.makedirs(os.path.dirname(built), exist_ok=True)
+    write_rt(bin_folder, f"test \"$* $PWD\" = 'run {os.path.join(root, 'crates', 'monitor')}' && mkdir -p out && cp '{MONITOR}' out/monitor")
     tools.expect(["try", "--contested", "knee"], 0, KNEE_CONTESTED, PROVING.replace("say", "monitor"))
     tools.expect(["try", "--contested", "knee"], 0, KNEE_CONTESTED)
     return tools.passed
@@ -508,27 +511,40 @@ def time_left(tools):
     """How long proving may still take, by what it took so far."""
     now = [100]
     crates = ["numbers", "rules", "image", "unheard_of"]
-    count = progress.Count(crates, lambda: now[0])
+    count = progress.Count({crate: set() for crate in crates}, lambda: now[0])
     mean = sum(progress.SECONDS.values()) / len(progress.SECONDS)
     weights = [progress.SECONDS[crate] for crate in crates[:3]] + [mean]
     tools.compare("weights", [progress.weight(crate) for crate in crates], weights)
 
     def heard(seconds, line, text):
         now[0] += seconds
-        count.hear(line)
+        count.hear(line + "\n")
         tools.compare(line, count.text(), text)
 
+    def heard_proof(seconds, crate, checked, text):
+        count.hear(f"crate {crate}: modules loaded=30 checked={checked}\n")
+        heard(seconds, "logic=proved functions=1 sum=0", text)
+
     heard(7, "", "0 of 4 crates proved in 7 s")
-    heard(0, "rt: say proved (3 s)\n", "0 of 4 crates proved in 7 s")
-    heard(0, "fn rules::f: proved\n", "0 of 4 crates proved in 7 s")
-    heard(1, "rt: numbers proved (unchanged since it was last proved)\n", "1 of 4 crates proved in 8 s")
+    heard(0, "logic=proved functions=1 sum=0", "0 of 4 crates proved in 7 s")
+    heard_proof(0, "say", 3, "0 of 4 crates proved in 7 s")
+    heard(0, "fn rules::f: proved", "0 of 4 crates proved in 7 s")
+    heard_proof(1, "numbers", 0, "1 of 4 crates proved in 8 s")
     left = 40 * (weights[2] + mean) / weights[1]
-    heard(32, "rt: rules proved (30 s)\n", f"2 of 4 crates proved in 40 s, about {progress.roughly(left)} left")
-    heard(0, "rt: rules proved (30 s)\n", f"2 of 4 crates proved in 40 s, about {progress.roughly(left)} left")
-    heard(20, "rt: image NOT PROVED (exit 1, 2 s)\n", f"2 of 4 crates proved in 60 s, about {progress.roughly(left - 20)} left")
+    heard_proof(32, "rules", 40, f"2 of 4 crates proved in 40 s, about {progress.roughly(left)} left")
+    heard_proof(0, "rules", 40, f"2 of 4 crates proved in 40 s, about {progress.roughly(left)} left")
+    heard(0, "crate image: modules loaded=0 checked=9", f"2 of 4 crates proved in 40 s, about {progress.roughly(left)} left")
+    heard(20, "logic=not-proved", f"2 of 4 crates proved in 60 s, about {progress.roughly(left - 20)} left")
     heard(1_000, "", "2 of 4 crates proved in 17 min 40 s")
-    heard(0, "rt: image proved (1 s)\n", f"3 of 4 crates proved in 17 min 40 s, about {progress.roughly(1_060 * mean / sum(weights[1:3]))} left")
-    heard(0, "rt: unheard_of proved (1 s)\n", "4 of 4 crates proved in 17 min 40 s")
+    heard_proof(0, "image", 9, f"3 of 4 crates proved in 17 min 40 s, about {progress.roughly(1_060 * mean / sum(weights[1:3]))} left")
+    heard_proof(0, "unheard_of", 1, "4 of 4 crates proved in 17 min 40 s")
+
+    # What lies below a crate whose proof begins or ends was built before.
+    count = progress.Count({"numbers": set(), "rules": set(), "image": {"numbers", "rules"}}, lambda: now[0])
+    heard(0, "rt: chose --jobs 2 for say", "0 of 3 crates proved in 0 s")
+    heard(0, "rt: chose --jobs 2 for image", "2 of 3 crates proved in 0 s")
+    count = progress.Count(count.below, lambda: now[0])
+    heard_proof(0, "image", 9, "3 of 3 crates proved in 0 s")
     for seconds, text in [(0.1, "10 s"), (10, "10 s"), (11, "20 s"), (89, "90 s"), (90, "2 min"), (149, "2 min"), (151, "3 min")]:
         tools.compare(f"{seconds} s", progress.roughly(seconds), text)
 
@@ -539,6 +555,13 @@ def time_left(tools):
     for what, crates in [("not measured", needed - progress.SECONDS.keys()), ("gone", progress.SECONDS.keys() - needed)]:
         if crates:
             print(f"tools/progress.py: {what}: {', '.join(sorted(crates))}")
+
+
+def proof_told(crate, checked):
+    """What rt prints of a crate's proof, by a shell."""
+    lines = [f"rt: chose --jobs 2 for {crate}", f"fn {crate}::f: proved", f"crate {crate}: modules loaded=0 checked={checked}",
+             "logic=proved functions=1 sum=0"]
+    return "; ".join(f"echo '{line}'" for line in lines)
 
 
 def write_rt(folder, script):

@@ -215,7 +215,7 @@ def main():
                                      formatter_class=argparse.RawDescriptionHelpFormatter)
     parser.add_argument("--rules", metavar="FILE", help="what `read` finds: a rule file, NAME.hex, or readable rules "
                                                         "(tools/rules2hex.py --help); default: the folder's rules.hex")
-    parser.add_argument("--program", metavar="PATH", help="what to run; default: target/bin/monitor")
+    parser.add_argument("--program", metavar="PATH", help="what to run; default: crates/monitor/out/monitor")
     parser.add_argument("--frames", action="store_true", help="print each command's line, start no program")
     given = parser.parse_args()
     alphabet, rule_file = ruletext.load_rules(given.rules) if given.rules else (ruletext.Alphabet(), None)

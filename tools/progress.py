@@ -5,7 +5,7 @@ import sys
 import threading
 import time
 
-# Seconds that the crates of `say` and `monitor` took in one run from nothing, two at a time. Only their proportions count; a crate
+# Seconds that the crates of `say` and `monitor` took in one run from nothing, by an older toolchain. Only their proportions count; a crate
 # that is not here counts as the mean.
 SECONDS = {
     "numbers": 5, "rules": 13, "rule_bytes": 12, "classes": 15, "image": 25, "automaton": 4, "states": 19, "compaction": 10, "packing": 3,
@@ -17,8 +17,12 @@ SECONDS = {
     "monitor": 56,
 }
 
-PROVED = re.compile(r"rt: (\w+) proved \((\d+ s|unchanged)")
-TICK = 1            # seconds; rt tells the crates that it proved beside each other all at once
+# rt's lines: one where it begins to prove a crate, which it does once all below the crate are built, and two at the end of the proof. Of what
+# was built before it tells nothing.
+BEGUN = re.compile(r"rt: chose --jobs \d+ for (\w+)$")
+CHECKED = re.compile(r"crate (\w+): modules loaded=\d+ checked=(\d+)$")      # none: the proof was kept
+PROVED = "logic=proved "
+TICK = 1            # seconds
 QUARTERS = 4
 
 
@@ -37,25 +41,38 @@ def roughly(seconds):
 
 
 class Count:
-    """Which of the crates are proved, by rt's lines, and how long the others may take."""
+    """Which of the crates are proved, by rt's lines, and how long the others may take. Each crate comes with those below it."""
 
-    def __init__(self, crates, clock=time.monotonic):
-        self.crates, self.waiting, self.clock = len(crates), set(crates), clock
+    def __init__(self, below, clock=time.monotonic):
+        self.below, self.waiting, self.clock = below, set(below), clock
         self.begun = clock()
+        self.checked = None, False      # the crate whose proof ended last, and whether it took time
         self.worked = 0         # the weight of the crates proved in this run; those unchanged took no time
         self.ends = None        # when all may be proved
+
+    @property
+    def crates(self):
+        return len(self.below)
 
     @property
     def proved(self):
         return self.crates - len(self.waiting)
 
     def hear(self, line):
-        told = PROVED.match(line)
-        if told is None or told[1] not in self.waiting:
+        line = line.rstrip()
+        if told := BEGUN.match(line):
+            self.waiting -= self.below.get(told[1], set())
+        elif told := CHECKED.match(line):
+            self.checked = told[1], told[2] != "0"
+        elif line.startswith(PROVED):
+            self.finish(*self.checked)
+
+    def finish(self, crate, took_time):
+        if crate not in self.waiting:
             return
-        self.waiting.remove(told[1])
-        if told[2] != "unchanged":
-            self.worked += weight(told[1])
+        self.waiting -= {crate, *self.below[crate]}
+        if took_time:
+            self.worked += weight(crate)
         if self.worked:
             now = self.clock()
             self.ends = now + (now - self.begun) * sum(map(weight, self.waiting)) / self.worked
@@ -70,10 +87,10 @@ class Count:
 class Progress(threading.Thread):
     """Shows a count while it runs: with `with`. Nothing is shown before `patience` seconds have passed, and nothing if it is over then."""
 
-    def __init__(self, headline, crates, patience):
+    def __init__(self, headline, below, patience):
         super().__init__(daemon=True)
         self.headline, self.patience = headline, patience
-        self.count, self.over = Count(crates), threading.Event()
+        self.count, self.over = Count(below), threading.Event()
         self.begun = False
         self.rewrites = sys.stderr.isatty()
         self.shown = 0          # of a terminal's line its length, elsewhere the quarters told

@@ -61,7 +61,7 @@ def arguments():
     parser.add_argument("--contested", action="store_true",
                         help="show the rules that fit at each letter, and how many letters have more than one")
     parser.add_argument("--program", metavar="PATH",
-                        help="what to run, unproved; default: target/bin/say, with --contested target/bin/monitor, with --sheet "
+                        help="what to run, unproved; default: crates/say/out/say, with --contested crates/monitor/out/monitor, with --sheet "
                              "tools/sheet.c and the library")
     given = parser.parse_args()
     if given.sheet is not None and (given.name or given.names is not None or given.contested):
@@ -264,7 +264,7 @@ def speak_sheet(given, alphabet, rule_file, prove):
     if prove and not given.program:
         programs.prove(programs.LIBRARY)
     with programs.folder_with(rule_file) as folder:
-        command = programs.command(given.program, "") if given.program else programs.linked("sheet.c", folder)
+        command = programs.command(given.program, programs.LIBRARY) if given.program else programs.linked("sheet.c", folder)
         return SheetSpeaker(command, folder, alphabet).speak(names, rule_file, given.rules)
 
 
