@@ -1,4 +1,6 @@
 // The lines that answer a name, of `say` and of the monitor (document 01, "The six rules").
+#![tactic(auto)]
+
 ghost use Rattle.std.specs.Prelude.{◌≡◌, ◌+◌, ◌*◌, ◌≤◌, length};
 ghost use Rattle.rules.specs.Memory.{over};
 ghost use Rattle.frames.specs.Output.{output, Sent};

@@ -1,4 +1,5 @@
 // The exceptions list as an acyclic automaton. Its definitions stand in specs and its laws in proofs; code has the layout's numbers from here.
+#![tactic(auto)]
 
 // The word where the first cell lies.
 pub const FIRST_CELL: u32 = 4200;

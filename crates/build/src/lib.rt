@@ -1,4 +1,6 @@
 // Both tables of a ruleset, built into lent words with its edit count (document 01, "The tables"; document 02, request 6).
+#![tactic(auto)]
+
 ghost use Rattle.std.specs.Prelude.{◌≡◌, ◌+◌, ◌*◌, ◌/◌, ◌≤◌, ◌<◌, true, false, length};
 ghost use Rattle.rules.specs.Memory.{over};
 ghost use Rattle.rules.specs.Refusals.{reply_of};

@@ -1,4 +1,6 @@
 // A name added to the exceptions list, replaced or removed (document 02, request 1).
+#![tactic(auto)]
+
 mod rebuild;
 
 ghost use Rattle.std.specs.Prelude.{◌≡◌, [], ◌≤◌, min, length};

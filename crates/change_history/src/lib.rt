@@ -1,4 +1,6 @@
 // Lists of changes from the empty list, replayed in lent memory: the claim over every such list is a contract (document 02, request 1).
+#![tactic(auto)]
+
 ghost use Rattle.std.specs.Prelude.{◌≡◌, true, ◌+◌, ◌-◌, ◌≤◌, min, length};
 ghost use Rattle.rules.specs.Refusals.{reply_of};
 ghost use Rattle.exceptions.specs.Judging.{is_list, Says};

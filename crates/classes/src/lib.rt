@@ -1,5 +1,7 @@
 // Letter classes, and the literal rules of a rule that uses them (document 02, request 5). Classes are read where a ruleset holds them: 256
 // bytes, eight for each of the symbols 40 to 5F.
+#![tactic(auto)]
+
 pub mod masks;
 pub mod ordinals;
 pub mod runs;

@@ -1,4 +1,6 @@
 // The commands of the monitor, one function each: a command's bytes without their checksum in, the answer's lines out.
+#![tactic(auto)]
+
 mod editing;
 mod filing;
 pub mod speaking;

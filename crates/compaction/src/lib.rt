@@ -1,4 +1,6 @@
 // Keeps the rows that are reached from the start, in their order.
+#![tactic(auto)]
+
 ghost use Rattle.std.specs.Prelude.{◌≡◌, ℕ, suc, ◌+◌, ◌-◌, ◌<◌, ◌≤◌, length, get_or};
 ghost use Rattle.automaton.specs.Automaton.{key_of, val_of};
 ghost use Rattle.automaton.specs.Bounds.{some};

@@ -1,5 +1,7 @@
 // A compiled ruleset: the lent tables with their state counts as read from the words. It is what each name is sent through
 // (document 01, "The walk").
+#![tactic(auto)]
+
 ghost use Rattle.std.specs.Prelude.{◌≡◌, true, get_or};
 ghost use Rattle.rules.specs.Names.{SoundName};
 ghost use Rattle.exceptions.specs.Layout.{words_of, phones_for};

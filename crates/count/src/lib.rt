@@ -2,6 +2,8 @@
 // It is a compressed trie, whose nodes are patterns and not states: node i + 1 is pattern i, and node 0 the empty string. A pattern follows
 // the nodes before it as long as they have its symbols, and becomes a child of the last of them, under the depth and the symbol at which it
 // leaves that one. The rest of its symbols are its new states.
+#![tactic(auto)]
+
 ghost use Rattle.std.specs.Prelude.{◌≡◌, ◌+◌, ◌*◌, ◌<◌, length, get_or, set};
 ghost use Rattle.tables.specs.Words.{row_size};
 ghost use Rattle.tables.specs.Siblings.{seek, Falling};

@@ -1,4 +1,6 @@
 // The edits of a ruleset in lent memory, in place (document 01, "The ledger"; document 02, requests 5 and 6).
+#![tactic(auto)]
+
 ghost use Rattle.std.specs.Prelude.{◌≡◌, true, ◌≤◌, length};
 ghost use Rattle.rules.specs.Limits.{max_rules};
 ghost use Rattle.rules.specs.Refusals.{reply_of};

@@ -1,5 +1,7 @@
 // Demand 3 of document 01 as the contract of a function that calls the real ones: a list of edits from the empty ruleset, the tables built
 // after it, and a name read plainly and walked through those tables, with a lent exceptions list.
+#![tactic(auto)]
+
 ghost use Rattle.rules.specs.Refusals.{reply_of};
 ghost use Rattle.history.specs.Replay.{replaying};
 ghost use Rattle.speech.specs.Speech.{told_of, saying};

@@ -1,5 +1,7 @@
 // The exceptions list in lent words (document 02, request 1): whether it is one (refusal 17), made empty, counted, and asked for a name.
 // specs/Layout.antt has the layout.
+#![tactic(auto)]
+
 mod judging;
 
 ghost use Rattle.std.specs.Prelude.{◌≡◌, true, ◌+◌, ◌≤◌, length};

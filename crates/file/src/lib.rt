@@ -1,5 +1,7 @@
 // The rule file, read into a ruleset in lent memory and written to lent bytes (document 01, "The rule file"; document 02, request
 // 5: letter classes).
+#![tactic(auto)]
+
 mod class_writing;
 mod defining;
 mod heading;

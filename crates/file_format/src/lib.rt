@@ -1,5 +1,7 @@
 // The three frames of the rule file: where their parts lie, and the rule that a frame holds. Its bytes may also be those of another frame
 // that has four lengths and four fields at the same places.
+#![tactic(auto)]
+
 ghost use Rattle.std.specs.Prelude.{◌≡◌, ◌≤◌, length};
 ghost use Rattle.rule_bytes.specs.RuleBytes.{rule_struct};
 ghost use Rattle.file_format.specs.Layout.{front_size, body_size, rule_in};

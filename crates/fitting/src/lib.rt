@@ -1,5 +1,7 @@
 // The choice at a reached letter: where a rule fits, the first in order that does, and how many do (document 01, "Letters, rules, fitting";
 // document 02, requests 4 and 5). The letter classes are handed on as the masks that the ruleset holds.
+#![tactic(auto)]
+
 ghost use Rattle.std.specs.Prelude.{◌≡◌, true, ◌+◌, ◌<◌, ◌≤◌, length, take, drop};
 ghost use Rattle.rules.specs.Limits.{max_target};
 ghost use Rattle.classes.specs.Masks.{masks_size, classes_in};

@@ -1,4 +1,6 @@
 // A frame as a line: upper-case hexadecimal with a checksum, ended by 0A (document 01, "The rule file").
+#![tactic(auto)]
+
 pub mod writer;
 
 ghost use Rattle.std.specs.Prelude.{◌≡◌, ◌+◌, ◌-◌, ◌*◌, ◌/◌, ◌%◌, ◌<◌, ◌≤◌, Bool, eqb, leb, length, take, drop, if◌then◌else◌, nat_lt, slice_index, slice_set};

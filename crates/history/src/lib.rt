@@ -1,4 +1,6 @@
 // A list of edits from the empty ruleset, replayed in lent memory: the claim over every such list is a contract (document 01, demand 3).
+#![tactic(auto)]
+
 ghost use Rattle.std.specs.Prelude.{◌≡◌, ◌<◌, ◌≤◌, length, get_or, take, drop};
 ghost use Rattle.rules.specs.Refusals.{reply_of, accepted};
 ghost use Rattle.image.specs.Image.{outcome};

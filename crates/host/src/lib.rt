@@ -1,5 +1,7 @@
 // What a firmware links: the library's calls on numbers and lent memory. host/pirrozketa.h says the same to C.
 // A call answers with a code: 255 where it is accepted, else the refusal's number in documents 01 and 02.
+#![tactic(auto)]
+
 mod codes;
 mod given;
 pub mod lists;

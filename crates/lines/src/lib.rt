@@ -1,4 +1,6 @@
 // Lines that are printed for answers: what those of `say` and of the monitor have in common.
+#![tactic(auto)]
+
 ghost use Rattle.std.specs.Prelude.{◌≡◌, ◌+◌, ◌*◌, ◌≤◌, length};
 ghost use Rattle.rules.specs.Memory.{over};
 ghost use Rattle.frames.specs.Output.{output, Sent};

@@ -1,5 +1,7 @@
 // The monitor's commands on the exceptions list, 20 to 26, one function each (docs/MONITOR.md): a command's bytes without their checksum in, the
 // answer's line out.
+#![tactic(auto)]
+
 mod changes;
 mod texts;
 mod units;

@@ -1,4 +1,6 @@
 // Where the literal rule at a place fits, and where its target then ends: what the walk asks of the place that it finds (document 02, request 5).
+#![tactic(auto)]
+
 ghost use Rattle.std.specs.Prelude.{◌≡◌, true, cond, ◌+◌, ◌<◌, ◌≤◌, length, take, drop};
 ghost use Rattle.classes.specs.Expansion.{size};
 ghost use Rattle.classes.specs.Masks.{masks_size, classes_in};

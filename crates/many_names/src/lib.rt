@@ -1,4 +1,6 @@
 // Many names lent one after another, each after a byte that says its length, and the replies to them in turn.
+#![tactic(auto)]
+
 pub mod codes;
 
 ghost use Rattle.std.specs.Prelude.{◌≡◌, true, ◌∷◌, ◌++◌, ◌+◌, ◌≤◌, length, take, drop};

@@ -1,4 +1,6 @@
 // The number of names, in one pass over the rows: each state after its successors.
+#![tactic(auto)]
+
 ghost use Rattle.std.specs.Prelude.{◌≡◌, ◌+◌, ◌-◌, ◌<◌, min, length};
 ghost use Rattle.automaton.specs.Automaton.{rows_of};
 ghost use Rattle.automaton.specs.Totals.{total};

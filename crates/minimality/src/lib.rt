@@ -1,4 +1,6 @@
 // Judges whether lent words are a list: where the cells lie, each row, no two alike, every state needed.
+#![tactic(auto)]
+
 ghost use Rattle.std.specs.Prelude.{◌≡◌, ℕ, ◌+◌, ◌-◌, ◌*◌, ◌<◌, ◌≤◌, length, get_or};
 ghost use Rattle.automaton.specs.Automaton.{part, cells_of, rows_of, Needed};
 ghost use Rattle.states.specs.States.{AsksState};

@@ -1,5 +1,7 @@
 // Numbers of more than one byte, high byte first (document 01: "Two-byte fields are high byte first"), and numbers widened. A function
 // that widens asks only for the index where an element is widened in place; a cast there asks for the element's bound too.
+#![tactic(auto)]
+
 ghost use Rattle.std.specs.Prelude.{◌≡◌, ◌+◌, ◌%◌, ◌^◌, ◌<◌, ◌≤◌, min, length};
 ghost use Rattle.std.specs.Int.Bits.{bit_or};
 ghost use Rattle.numbers.specs.Bits.{bit};

@@ -1,4 +1,6 @@
 // Phones are packed, three to a cell.
+#![tactic(auto)]
+
 ghost use Rattle.std.specs.Prelude.{◌≡◌, ◌<◌, ◌≤◌, length, get_or};
 ghost use Rattle.states.specs.States.{Written};
 ghost use Rattle.packing.specs.Packing.{group_at, count};

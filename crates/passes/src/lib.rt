@@ -1,4 +1,6 @@
 // The two passes of each word that is not listed: over its frame, through the entries of each table, with a count of the entries looked up.
+#![tactic(auto)]
+
 ghost use Rattle.std.specs.Prelude.{◌≡◌, true, false, ◌+◌, ◌-◌, ◌*◌, ◌<◌, ◌≤◌, length};
 ghost use Rattle.speech.specs.Words.{frame_of, word_at, WordOf};
 ghost use Rattle.speech.specs.Places.{Unsaid, frame_size};

@@ -1,5 +1,7 @@
 // The patterns of one side of a ruleset's tables, laid for the row filler (document 01, "The tables"): those of the literal rules, the right ones
 // from their end.
+#![tactic(auto)]
+
 ghost use Rattle.std.specs.Prelude.{◌≡◌, ◌+◌, ◌/◌, ◌≤◌, ◌<◌, true, ◌++◌, reverse, length, get_or};
 ghost use Rattle.rules.specs.Limits.{max_pattern};
 ghost use Rattle.classes.specs.Expansion.{size};

@@ -1,4 +1,6 @@
 // Whether the phones of every state are packed as they are written: bytes, none after a 0, at most 64. phone_groups reads them.
+#![tactic(auto)]
+
 pub mod phone_groups;
 
 ghost use Rattle.std.specs.Prelude.{◌+◌, ◌<◌, ◌≤◌, length};

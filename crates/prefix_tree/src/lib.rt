@@ -1,5 +1,7 @@
 // The left pass that the words of a sheet share (document 02, request 8): a tree whose nodes are the different prefixes of the words read so far, each
 // with its left state. A word follows the nodes that are there; where there is none, one entry is looked up and a node is added.
+#![tactic(auto)]
+
 ghost use Rattle.std.specs.Prelude.{◌≡◌, ◌+◌, ◌-◌, ◌*◌, ◌<◌, ◌≤◌, length};
 ghost use Rattle.speech.specs.Places.{frame_size};
 ghost use Rattle.tables.specs.Words.{row_size};

@@ -1,4 +1,6 @@
 // The read-out of the exceptions list (document 02, request 1): every listed name with its phones, in letter order.
+#![tactic(auto)]
+
 mod writing;
 
 ghost use Rattle.std.specs.Prelude.{◌≡◌, true, length};

@@ -1,5 +1,7 @@
 // A rule as bytes, four lengths and then its fields with all their places, and as a struct: the one made of the other. No other crate below the
 // programs makes the arrays of a rule.
+#![tactic(auto)]
+
 ghost use Rattle.std.specs.Prelude.{◌≡◌, ◌++◌, ◌+◌, ◌≤◌, length, take};
 ghost use Rattle.std.proofs.Math.Seq.{paste};
 ghost use Rattle.rules.specs.Memory.{over, over_at};

@@ -1,4 +1,6 @@
 // A whole transect in one go (document 02, request 8): the names of a walk sheet answered together, sent through a compiled ruleset.
+#![tactic(auto)]
+
 mod memory;
 
 ghost use Rattle.std.specs.Prelude.{◌≡◌, true, length};

@@ -1,4 +1,6 @@
 // The names of a sheet answered in turn from what was kept of them, each in the lent memory after the answers before it.
+#![tactic(auto)]
+
 ghost use Rattle.std.specs.Prelude.{◌≡◌, true, ◌+◌, ◌*◌, ◌<◌, ◌≤◌, length, get_or};
 ghost use Rattle.rules.specs.Names.{SoundName};
 ghost use Rattle.image.specs.Image.{valid};

@@ -1,4 +1,6 @@
 // The monitor's command 2B: a walk sheet, over the first so many of what the monitor holds.
+#![tactic(auto)]
+
 ghost use Rattle.std.specs.Prelude.{◌≡◌, ◌*◌, ◌≤◌, length};
 ghost use Rattle.rules.specs.Limits.{max_names};
 ghost use Rattle.many_names.specs.Many.{reply_size};

@@ -1,4 +1,6 @@
 // All names of a walk sheet judged, before anything is written (document 02, request 8).
+#![tactic(auto)]
+
 ghost use Rattle.std.specs.Prelude.{◌≡◌, true, ◌+◌, ◌*◌, ◌<◌, ◌≤◌, length, get_or};
 ghost use Rattle.rules.specs.Limits.{max_names};
 ghost use Rattle.exceptions.specs.Judging.{KnownList};

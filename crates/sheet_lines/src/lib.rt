@@ -1,4 +1,6 @@
 // The lines that answer a walk sheet, from the replies to its names (docs/MONITOR.md, 2B).
+#![tactic(auto)]
+
 ghost use Rattle.std.specs.Prelude.{◌≡◌, ◌+◌, ◌*◌, ◌≤◌, length};
 ghost use Rattle.rules.specs.Memory.{over};
 ghost use Rattle.answer_lines.specs.Answers.{longest_line};

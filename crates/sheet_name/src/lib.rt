@@ -1,4 +1,6 @@
 // What a name of a sheet comes to, judged before anything is written (document 02, request 8).
+#![tactic(auto)]
+
 ghost use Rattle.std.specs.Prelude.{◌≡◌, true, ◌+◌, ◌*◌, ◌≤◌, length, take};
 ghost use Rattle.rules.specs.Names.{SoundName};
 ghost use Rattle.exceptions.specs.Judging.{KnownList};

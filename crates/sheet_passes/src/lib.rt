@@ -1,4 +1,6 @@
 // The passes of a name's words where the left pass is shared by all words of a sheet (document 02, request 8).
+#![tactic(auto)]
+
 ghost use Rattle.std.specs.Prelude.{◌≡◌, true, ◌+◌, ◌-◌, ◌*◌, ◌<◌, ◌≤◌, length};
 ghost use Rattle.speech.specs.Words.{frame_of, word_at, WordOf};
 ghost use Rattle.speech.specs.Places.{Unsaid, frame_size};

@@ -1,4 +1,6 @@
 // One table, filled from the patterns of its side. Pattern i has lens[i] symbols of pats, from MAX_PATTERN i on.
+#![tactic(auto)]
+
 ghost use Rattle.std.specs.Prelude.{◌≡◌, ◌+◌, ◌*◌, ◌/◌, ◌%◌, ◌^◌, ◌≤◌, ◌<◌, cond, eqb, length, get_or};
 ghost use Rattle.std.specs.Int.Bits.{bit_or};
 ghost use Rattle.rules.specs.Limits.{max_rules, max_pattern};

@@ -1,4 +1,6 @@
 // Rules put in, taken out and moved in place: the slots after them move by one. Each is an edit, and the edit count rises by one.
+#![tactic(auto)]
+
 ghost use Rattle.std.specs.Prelude.{◌≡◌, ◌+◌, ◌-◌, ◌*◌, ◌<◌, ◌≤◌, length, drop};
 ghost use Rattle.std.proofs.Math.Seq.{paste};
 ghost use Rattle.rules.specs.Limits.{max_rules, max_edits};

@@ -1,5 +1,7 @@
 // What reading came to, as an answer: the phones of the rules applied and of listed words, and the numbers of the rules, written to lent memory
 // where it has room for all of them; and how many letters were contested.
+#![tactic(auto)]
+
 ghost use Rattle.std.specs.Prelude.{◌≡◌, true, cond, ◌+◌, ◌≤◌, ◌<◌, leb, ltb, length};
 ghost use Rattle.std.proofs.Math.Seq.{paste};
 ghost use Rattle.rules.specs.Limits.{max_phones, max_listed_phones};

@@ -1,4 +1,6 @@
 // The exceptions list as cells in lent memory: words 0 to n + 1 give where each state's cells begin, the cells lie from word 4200 on.
+#![tactic(auto)]
+
 ghost use Rattle.std.specs.Prelude.{◌≡◌, ◌+◌, ◌-◌, ◌*◌, ◌<◌, ◌≤◌, length};
 ghost use Rattle.automaton.specs.Automaton.{key_of, val_of, cell_of, part, cells_of, rows_of, end_state, Laid};
 ghost use Rattle.automaton.specs.Changes.{Phones, First};

@@ -1,4 +1,6 @@
 // What `say` answers: a name's line in and its answer's line out (document 01, "The six rules").
+#![tactic(auto)]
+
 ghost use Rattle.std.specs.Prelude.{◌≡◌, true, ◌≤◌, length, drop};
 ghost use Rattle.rules.specs.Memory.{over};
 ghost use Rattle.frames.specs.Lines.{sound_line, line_after};

@@ -1,5 +1,6 @@
 // The walk of a name through lent tables (document 01, "The walk", and refusal 16; document 02, refusal 22): the covered part that the compiled ruleset is taken
 // apart for.
+#![tactic(auto)]
 
 ghost use Rattle.std.specs.Prelude.{◌≡◌, true, cond, not, ◌&&◌, ◌<◌, ◌≤◌, eqb, length};
 ghost use Rattle.exceptions.specs.Judging.{says_of};

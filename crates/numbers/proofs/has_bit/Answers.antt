@@ -1,6 +1,5 @@
 -- `numbers::has_bit` meets its contract.
 -- Assumes nothing.
-use borrow.Author.Rules.{rules}
 use Rattle.numbers.proofs.Bits.{bit_test}
 use Rattle.numbers.proofs.has_bit.Goals as goal
 

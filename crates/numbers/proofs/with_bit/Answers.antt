@@ -1,7 +1,6 @@
 -- `numbers::with_bit` meets its contract.
 -- Assumes nothing.
 use native.Mathlib.Omega.{arith}
-use borrow.Author.Rules.{rules}
 use Rattle.numbers.proofs.Bits.{bit_put}
 use Rattle.numbers.proofs.with_bit.Goals as goal
 
