@@ -1,6 +1,6 @@
 -- The read-out: every listed name once, in letter order, a name before its continuations, by descending from each state to its successors.
 -- Assumes nothing.
-use Rattle.std.specs.Prelude.{◌≡◌, ◌⊎◌, ℕ, zero, suc, ◌+◌, ◌<◌, Bool, true, false, cond, List, [], ◌∷◌, ◌++◌, map, length}
+use Rattle.std.specs.Prelude.{◌≡◌, ◌⊎◌, ℕ, zero, suc, ◌<◌, Bool, true, false, cond, List, [], ◌∷◌, ◌++◌, map, length}
 use Rattle.automaton.specs.Automaton.{Str, Rows, phones_at}
 
 -- there are none

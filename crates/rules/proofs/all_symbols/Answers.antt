@@ -1,11 +1,7 @@
 -- `rules::all_symbols` meets its contract: the symbols are tested in turn.
 -- Assumes nothing.
-use Prim.Native.Nat.{◌≤◌, ◌-◌}
-use mathlib.Core.Path.{◌≡◌, sym, ◌∙◌}
+use mathlib.Core.Path.{sym, ◌∙◌}
 use native.Mathlib.Omega.{arith}
-use borrow.Author.Rules.{rules}
-use lib.ListN.{length, drop}
-use Rattle.rules.specs.Shape.{all_symbols}
 use Rattle.rules.proofs.Laws.{symbols_on, symbols_low, symbols_other, symbols_end, symbol_high, symbol_space, symbol_other}
 use Rattle.rules.proofs.all_symbols.Goals as goal
 

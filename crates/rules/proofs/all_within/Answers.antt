@@ -1,11 +1,7 @@
 -- `rules::all_within` meets its contract.
 -- Assumes nothing.
-use Prim.Native.Nat.{◌≤◌, ◌-◌}
-use mathlib.Core.Path.{◌≡◌, sym, ◌∙◌}
-use borrow.Author.Rules.{rules}
+use mathlib.Core.Path.{sym, ◌∙◌}
 use native.Mathlib.Omega.{arith}
-use lib.ListN.{length, drop}
-use Rattle.rules.specs.Shape.{all_from}
 use Rattle.rules.proofs.Laws.{scan_on, scan_low, scan_high, scan_end}
 use Rattle.rules.proofs.all_within.Goals as goal
 

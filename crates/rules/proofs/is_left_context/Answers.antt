@@ -7,8 +7,6 @@ use lib.ListN.{length, drop, length-drop}
 use lib.Seq.{take_all}
 use Rattle.rules.specs.Shape.{all_symbols}
 use Rattle.rules.proofs.Laws.{left_none, left_other, left_rest}
-use borrow.Author.Rules.{rules}
-use borrow.Author.Tests.{not-true, not-false}
 use Rattle.rules.proofs.is_left_context.Goals as goal
 
 pub returns-then-s-eq0 : goal.returns-then-s-eq0

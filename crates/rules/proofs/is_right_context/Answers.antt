@@ -4,8 +4,6 @@ use mathlib.Core.Path.{sym, ◌∙◌}
 use native.Mathlib.Omega.{arith}
 use lib.Seq.{length-take-le}
 use Rattle.rules.proofs.Laws.{right_none, right_other, right_rest}
-use borrow.Author.Rules.{rules}
-use borrow.Author.Tests.{not-true, not-false}
 use Rattle.rules.proofs.is_right_context.Goals as goal
 
 pub returns-then-s-eq0 : goal.returns-then-s-eq0

@@ -1,7 +1,5 @@
 -- `rules::is_symbol` meets its contract.
 -- Assumes nothing.
-use mathlib.Core.Path.{sym, ap, ◌∙◌}
-use mathlib.Core.Bool.{Bool, not}
 use borrow.Author.Tests.{le-leb, lt-leb}
 use Rattle.rules.proofs.is_symbol.Goals as goal
 

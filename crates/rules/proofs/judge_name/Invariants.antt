@@ -1,12 +1,9 @@
 -- `rules::judge_name` meets its contract: the bytes from i on decide.
 -- Assumes nothing.
 use Prim.Native.Nat.{◌-◌, ◌≤◌}
-use mathlib.Core.Path.{◌≡◌, sym, ◌∙◌}
-use native.Mathlib.Omega.{arith}
-use borrow.Author.Rules.{rules}
+use mathlib.Core.Path.{◌≡◌}
 use lib.ListN.{length, drop}
 use Rattle.rules.specs.Names.{judged_bytes, judged_name}
-use Rattle.rules.proofs.Names.{name_long, bytes_begin, bytes_on, bytes_low, bytes_high, bytes_end}
 use Rattle.rules.proofs.judge_name.Given as goal
 
 abbrev pub invariant-loop-i : goal.invariant-loop-i

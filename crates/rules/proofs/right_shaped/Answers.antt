@@ -5,7 +5,6 @@ use native.Mathlib.Omega.{arith}
 use lib.Seq.{length-take-le}
 use borrow.Author.Tests.{le-leb, lt-leb}
 use Rattle.rules.proofs.Laws.{length_first, first_take}
-use borrow.Author.Rules.{rules}
 use Rattle.rules.proofs.right_shaped.Goals as goal
 
 pub returns-then-e-gt-MAX_CONTEXT : goal.returns-then-e-gt-MAX_CONTEXT

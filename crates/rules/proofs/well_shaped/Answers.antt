@@ -3,7 +3,6 @@
 use mathlib.Core.Path.{◌≡◌, sym, ◌∙◌}
 use native.Mathlib.Omega.{arith}
 use lib.ListN.{length}
-use borrow.Author.Tests.{not-true, not-false}
 use Rattle.rules.specs.Limits.{max_context, max_target, max_phones}
 use Rattle.rules.specs.Shape.{shape}
 use borrow.Author.Rules.{rules}
