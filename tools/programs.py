@@ -12,7 +12,7 @@ from inputs import Failure, Mistake
 
 ROOT = os.path.dirname(os.path.dirname(os.path.realpath(__file__)))
 LIBRARY = "host"    # the crate that is no program
-PATIENCE = 5        # seconds; a program that was proved before is looked through in one
+PATIENCE = 10       # seconds; a program that was proved before is looked through in a few
 LIBRARY_PATIENCE = 30       # the library is built anew, of proofs that were kept
 
 
