@@ -10,7 +10,6 @@ ghost use Rattle.answer_lines.specs.Answers.{longest_line, spoken_front, spoken_
 
 use frames::writer;
 use frames::writer::Writer;
-use speech::Speech;
 use walk::WalkAnswer;
 
 // No line that is printed for a name has more bytes, its 0A included.
@@ -56,13 +55,15 @@ pub fn answer_line(answer: WalkAnswer, phones: &[u8], numbers: &[u16], out: &mut
     ensures len { result ≡ length (printed (told_body (told_of answer.speech) answer.steps phones.now numbers.now)) }
     ensures bytes { out.new ≡ over (printed (told_body (told_of answer.speech) answer.steps phones.now numbers.now)) out.old }
 {
-    let speech = answer.speech;
-    match speech {
-        Speech::Spoken {
-            phones: p,
-            numbers: n,
-            contested: _,
-        } => { spoken_line(answer.steps, &phones[..p], &numbers[..n], out) }
-        Speech::Refused(x) => lines::refusal_line(x, out),
+    match answer.speech {
+        Ok(said) => {
+            spoken_line(
+                answer.steps,
+                &phones[..said.phones],
+                &numbers[..said.numbers],
+                out,
+            )
+        }
+        Err(x) => lines::refusal_line(x, out),
     }
 }

@@ -10,7 +10,7 @@ ghost use Rattle.tables.specs.Words.{head_words, row_size, set_size, words_head,
 ghost use Rattle.patterns.specs.Sides.{side_table, Scratch};
 ghost use Rattle.build.specs.Counting.{Counted};
 
-use rules::{Answer, Refusal};
+use rules::Refusal;
 
 // ---- one side
 
@@ -90,14 +90,12 @@ fn most_states(image: &[u8], n: usize) -> usize
     ensures { ((side_table image.now false).count + (side_table image.now true).count ≤ result) × (result ≤ left_states + right_states) }
 {
     let mut most: usize = 2;
-    let mut i: usize = 0;
-    while i < n {
+    for i in 0..n {
         let place = image::table::owner_at(image, i);
         let left = image::left_at(image, place);
         let target = image::target_at(image, place);
         let right = image::right_at(image, place);
         most += left.len() + target.len() + right.len();
-        i += 1;
     }
     most
 }
@@ -110,7 +108,7 @@ fn build_counted(
     lens: &mut [u8],
     words: &mut [u16],
     sets: &mut [u64],
-) -> Answer
+) -> Result<(), Refusal>
     requires { (valid image.now ≡ true) × (n ≡ total_of image.now) × Scratch pats.old lens.old }
     ensures { building (reply_of result) words.new sets.new ≡ built_from (edits_of image.now) (literals_of image.now) words.old sets.old }
 {
@@ -119,13 +117,13 @@ fn build_counted(
     let needed = tables::HEAD + tables::ROW * (l + r);
     let places = tables::SET * (l + r);
     if words.len() < needed {
-        return Answer::Refused(Refusal::WordsRoom(needed));
+        return Err(Refusal::WordsRoom(needed));
     }
     if sets.len() < places {
-        return Answer::Refused(Refusal::SetsRoom(places));
+        return Err(Refusal::SetsRoom(places));
     }
     fill(image, n, pats, lens, words, sets);
-    Answer::Accepted
+    Ok(())
 }
 
 // Builds the tables with scratch memory for the patterns of one side at a time. Memory that has room for any ruleset of so many symbols
@@ -136,7 +134,7 @@ fn build_with(
     lens: &mut [u8],
     words: &mut [u16],
     sets: &mut [u64],
-) -> Answer
+) -> Result<(), Refusal>
     requires { (valid image.now ≡ true) × Scratch pats.old lens.old }
     ensures { building (reply_of result) words.new sets.new ≡ built_from (edits_of image.now) (literals_of image.now) words.old sets.old }
 {
@@ -144,14 +142,14 @@ fn build_with(
     let most = most_states(image, n);
     if tables::HEAD + tables::ROW * most <= words.len() && tables::SET * most <= sets.len() {
         fill(image, n, pats, lens, words, sets);
-        return Answer::Accepted;
+        return Ok(());
     }
     build_counted(image, n, pats, lens, words, sets)
 }
 
 // Builds the tables of an image that is known to be a ruleset. The scratch arrays are made once: with the tree of a count they take 7.7 KB
 // of stack, of the 32 KB that a call may have.
-fn build_valid(image: &[u8], words: &mut [u16], sets: &mut [u64]) -> Answer
+fn build_valid(image: &[u8], words: &mut [u16], sets: &mut [u64]) -> Result<(), Refusal>
     requires { valid image.now ≡ true }
     ensures { building (reply_of result) words.new sets.new ≡ built_from (edits_of image.now) (literals_of image.now) words.old sets.old }
 {
@@ -161,11 +159,11 @@ fn build_valid(image: &[u8], words: &mut [u16], sets: &mut [u64]) -> Answer
 }
 
 // Builds the tables of an image.
-pub fn build(image: &[u8], words: &mut [u16], sets: &mut [u64]) -> Answer
+pub fn build(image: &[u8], words: &mut [u16], sets: &mut [u64]) -> Result<(), Refusal>
     ensures { building (reply_of result) words.new sets.new ≡ built image.now words.old sets.old }
 {
     if !image::is_ruleset(image) {
-        return Answer::Refused(Refusal::NotRuleset(0));
+        return Err(Refusal::NotRuleset(0));
     }
     build_valid(image, words, sets)
 }

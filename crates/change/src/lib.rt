@@ -15,7 +15,7 @@ ghost use Rattle.exceptions.specs.Judging.{IsList};
 ghost use Rattle.change.specs.Change.{Change, good_entry, Changed};
 ghost use Rattle.change.specs.Steps.{ListAsks, PhonesAsk, names_after, Relisted, ChangeAsks, Limited, judged};
 
-use rules::{Answer, Refusal};
+use rules::Refusal;
 
 // A count for each state of a list, and for 0.
 const COUNTS: usize = rules::MAX_STATES + 1;
@@ -71,14 +71,14 @@ fn relist(words: &mut [u32], name: &[u8], phones: &[u8]) -> bool
 }
 
 // The same on a lent list, as the answer to a change.
-fn change_list(list: &mut [u32], name: &[u8], phones: &[u8]) -> Answer
+fn change_list(list: &mut [u32], name: &[u8], phones: &[u8]) -> Result<(), Refusal>
     requires { ChangeAsks list.old name.now phones.now }
     ensures { Limited (changed name.now phones.now (phones_for (words_of list.old))) list.old list.new (reply_of result) }
 {
     if relist(&mut list[..exceptions::SIZE], name, phones) {
-        return Answer::Accepted;
+        return Ok(());
     }
-    Answer::Refused(Refusal::ListFull(0))
+    Err(Refusal::ListFull(0))
 }
 
 // A name of some letters with 1 to 64 phones.
@@ -98,61 +98,45 @@ fn is_entry(name: &[u8], phones: &[u8]) -> bool
 }
 
 // The refusals of an addition before the limits.
-fn judge_addition(list: &[u32], name: &[u8], phones: &[u8]) -> Answer
+fn judge_addition(list: &[u32], name: &[u8], phones: &[u8]) -> Result<(), Refusal>
     ensures { reply_of result ≡ judged list.now (Change.Add name.now phones.now) }
 {
     if !exceptions::is_list(list) {
-        return Answer::Refused(Refusal::BadList(0));
+        return Err(Refusal::BadList(0));
     }
-    let answer = rules::judge_name(name);
-    match answer {
-        Answer::Refused(x) => Answer::Refused(x),
-        Answer::Accepted => {
-            if is_entry(name, phones) {
-                return Answer::Accepted;
-            }
-            Answer::Refused(Refusal::BadList(0))
-        }
+    rules::judge_name(name)?;
+    if !is_entry(name, phones) {
+        return Err(Refusal::BadList(0));
     }
+    Ok(())
 }
 
 // The refusals of a removal before the limits.
-fn judge_removal(list: &[u32], name: &[u8]) -> Answer
+fn judge_removal(list: &[u32], name: &[u8]) -> Result<(), Refusal>
     ensures { reply_of result ≡ judged list.now (Change.Remove name.now) }
 {
     if !exceptions::is_list(list) {
-        return Answer::Refused(Refusal::BadList(0));
+        return Err(Refusal::BadList(0));
     }
-    let answer = rules::judge_name(name);
-    match answer {
-        Answer::Refused(x) => Answer::Refused(x),
-        Answer::Accepted => {
-            if unlisted(&list[..exceptions::SIZE], name) {
-                return Answer::Refused(Refusal::NotListed(0));
-            }
-            Answer::Accepted
-        }
+    rules::judge_name(name)?;
+    if unlisted(&list[..exceptions::SIZE], name) {
+        return Err(Refusal::NotListed(0));
     }
+    Ok(())
 }
 
 // A name is added with its phones; a listed name gets new ones.
-pub fn add_name(list: &mut [u32], name: &[u8], phones: &[u8]) -> Answer
+pub fn add_name(list: &mut [u32], name: &[u8], phones: &[u8]) -> Result<(), Refusal>
     ensures { Changed (Change.Add name.now phones.now) list.old list.new (reply_of result) }
 {
-    let answer = judge_addition(list, name, phones);
-    match answer {
-        Answer::Refused(x) => Answer::Refused(x),
-        Answer::Accepted => change_list(list, name, phones),
-    }
+    judge_addition(list, name, phones)?;
+    change_list(list, name, phones)
 }
 
 // A listed name is removed.
-pub fn remove_name(list: &mut [u32], name: &[u8]) -> Answer
+pub fn remove_name(list: &mut [u32], name: &[u8]) -> Result<(), Refusal>
     ensures { Changed (Change.Remove name.now) list.old list.new (reply_of result) }
 {
-    let answer = judge_removal(list, name);
-    match answer {
-        Answer::Refused(x) => Answer::Refused(x),
-        Answer::Accepted => change_list(list, name, &name[..0]),
-    }
+    judge_removal(list, name)?;
+    change_list(list, name, &name[..0])
 }

@@ -22,11 +22,7 @@ fn copy_words(from: &[u32], a: usize, to: &mut [u32], b: usize, len: usize)
     requires { (a + len ≤ length from.now) × (b + len ≤ length to.old) }
     ensures { Written (copy_of from.now a) b len to.old to.new }
 {
-    let mut k: usize = 0;
-    while k < len {
-        to[b + k] = from[a + k];
-        k += 1;
-    }
+    to[b..b + len].copy_from_slice(&from[a..a + len]);
 }
 
 // The free words that a change may write are saved.

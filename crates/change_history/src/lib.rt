@@ -8,7 +8,7 @@ ghost use Rattle.change.specs.Change.{Changed};
 ghost use Rattle.change_history.specs.Code.{change_of, coded_changes};
 ghost use Rattle.change_history.specs.Replay.{turns, nothing, Replayed, ReplayedAll};
 
-use rules::Answer;
+use rules::Refusal;
 
 // Words of a coded change; specs/Code.antt has the layout.
 const CHANGE_WORDS: usize = 3;
@@ -22,7 +22,7 @@ fn end_of(from: usize, n: usize, len: usize) -> usize
 }
 
 // The change of this kind.
-fn apply(list: &mut [u32], kind: usize, name: &[u8], phones: &[u8]) -> Answer
+fn apply(list: &mut [u32], kind: usize, name: &[u8], phones: &[u8]) -> Result<(), Refusal>
     ensures { Changed (change_of kind name.now phones.now) list.old list.new (reply_of result) }
 {
     if kind == 0 {
@@ -43,16 +43,14 @@ fn replay_all(
     requires { (n ≤ turns (length code.now) (length answers.old) (length places.old)) × (is_list list.old ≡ true) × Says list.old nothing }
     ensures { ReplayedAll (coded_changes n code.now text.now) list.old answers.old places.old list.new answers.new places.new }
 {
-    let mut i = 0;
     let mut at = 0;
     let mut from = 0;
-    while i < n {
+    for i in 0..n {
         let middle = end_of(from, code[at + 1], text.len());
         let end = end_of(middle, code[at + 2], text.len());
         let a = apply(list, code[at], &text[from..middle], &text[middle..end]);
         answers[i] = rules::answer_code(a);
         places[i] = rules::answer_place(a);
-        i += 1;
         at += CHANGE_WORDS;
         from = end;
     }
@@ -65,15 +63,12 @@ pub fn replay(
     text: &[u8],
     answers: &mut [u8],
     places: &mut [usize],
-) -> Answer
+) -> Result<(), Refusal>
     ensures { Replayed list.old code.now text.now answers.old places.old (reply_of result) list.new answers.new places.new }
 {
-    let answer = exceptions::clear(&mut *list);
-    if let Answer::Refused(why) = answer {
-        return Answer::Refused(why);
-    }
+    exceptions::clear(&mut *list)?;
     let room = numbers::smaller(answers.len(), places.len());
     let n = numbers::smaller(code.len() / CHANGE_WORDS, room);
     replay_all(list, code, text, answers, places, n);
-    Answer::Accepted
+    Ok(())
 }

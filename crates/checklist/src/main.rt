@@ -4,83 +4,65 @@
 
 mod editing;
 mod items;
-mod last_letters;
 mod literal_rules;
 mod names;
 mod printing;
+mod refused;
 mod ruleset;
 mod searches;
 mod speaking;
 
-ghost use Rattle.std.specs.Prelude.{◌≡◌, true};
-ghost use Rattle.rules.specs.Refusals.{reply_of, accepted};
+ghost use Rattle.std.specs.Prelude.{◌≡◌, true, IfOk};
 ghost use Rattle.image.specs.Image.{valid};
 
 use file_format::MAX_INPUT;
 use items::Item;
-use printing::print;
-use rules::{Answer, Refusal};
+use printing::verdict;
+use refused::{Refused, accepted};
+use rules::Refusal;
+use ruleset::Ruleset;
+use speaking::Tables;
 use std::rt::Files;
 
-// The one line where rules.hex is refused.
-fn print_refused(rt: &impl Print, x: Refusal) {
-    printing::print_verdict(rt, false);
-    print(rt, b"rules.hex: ");
-    editing::print_refusal(rt, x);
-    print(rt, b"\n");
-}
-
-// Whether a call was accepted; if not, its refusal is printed.
-fn judge(rt: &impl Print, answer: Answer) -> bool
-    ensures { result ≡ true → reply_of answer ≡ accepted }
-{
-    if let Answer::Refused(x) = answer {
-        print_refused(rt, x);
-        return false;
-    }
-    true
-}
-
 // The rule file is read, then its tables are built.
-fn is_prepared(
-    rt: &impl Print,
+fn prepare(
     file: &[u8],
     image: &mut [u8],
     words: &mut [u16],
     sets: &mut [u64],
-) -> bool
-    ensures { result ≡ true → valid image.new ≡ true }
+) -> Result<(), Refused>
+    ensures { IfOk result (λ _. valid image.new ≡ true) }
 {
     if MAX_INPUT < file.len() {
-        print_refused(rt, Refusal::BadLine(MAX_INPUT));
-        return false;
+        return Err(Refused::from(Refusal::BadLine(MAX_INPUT)));
     }
-    if !judge(rt, file::read_file(file, &mut *image)) {
-        return false;
-    }
-    judge(rt, build::build(image, words, sets))
+    accepted(file::read_file(file, &mut *image))?;
+    accepted(build::build(image, words, sets))
 }
 
-fn try_names<'a>(rt: &impl Print, image: &[u8], words: &'a [u16], sets: &'a [u64])
+fn try_names<'a>(rt: &impl Print, image: &'a [u8], words: &'a [u16], sets: &'a [u64])
     requires { valid image.now ≡ true }
 {
-    items::try_item(rt, Item::SilentEnd, image, words, sets);
-    items::try_item(rt, Item::TwoFitting, image, words, sets);
-    items::try_item(rt, Item::LastLetters, image, words, sets);
-    items::try_item(rt, Item::Uncovered, image, words, sets);
+    let rules = Ruleset { image };
+    let tables = Tables { rules, words, sets };
+    items::try_item(rt, Item::SilentEnd, tables);
+    items::try_item(rt, Item::TwoFitting, tables);
+    items::try_item(rt, Item::LastLetters, tables);
+    items::try_item(rt, Item::Uncovered, tables);
 }
 
-fn run<'a>(
+fn run(
     rt: &(impl Files + Print),
     buf: &mut [u8],
     out: &mut [u8],
     image: &mut [u8],
-    words: &'a mut [u16],
-    sets: &'a mut [u64],
+    words: &mut [u16],
+    sets: &mut [u64],
 ) {
     let n = rules_hex::read(rt, &mut *buf);
     let file = &buf[..n];
-    if !is_prepared(rt, file, &mut *image, &mut *words, &mut *sets) {
+    if let Err(x) = prepare(file, &mut *image, &mut *words, &mut *sets) {
+        let _ = println!(rt; "{} rules.hex: {x}", verdict(false));
         return;
     }
     editing::read_back(rt, image, file, &mut *out);

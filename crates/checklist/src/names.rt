@@ -1,128 +1,123 @@
 // Names made of the rules' own letters.
-ghost use Rattle.std.specs.Prelude.{◌≤◌};
+ghost use Rattle.std.specs.Prelude.{◌≤◌, length};
 
 use rules::{MAX_NAME, Rule};
+use std::fmt;
+
+// The longest name between two boundaries.
+pub const MAX_FRAME: usize = MAX_NAME + 2;
 
 // A name: the first `len` of its letters.
 #[derive(Clone, Copy)]
 pub struct Name {
-    pub len: usize,
-    pub letters: [u8; MAX_NAME],
+    len: usize,
+    letters: [u8; MAX_NAME],
+    ghost room: { len ≤ 64 },
 }
 
-pub fn empty() -> Name {
-    Name {
-        len: 0,
-        letters: [0; MAX_NAME],
-    }
-}
-
-// The letters of a name, given its array and its length.
-pub fn spelling(letters: &[u8], n: usize) -> &[u8] {
-    if letters.len() < n {
-        return letters;
-    }
-    &letters[..n]
-}
-
-// A symbol more, where it is a letter and has room.
-pub fn with_symbol(name: Name, x: u8) -> Name {
-    let n = name.len;
-    if x == 0 {
-        return name;
-    }
-    if MAX_NAME <= n {
-        return name;
-    }
-    let mut letters = name.letters;
-    letters[n] = x;
-    Name {
-        len: n + 1,
-        letters,
-    }
-}
-
-// The first `n` of the symbols more.
-fn with_symbols(name: Name, symbols: &[u8], n: usize) -> Name {
-    let mut made = name;
-    let mut k: usize = 0;
-    while k < n {
-        if symbols.len() <= k {
-            return made;
+impl Name {
+    pub fn new() -> Name {
+        Name {
+            len: 0,
+            letters: [0; MAX_NAME],
         }
-        made = with_symbol(made, symbols[k]);
-        k += 1;
     }
-    made
+
+    pub fn as_slice(&self) -> &[u8]
+        ensures { length result.now ≤ 64 }
+    {
+        &self.letters[..self.len]
+    }
+
+    // A symbol more, where it is a letter and has room.
+    pub fn push(&mut self, x: u8) {
+        if x != 0 && self.len < MAX_NAME {
+            self.letters[self.len] = x;
+            self.len += 1;
+        }
+    }
+
+    // The first `n` of the symbols more.
+    fn with(mut self, symbols: &[u8], n: u8) -> Name {
+        for &x in symbols.iter().take(usize::from(n)) {
+            self.push(x);
+        }
+        self
+    }
+
+    pub fn with_left(self, rule: &Rule) -> Name {
+        self.with(&rule.left, rule.left_len)
+    }
+
+    pub fn with_target(self, rule: &Rule) -> Name {
+        self.with(&rule.target, rule.target_len)
+    }
+
+    pub fn with_right(self, rule: &Rule) -> Name {
+        self.with(&rule.right, rule.right_len)
+    }
+
+    // The name between two boundaries, in lent memory.
+    pub fn framed<'m>(&self, memory: &'m mut [u8; MAX_FRAME]) -> &'m [u8] {
+        let name = self.as_slice();
+        reading::words::lay_frame(name, memory);
+        &memory[..name.len() + 2]
+    }
 }
 
-fn with_left(name: Name, rule: Rule) -> Name {
-    let left = rule.left;
-    with_symbols(name, &left, numbers::wide(rule.left_len))
-}
-
-fn with_target(name: Name, rule: Rule) -> Name {
-    let target = rule.target;
-    with_symbols(name, &target, numbers::wide(rule.target_len))
-}
-
-fn with_right(name: Name, rule: Rule) -> Name {
-    let right = rule.right;
-    with_symbols(name, &right, numbers::wide(rule.right_len))
-}
-
-// The shortest name that ends with a rule's target, after the target of another.
-pub fn ending(other: Rule, rule: Rule) -> Name {
-    with_target(with_left(with_target(empty(), other), rule), rule)
-}
-
-// The shortest name that ends with a rule's target.
-pub fn ending_alone(rule: Rule) -> Name {
-    with_target(with_left(empty(), rule), rule)
+// A letter from a to z as such, any other as two hexadecimal digits.
+impl fmt::Display for Name {
+    fn fmt<W: fmt::Write>(&self, f: &mut fmt::Formatter<W>) -> fmt::Result {
+        for &x in self.as_slice() {
+            if 26 < x {
+                write!(f, "{x:02X}")?;
+            } else {
+                let letter = char::from(96 + x);
+                write!(f, "{letter}")?;
+            }
+        }
+        Ok(())
+    }
 }
 
 // Whether a name can end with a rule's target: nothing but the name's end stands in its right context.
-pub fn can_end(rule: Rule) -> bool {
-    let right = rule.right;
-    let n = rule.right_len;
-    n == 0 || n == 1 && right[0] == 0
-}
-
-// The longer left context of two rules.
-fn longer_left(p: Rule, q: Rule) -> Name {
-    if p.left_len < q.left_len {
-        return with_left(empty(), q);
-    }
-    with_left(empty(), p)
+pub fn can_end(rule: &Rule) -> bool {
+    rule.right_len == 0 || rule.right_len == 1 && rule.right[0] == 0
 }
 
 // How many symbols a target and its right context have.
-fn width(rule: Rule) -> usize
+fn width(rule: &Rule) -> u16
     ensures { result ≤ 510 }
 {
-    numbers::wide(rule.target_len) + numbers::wide(rule.right_len)
+    u16::from(rule.target_len) + u16::from(rule.right_len)
+}
+
+// How many symbols a rule has.
+fn size(rule: &Rule) -> u16 {
+    u16::from(rule.left_len) + width(rule)
 }
 
 // Whether a rule has more symbols than another.
-pub fn is_longer(rule: Rule, other: Rule) -> bool {
-    numbers::wide(other.left_len) + width(other) < numbers::wide(rule.left_len) + width(rule)
+pub fn is_longer(rule: &Rule, other: &Rule) -> bool {
+    size(other) < size(rule)
 }
 
-// The shortest name in which two rules could both fit at one position, after its first `before` letters: their contexts and targets, laid
-// over each other.
+// A name, and a position in it: the one after its first `before` letters.
 #[derive(Clone, Copy)]
 pub struct Overlaid {
     pub name: Name,
     pub before: usize,
 }
 
-pub fn overlay(p: Rule, q: Rule) -> Overlaid {
-    let left = longer_left(p, q);
-    let before = left.len;
-    if width(p) < width(q) {
-        let name = with_right(with_target(left, q), q);
-        return Overlaid { name, before };
+// The shortest name in which two rules could both fit at one position: their contexts and targets, laid over each other.
+pub fn overlay(p: &Rule, q: &Rule) -> Overlaid
+    ensures { result.before ≤ 64 }
+{
+    let further = if p.left_len < q.left_len { q } else { p };
+    let left = Name::new().with_left(further);
+    let wider = if width(p) < width(q) { q } else { p };
+    Overlaid {
+        name: left.with_target(wider).with_right(wider),
+        before: left.as_slice().len(),
     }
-    let name = with_right(with_target(left, p), p);
-    Overlaid { name, before }
 }

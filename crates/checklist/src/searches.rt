@@ -1,252 +1,217 @@
 // The search of a ruleset for a name that an item of the checklist can be tried with. Names are made of the literal rules' letters and tried by
 // the plain reading, in a fixed order, and no more than MAX_TRIED of them.
-ghost use Rattle.std.specs.Prelude.{◌≡◌, true};
-ghost use Rattle.image.specs.Image.{valid};
+ghost use Rattle.std.specs.Prelude.{◌<◌, ◌≤◌};
+ghost use Rattle.image.specs.Image.{count_of, total_of};
 
 use crate::literal_rules::Literal;
-use crate::names::Name;
-use crate::{literal_rules, names, ruleset, speaking};
-use rules::MAX_LETTER;
+use crate::names;
+use crate::names::{MAX_FRAME, Name, Overlaid};
+use crate::refused::Refused;
+use crate::ruleset::Ruleset;
+use rules::{MAX_LETTER, Rule};
+use std::fmt;
 
 const MAX_TRIED: usize = 4096;
 
-// How a search stands: whether its name was found, how many were tried, and for rules that fit, where they do and their places.
+// A letter that no rule covers, the first of a name, is refused so.
+pub const UNCOVERED: Refused = Refused {
+    number: 3,
+    place: 1,
+};
+
+// The name found. Where it was sought for rules that fit at a position, that is after its first `before` letters; where it was for two of them,
+// these have the numbers in `pair`.
 #[derive(Clone, Copy)]
-pub struct Search {
-    pub found: bool,
-    pub tried: usize,
+pub struct Found {
     pub name: Name,
     pub before: usize,
-    pub first: usize,
-    pub second: usize,
+    pub pair: Option<(u16, u16)>,
+    ghost within: { before ≤ 64 },
 }
 
-pub fn begin() -> Search {
-    Search {
-        found: false,
-        tried: 0,
-        name: names::empty(),
-        before: 0,
-        first: 0,
-        second: 0,
-    }
-}
-
-// Whether a search is over.
-pub fn is_over(s: Search) -> bool {
-    s.found || MAX_TRIED <= s.tried
-}
-
-pub fn one_more(n: usize) -> usize {
-    if MAX_TRIED <= n {
-        return MAX_TRIED;
-    }
-    n + 1
-}
-
-// A search after one more name.
-fn after(s: Search, name: Name, found: bool) -> Search {
-    Search {
-        found,
-        tried: one_more(s.tried),
-        name,
-        before: 0,
-        first: 0,
-        second: 0,
-    }
-}
-
-// ---- a name whose last letter is silent
-
-// Whether a name is spoken, and the last rule applied has no phones.
-fn is_silent_at_end(image: &[u8], name: Name) -> bool
-    requires { valid image.now ≡ true }
-{
-    let mut phones = [0u8; 256];
-    let mut numbers = [0u16; 64];
-    let came = speaking::read(image, name, &mut phones, &mut numbers);
-    speaking::ends_silent(image, came, &numbers)
-}
-
-fn try_silent(image: &[u8], s: Search, name: Name) -> Search
-    requires { valid image.now ≡ true }
-{
-    after(s, name, is_silent_at_end(image, name))
-}
-
-// A silent rule at the end of a name: after the target of each rule in turn, then alone.
-fn silent_rule(image: &[u8], s: Search, p: usize) -> Search
-    requires { valid image.now ≡ true }
-{
-    let x = literal_rules::literal_at(image, p);
-    let rule = x.rule;
-    if rule.phone_len != 0 || !names::can_end(rule) {
-        return s;
-    }
-    let n = ruleset::count(image);
-    let mut at = s;
-    let mut k: usize = 0;
-    while k < n {
-        if is_over(at) {
-            return at;
+impl Found {
+    fn new(name: Name) -> Found {
+        Found {
+            name,
+            before: 0,
+            pair: None,
         }
-        at = try_silent(image, at, names::ending(ruleset::rule_at(image, k), rule));
-        k += 1;
     }
-    if is_over(at) {
-        return at;
-    }
-    try_silent(image, at, names::ending_alone(rule))
 }
 
-pub fn silent(image: &[u8]) -> Search
-    requires { valid image.now ≡ true }
-{
-    let n = literal_rules::count(image);
-    let mut at = begin();
-    let mut k: usize = 0;
-    while k < n {
-        if is_over(at) {
-            return at;
+// How many names were tried in vain.
+#[derive(Clone, Copy)]
+pub struct Tried(pub usize);
+
+impl Tried {
+    fn one_more(&mut self) {
+        self.0 = self.0.saturating_add(1);
+    }
+
+    // Whether no more names are tried.
+    fn is_over(&self) -> bool {
+        MAX_TRIED <= self.0
+    }
+}
+
+// How a line ends where nothing served; names tried in vain leave open whether the ruleset has one.
+impl fmt::Display for Tried {
+    fn fmt<W: fmt::Write>(&self, f: &mut fmt::Formatter<W>) -> fmt::Result {
+        match self.0 {
+            0 => write!(f, "none in this ruleset"),
+            n => write!(f, "none found, names tried: {n}"),
         }
-        at = silent_rule(image, at, k);
-        k += 1;
-    }
-    at
-}
-
-// ---- a name where two rules fit
-
-// Whether a name is spoken and its reading stops after its first `before` letters.
-fn is_reached(image: &[u8], name: Name, before: usize) -> bool
-    requires { valid image.now ≡ true }
-{
-    let mut phones = [0u8; 256];
-    let mut numbers = [0u16; 64];
-    let came = speaking::read(image, name, &mut phones, &mut numbers);
-    speaking::applied_after(image, came, &numbers, before) != 0
-}
-
-fn fit_together(image: &[u8], p: usize, q: usize, name: Name, before: usize) -> bool
-    requires { valid image.now ≡ true }
-{
-    let letters = name.letters;
-    ruleset::both_fit(image, p, q, names::spelling(&letters, name.len), before)
-}
-
-// Literal rules of two rules, the second after the first and, where this is asked, longer.
-fn try_pair(image: &[u8], s: Search, first: Literal, second: Literal, longer: bool) -> Search
-    requires { valid image.now ≡ true }
-{
-    let p = first.place;
-    let q = second.place;
-    if q <= p {
-        return s;
-    }
-    let rule = first.rule;
-    let other = second.rule;
-    if longer && !names::is_longer(other, rule) {
-        return s;
-    }
-    let o = names::overlay(rule, other);
-    let name = o.name;
-    let before = o.before;
-    if !fit_together(image, p, q, name, before) {
-        return s;
-    }
-    Search {
-        found: is_reached(image, name, before),
-        tried: one_more(s.tried),
-        name,
-        before,
-        first: p,
-        second: q,
     }
 }
 
-// The literal rule at a place, and each after it.
-fn pairs_of(image: &[u8], s: Search, p: usize, longer: bool) -> Search
-    requires { valid image.now ≡ true }
-{
-    let n = literal_rules::count(image);
-    let first = literal_rules::literal_at(image, p);
-    let mut at = s;
-    let mut q = p;
-    while q < n {
-        if is_over(at) {
-            return at;
+impl<'a> Ruleset<'a> {
+    // ---- a name whose last letter is silent
+
+    fn try_silent(&self, tried: &mut Tried, name: Name) -> Option<Found> {
+        tried.one_more();
+        let came = self.read(&name);
+        came.ends_silent(*self).then_some(Found::new(name))
+    }
+
+    // A silent rule at the end of a name: after the target of each rule in turn, then alone.
+    fn silent_rule(&self, tried: &mut Tried, rule: &Rule) -> Option<Found> {
+        if rule.phone_len != 0 || !names::can_end(rule) {
+            return None;
         }
-        at = try_pair(
-            image,
-            at,
-            first,
-            literal_rules::literal_at(image, q),
-            longer,
-        );
-        q += 1;
-    }
-    at
-}
-
-// Each in turn.
-fn pairs(image: &[u8], longer: bool) -> Search
-    requires { valid image.now ≡ true }
-{
-    let n = literal_rules::count(image);
-    let mut at = begin();
-    let mut p: usize = 0;
-    while p < n {
-        if is_over(at) {
-            return at;
+        for k in 0..self.count() {
+            if tried.is_over() {
+                return None;
+            }
+            let before = Name::new().with_target(&self.rule_at(k));
+            let found = self.try_silent(tried, before.with_left(rule).with_target(rule));
+            if found.is_some() {
+                return found;
+            }
         }
-        at = pairs_of(image, at, p, longer);
-        p += 1;
-    }
-    at
-}
-
-// Two rules of which the second is longer serve best: there the first is not also the longest.
-pub fn two_fitting(image: &[u8]) -> Search
-    requires { valid image.now ≡ true }
-{
-    let s = pairs(image, true);
-    if s.found {
-        return s;
-    }
-    pairs(image, false)
-}
-
-// ---- a letter that no rule covers
-
-// Whether the name of one letter is refused for want of a rule.
-fn is_uncovered(image: &[u8], name: Name) -> bool
-    requires { valid image.now ≡ true }
-{
-    let mut phones = [0u8; 256];
-    let mut numbers = [0u16; 64];
-    let came = speaking::read(image, name, &mut phones, &mut numbers);
-    speaking::is_refused(came, 3, 1)
-}
-
-fn try_letter(image: &[u8], s: Search, x: u8) -> Search
-    requires { valid image.now ≡ true }
-{
-    let name = names::with_symbol(names::empty(), x);
-    after(s, name, is_uncovered(image, name))
-}
-
-// Once each letter was tried, there is none.
-pub fn uncovered(image: &[u8]) -> Search
-    requires { valid image.now ≡ true }
-{
-    let mut at = begin();
-    let mut x: u8 = 1;
-    while x <= MAX_LETTER {
-        at = try_letter(image, at, x);
-        if at.found {
-            return at;
+        if tried.is_over() {
+            return None;
         }
-        x += 1;
+        self.try_silent(tried, Name::new().with_left(rule).with_target(rule))
     }
-    begin()
+
+    pub fn silent_end(&self, tried: &mut Tried) -> Option<Found> {
+        for p in 0..self.literal_count() {
+            if tried.is_over() {
+                return None;
+            }
+            let literal = self.literal_at(p);
+            let found = self.silent_rule(tried, &literal.rule);
+            if found.is_some() {
+                return found;
+            }
+        }
+        None
+    }
+
+    // ---- a name where two rules fit
+
+    // Literal rules of two rules, the second after the first and, where this is asked, longer.
+    fn try_pair(
+        &self,
+        tried: &mut Tried,
+        first: Literal,
+        second: Literal,
+        longer: bool,
+    ) -> Option<Found>
+        requires { (first.place < count_of self.now.image.now) × (second.place < count_of self.now.image.now) }
+    {
+        if second.place <= first.place {
+            return None;
+        }
+        if longer && !names::is_longer(&second.rule, &first.rule) {
+            return None;
+        }
+        let Overlaid { name, before } = names::overlay(&first.rule, &second.rule);
+        let mut memory = [0; MAX_FRAME];
+        let frame = name.framed(&mut memory);
+        if !self.fits(first.place, frame, before + 1)
+            || !self.fits(second.place, frame, before + 1)
+        {
+            return None;
+        }
+        tried.one_more();
+        self.read(&name).applied_after(*self, before)?;
+        let pair = Some((self.number_at(first.place), self.number_at(second.place)));
+        Some(Found { name, before, pair })
+    }
+
+    // Each literal rule with each after it.
+    fn pairs(&self, tried: &mut Tried, longer: bool) -> Option<Found> {
+        let n = self.literal_count();
+        for p in 0..n {
+            let first = self.literal_at(p);
+            for q in p..n {
+                if tried.is_over() {
+                    return None;
+                }
+                let found = self.try_pair(tried, first, self.literal_at(q), longer);
+                if found.is_some() {
+                    return found;
+                }
+            }
+        }
+        None
+    }
+
+    // Two rules of which the second is longer serve best: there the first is not also the longest.
+    pub fn two_fitting(&self, tried: &mut Tried) -> Option<Found> {
+        let longer = self.pairs(tried, true);
+        if longer.is_some() {
+            return longer;
+        }
+        *tried = Tried(0);
+        self.pairs(tried, false)
+    }
+
+    // ---- a name where a rule is applied by the last letters of its classes
+
+    // The last literal rule of a rule with classes, in the shortest name in which it could fit.
+    fn try_last(&self, tried: &mut Tried, p: usize) -> Option<Found>
+        requires { p < total_of self.now.image.now }
+    {
+        if !self.is_last_literal(p) {
+            return None;
+        }
+        let Literal { rule, place } = self.literal_at(p);
+        let Overlaid { name, before } = names::overlay(&rule, &rule);
+        tried.one_more();
+        let applied = self.read(&name).applied_after(*self, before);
+        (applied == Some(self.number_at(place))).then_some(Found {
+            name,
+            before,
+            pair: None,
+        })
+    }
+
+    pub fn last_letters(&self, tried: &mut Tried) -> Option<Found> {
+        for p in 0..self.literal_count() {
+            if tried.is_over() {
+                return None;
+            }
+            let found = self.try_last(tried, p);
+            if found.is_some() {
+                return found;
+            }
+        }
+        None
+    }
+
+    // ---- a letter that no rule covers
+
+    // Each letter is tried, so where none is found there is none.
+    pub fn uncovered(&self) -> Option<Found> {
+        for x in 1..=MAX_LETTER {
+            let mut name = Name::new();
+            name.push(x);
+            if self.read(&name).spoken == Err(UNCOVERED) {
+                return Some(Found::new(name));
+            }
+        }
+        None
+    }
 }

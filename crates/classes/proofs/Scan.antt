@@ -1,18 +1,18 @@
--- A run of symbols as loops go over it: how many choices it has, counted to 513, what is left of an ordinal, whether a symbol is in it.
+-- A run of symbols as loops go over it: how many choices it has, counted to 513, and what is left of an ordinal.
 -- Assumes nothing.
 use Prim.Native.Nat.{ℕ, zero, suc, ◌+◌, ◌-◌, ◌*◌, ◌/◌, ◌≤◌, ◌<◌}
 use mathlib.Core.Path.{◌≡◌, refl, sym, ap, ◌∙◌}
 use mathlib.Core.List.{List, [], ◌∷◌}
-use mathlib.Core.Bool.{Bool, true, false, ◌&&◌, ◌||◌}
+use mathlib.Core.Bool.{Bool, true, false, ◌&&◌}
 use native.Mathlib.Nat.{div-one, div-div-eq-div-mul, mul_assoc, mul-one, one-mul}
 use native.Mathlib.Omega.{arith}
-use borrow.Author.Tests.{leb-true, leb-false, le-leb, lt-leb, eq-eqb, ne_eqb}
-use lib.Dec.{eqb, leb}
+use borrow.Author.Tests.{leb-true, leb-false, le-leb, lt-leb}
+use lib.Dec.{leb}
 use lib.ListN.{length, get_or, drop, drop_of_length-le}
 use lib.Seq.{drop-cons}
 use Rattle.numbers.specs.Numbers.{eight}
 use Rattle.rules.proofs.Cases.{by_bool}
-use Rattle.classes.specs.Classes.{Classes, is_in, letters, letter_set}
+use Rattle.classes.specs.Classes.{Classes, letters, letter_set}
 use Rattle.classes.specs.Counting.{capped}
 use Rattle.classes.specs.Expansion.{size}
 use Rattle.classes.specs.Masks.{mask_start, letters_in, classes_in, classes_shaped_from, classes_shaped}
@@ -89,27 +89,6 @@ module _ (k : Classes) (run : List ℕ) where
 
   pub rest_end : (q i : ℕ) → length run ≤ i → q / size k (drop i run) ≡ q
   rest_end q i h = ap (λ (s : List ℕ). q / size k s) (run_none i h) ∙ div-one q
-
--- whether a symbol is in it
-module _ (run : List ℕ) (c : ℕ) where
-  in_front : (i : ℕ) → i < length run → is_in c (drop i run) ≡ (eqb (get_or run i 0) c || is_in c (drop (i + 1) run))
-  in_front i h = ap (is_in c) (run_front (λ x. []) run i h)
-
-  pub in_here : (i : ℕ) → i < length run → get_or run i 0 ≡ c → is_in c (drop i run) ≡ true
-  in_here i h e = in_front i h ∙ ap (λ (b : Bool). b || is_in c (drop (i + 1) run)) (eq-eqb (get_or run i 0) c e)
-
-  pub in_later : (i : ℕ) → i < length run → (get_or run i 0 ≡ c → ⊥) → is_in c (drop i run) ≡ is_in c (drop (i + 1) run)
-  in_later i h e = in_front i h ∙ ap (λ (b : Bool). b || is_in c (drop (i + 1) run)) (ne_eqb (get_or run i 0) c e)
-
-  pub in_none : (i : ℕ) → length run ≤ i → is_in c (drop i run) ≡ false
-  in_none i h = ap (is_in c) (run_none (λ x. []) run i h)
-
--- whether it is in one of two
-pub in_left : (a b r : Bool) → r ≡ a → r ≡ true → true ≡ (a || b)
-in_left a b r e t = sym (ap (λ (x : Bool). x || b) (sym e ∙ t))
-
-pub in_right : (a b r s : Bool) → r ≡ a → r ≡ false → s ≡ b → s ≡ (a || b)
-in_right a b r s e t g = g ∙ sym (ap (λ (x : Bool). x || b) (sym e ∙ t))
 
 -- ---- classes from symbol c on
 

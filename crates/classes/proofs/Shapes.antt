@@ -5,7 +5,7 @@
 use Prim.Native.Nat.{ℕ, zero, suc, ◌+◌, ◌/◌, ◌%◌, ◌^◌, ◌≤◌, ◌<◌}
 use mathlib.Core.Path.{◌≡◌, refl, sym, ap, ap₂, ◌∙◌, subst}
 use mathlib.Core.List.{List, [], ◌∷◌, ◌++◌, append_assoc, append-nil}
-use mathlib.Core.Bool.{Bool, true, false, cond, ◌&&◌, and-true, and-false}
+use mathlib.Core.Bool.{Bool, true, false, ◌&&◌, and-true, and-false}
 use native.Mathlib.Omega.{arith}
 use borrow.Author.Tests.{leb-true, le-leb, lt-leb}
 use lib.Bits.{bit_or, or_lt}
@@ -13,10 +13,11 @@ use lib.Dec.{leb}
 use lib.ListN.{length, get_or, drop, drop_of_length-le}
 use lib.Pow.{pow-lt, pow_mono}
 use lib.Seq.{drop-cons}
+use Rattle.std.specs.Prelude.{Some, None}
 use Rattle.rules.proofs.Cases.{and_l, and_r, and_i}
 use Rattle.numbers.specs.Bits.{pos, bit}
 use Rattle.classes.specs.Classes.{is_in, ascending, letter_set, class_shape}
-use Rattle.classes.specs.Masks.{digits_from, letters_in, mask_with, mask_of}
+use Rattle.classes.specs.Masks.{digits_from, letters_in, mask_with, mask_of, class_mask}
 use Rattle.classes.proofs.Letters.{by_digit, digits_odd, digits_even, digits_none, letters_none, letters_more, mask_some, in_letters}
 
 -- ---- the letters of a mask
@@ -154,28 +155,21 @@ pub taken_begin : (s : List ℕ) → Taken s 1 0 0
 taken_begin s = record { few = omega arith; below = omega arith; whole = refl; rest = refl }
 
 -- what is told of letters that are no class, and of those that are one
-pub record Told (s : List ℕ) (r : ℕ) : Type 0 where
-  pub mask : r ≡ cond (class_shape s) (mask_of s) 0
-  pub shape : class_shape s ≡ leb 1 r
+told_none : (s : List ℕ) → class_shape s ≡ false → None ≡ class_mask s
+told_none s e = rw e
 
-pub told_none : (s : List ℕ) → class_shape s ≡ false → Told s 0
-told_none s e = record { mask = sym (ap (λ (b : Bool). cond b (mask_of s) 0) e); shape = e }
-
-pub told_class : (s : List ℕ) → class_shape s ≡ true → (r : ℕ) → r ≡ mask_of s → Told s r
-told_class s e r er = record {
-  mask = er ∙ sym (ap (λ (b : Bool). cond b (mask_of s) 0) e);
-  shape = e ∙ sym (le-leb 1 r (omega (arith, class_some s e)));
-}
+told_class : (s : List ℕ) → class_shape s ≡ true → (r : ℕ) → r ≡ mask_of s → Some r ≡ class_mask s
+told_class s e r er = rw e (ap Some er)
 
 shape_tail : (s : List ℕ) → 1 ≤ length s → length s ≤ 32 → class_shape s ≡ ascending 1 s
 unfolding class_shape
 shape_tail s h g = rw (le-leb 1 (length s) h, le-leb (length s) 32 g)
 
-pub none_short : (s : List ℕ) → length s < 1 → Told s 0
+pub none_short : (s : List ℕ) → length s < 1 → None ≡ class_mask s
 unfolding class_shape
 none_short s h = told_none s (rw (lt-leb 1 (length s) h))
 
-pub none_long : (s : List ℕ) → 32 < length s → Told s 0
+pub none_long : (s : List ℕ) → 32 < length s → None ≡ class_mask s
 unfolding class_shape
 none_long s h = told_none s (rw (lt-leb (length s) 32 h) (and-false (leb 1 (length s))))
 
@@ -184,13 +178,13 @@ module _ (s : List ℕ) (least : 1 ≤ length s) (most : length s ≤ 32) (low m
     front : drop i s ≡ c ∷ drop (suc i) s
     front = drop-cons s i 0 h ∙ ap (λ (x : ℕ). x ∷ drop (suc i) s) (sym ec)
 
-    refuse : ascending low (drop i s) ≡ false → Told s 0
+    refuse : ascending low (drop i s) ≡ false → None ≡ class_mask s
     refuse e = told_none s (shape_tail s least most ∙ (inv.rest ∙ e))
 
-    pub none_low : c < low → Told s 0
+    pub none_low : c < low → None ≡ class_mask s
     none_low u = refuse (ap (ascending low) front ∙ rw (lt-leb low c u))
 
-    pub none_high : 62 < c → Told s 0
+    pub none_high : 62 < c → None ≡ class_mask s
     none_high u = refuse (ap (ascending low) front ∙ rw (lt-leb c 62 u) (and-false (leb low c)))
 
     pub taken_next : low ≤ c → c ≤ 62 → (x : ℕ) → x ≡ bit_or mask (2 ^ c) → Taken s (c + 1) x (i + 1)
@@ -206,7 +200,7 @@ module _ (s : List ℕ) (least : 1 ≤ length s) (most : length s ≤ 32) (low m
           rest = inv.rest ∙ (ap (ascending low) front ∙ rw (le-leb low c l, le-leb c 62 u) (ap₂ (λ (y z : ℕ). ascending y (drop z s)) n m));
         }
 
-  pub taken_end : length s ≤ i → Told s mask
+  pub taken_end : length s ≤ i → Some mask ≡ class_mask s
   unfolding mask_with
   taken_end h =
       let e = drop_of_length-le s {i = i} h in

@@ -10,13 +10,13 @@ use borrow.Author.Tests.{eq-eqb, ne_eqb, lt-ltb, le-ltb, le-leb}
 use lib.Bits.{bit_or, or_zero_l}
 use lib.Dec.{eqb}
 use lib.ListN.{length, get_or}
+use Rattle.std.specs.Prelude.{Some, None}
 use Rattle.numbers.specs.Numbers.{eight}
 use Rattle.numbers.specs.Bits.{bit}
 use Rattle.rules.proofs.Cases.{by_bool}
 use Rattle.classes.specs.Classes.{is_in, is_class, letters, stands}
 use Rattle.classes.specs.Masks.{mask_start, letters_in, classes_in}
 use Rattle.classes.specs.Steps.{stepped}
-use Rattle.classes.specs.declared.Rest.TheVariants.{Differs, Next}
 use Rattle.classes.proofs.Letters.{in_high, in_letters, letters_none, letters_one}
 
 -- a symbol from 40 to 5F is a class
@@ -83,28 +83,28 @@ module _ (d : List ℕ) (c : ℕ) (h : c < 64) where
 
 -- a step over a symbol that is a letter, and over a class
 module _ (d : List ℕ) (c y q : ℕ) where
-  step_one : c < 64 → stepped (classes_in d) c y q ≡ cond (eqb c y) (Next q) Differs
+  step_one : c < 64 → stepped (classes_in d) c y q ≡ cond (eqb c y) (Some q) None
   step_one h =
       let e : q % 1 ≡ 0 = omega arith in
       let g : q / 1 ≡ q = omega arith in
-      ap (λ (l : List ℕ). cond (eqb (get_or l (q % length l) 0) y) (Next (q / length l)) Differs) (letter_alone d c h)
-      ∙ ap₂ (λ (u v : ℕ). cond (eqb (get_or (c ∷ []) u 0) y) (Next v) Differs) e g
+      ap (λ (l : List ℕ). cond (eqb (get_or l (q % length l) 0) y) (Some (q / length l)) None) (letter_alone d c h)
+      ∙ ap₂ (λ (u v : ℕ). cond (eqb (get_or (c ∷ []) u 0) y) (Some v) None) e g
 
-  pub step_same : c < 64 → c ≡ y → Next q ≡ stepped (classes_in d) c y q
-  step_same h e = sym (step_one h ∙ ap (λ (b : Bool). cond b (Next q) Differs) (eq-eqb c y e))
+  pub step_same : c < 64 → c ≡ y → Some q ≡ stepped (classes_in d) c y q
+  step_same h e = sym (step_one h ∙ ap (λ (b : Bool). cond b (Some q) None) (eq-eqb c y e))
 
-  pub step_other : c < 64 → (c ≡ y → ⊥) → Differs ≡ stepped (classes_in d) c y q
-  step_other h e = sym (step_one h ∙ ap (λ (b : Bool). cond b (Next q) Differs) (ne_eqb c y e))
+  pub step_other : c < 64 → (c ≡ y → ⊥) → None ≡ stepped (classes_in d) c y q
+  step_other h e = sym (step_one h ∙ ap (λ (b : Bool). cond b (Some q) None) (ne_eqb c y e))
 
   module _ (x n : ℕ) (e : letters_in x ≡ letters (classes_in d) c) (en : n ≡ length (letters_in x)) (b : Bool) (eb : b ≡ eqb (get_or (letters_in x) (q % n) 0) y) where
-    step_is : stepped (classes_in d) c y q ≡ cond b (Next (q / n)) Differs
+    step_is : stepped (classes_in d) c y q ≡ cond b (Some (q / n)) None
     step_is =
-        sym (ap (λ (t : Bool). cond t (Next (q / n)) Differs) eb
-        ∙ (ap (λ (m : ℕ). cond (eqb (get_or (letters_in x) (q % m) 0) y) (Next (q / m)) Differs) en
-        ∙ ap (λ (l : List ℕ). cond (eqb (get_or l (q % length l) 0) y) (Next (q / length l)) Differs) e))
+        sym (ap (λ (t : Bool). cond t (Some (q / n)) None) eb
+        ∙ (ap (λ (m : ℕ). cond (eqb (get_or (letters_in x) (q % m) 0) y) (Some (q / m)) None) en
+        ∙ ap (λ (l : List ℕ). cond (eqb (get_or l (q % length l) 0) y) (Some (q / length l)) None) e))
 
-    pub step_yes : b ≡ true → Next (q / n) ≡ stepped (classes_in d) c y q
-    step_yes t = sym (step_is ∙ ap (λ (u : Bool). cond u (Next (q / n)) Differs) t)
+    pub step_yes : b ≡ true → Some (q / n) ≡ stepped (classes_in d) c y q
+    step_yes t = sym (step_is ∙ ap (λ (u : Bool). cond u (Some (q / n)) None) t)
 
-    pub step_no : b ≡ false → Differs ≡ stepped (classes_in d) c y q
-    step_no t = sym (step_is ∙ ap (λ (u : Bool). cond u (Next (q / n)) Differs) t)
+    pub step_no : b ≡ false → None ≡ stepped (classes_in d) c y q
+    step_no t = sym (step_is ∙ ap (λ (u : Bool). cond u (Some (q / n)) None) t)

@@ -1,34 +1,19 @@
--- What functions store: bytes of a number one after the other, and a choice from its end.
+-- A choice as a function stores it, from its end.
 -- Assumes nothing.
-use Prim.Native.Nat.{ℕ, suc, ◌+◌, ◌-◌, ◌/◌, ◌%◌, ◌≤◌, ◌<◌}
+use Prim.Native.Nat.{ℕ, suc, ◌-◌, ◌/◌, ◌%◌, ◌≤◌, ◌<◌}
 use mathlib.Core.Path.{◌≡◌, sym, ap, ◌∙◌, subst}
 use mathlib.Core.List.{List, [], ◌∷◌, ◌++◌, append_assoc}
 use native.Mathlib.Nat.{div-one, div-div-eq-div-mul, mul_comm}
 use native.Mathlib.Omega.{arith}
 use lib.ListN.{length, get_or, take, drop, set, length-append, length-drop, drop_of_length-le, take-append-drop}
-use lib.Seq.{drop-cons, drop-drop, take-suc, set_at, length-take-le}
-use Rattle.numbers.specs.Numbers.{bytes8}
-use Rattle.rules.specs.Memory.{over, over_at}
-use Rattle.rules.proofs.Memory.{over_both, over_at_length}
+use lib.Seq.{drop-cons, take-suc, set_at, length-take-le}
+use Rattle.rules.specs.Memory.{over}
 use Rattle.classes.specs.Classes.{Classes, letters}
 use Rattle.classes.specs.Expansion.{size}
 use Rattle.classes.specs.Ordinal.{choice_at}
 use Rattle.classes.proofs.Ordinal.{choice_cons, choice_none, choice_long, size_at, size_drop}
 
--- ---- bytes
-
--- two runs, one after the other
-pub put_both : (at : ℕ) (a b d w z : List ℕ) (m : ℕ) → length a ≡ m → at + (m + length b) ≤ length d → w ≡ over_at at a d → z ≡ over_at (at + m) b w → z ≡ over_at at (a ++ b) d
-put_both at a b d w z m la room ew ez = ez ∙ (ap (over_at (at + m) b) ew ∙ over_both at (at + m) a b d (omega arith) (omega arith))
-
-pub put_long : (at : ℕ) (a d w : List ℕ) → at + length a ≤ length d → w ≡ over_at at a d → length w ≡ length d
-put_long at a d w h e = ap length e ∙ over_at_length a d at h
-
--- eight bytes in the whole
-pub put_eight : (at m : ℕ) (d : List ℕ) → over_at at (bytes8 m) d ≡ take at d ++ (bytes8 m ++ drop (at + 8) d)
-put_eight at m d = ap (λ (w : List ℕ). take at d ++ (bytes8 m ++ w)) (drop-drop 8 at d)
-
--- ---- a choice from its end: the symbols from i on are stored
+-- the symbols from i on are stored
 
 abbrev pub choice_from : Classes → List ℕ → ℕ → List ℕ → ℕ → List ℕ
 choice_from k run j out i = take i out ++ (choice_at k (drop i run) j ++ drop (length run) out)

@@ -1,12 +1,12 @@
 -- The classes of a ruleset as bytes: for each of the symbols 40 to 5F eight, high byte first, whose binary digit c is set where letter c is in
 -- the class; 0 is an undefined class.
 -- Assumes nothing.
-use Rattle.std.specs.Prelude.{ℕ, zero, suc, ◌+◌, ◌-◌, ◌*◌, ◌/◌, ◌%◌, ◌^◌, List, [], ◌∷◌, ◌++◌, Bool, true, cond, ◌&&◌, take, drop}
+use Rattle.std.specs.Prelude.{ℕ, zero, suc, ◌+◌, ◌-◌, ◌*◌, ◌/◌, ◌%◌, ◌^◌, List, [], ◌∷◌, ◌++◌, Bool, true, cond, ◌&&◌, take, drop, Option, Some, None}
 use Rattle.std.specs.Int.Bits.{bit_or}
 use Rattle.numbers.specs.Numbers.{eight, bytes8}
 use Rattle.numbers.specs.Bits.{pos}
 use Rattle.rules.specs.Limits.{first_class, class_count}
-use Rattle.classes.specs.Classes.{Classes, is_class, letter_set}
+use Rattle.classes.specs.Classes.{Classes, is_class, letter_set, class_shape}
 
 -- bytes of a class, and of all
 abbrev pub mask_size : ℕ
@@ -36,6 +36,10 @@ mask_with m (c ∷ l) = mask_with (bit_or m (2 ^ c)) l
 -- the mask of letters
 abbrev pub mask_of : List ℕ → ℕ
 mask_of l = mask_with 0 l
+
+-- the mask of letters that are those of a class
+abbrev pub class_mask : List ℕ → Option ℕ
+class_mask l = cond (class_shape l) (Some (mask_of l)) None
 
 -- the classes that such bytes hold
 unfoldable pub classes_in : List ℕ → Classes

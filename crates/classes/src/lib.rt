@@ -12,10 +12,3 @@ pub mod symbols;
 pub const MASK_SIZE: usize = 8;
 
 pub const MASKS_SIZE: usize = 256;
-
-// Whether a letter is the one that a symbol stands for at an ordinal; where it is, what is left of the ordinal for the symbols before.
-#[derive(Clone, Copy)]
-pub enum Rest {
-    Differs,
-    Next(usize),
-}

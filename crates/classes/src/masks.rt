@@ -1,8 +1,8 @@
 // Letters as a mask: digit c is set where letter c is one of them.
-ghost use Rattle.std.specs.Prelude.{cond, ◌∷◌, ◌≡◌, ◌<◌, ◌≤◌, eqb, leb, length, get_or, drop};
+ghost use Rattle.std.specs.Prelude.{◌∷◌, ◌≡◌, ◌<◌, ◌≤◌, eqb, length, get_or, drop};
 ghost use Rattle.std.specs.Int.Count.{ones_in};
-ghost use Rattle.classes.specs.Classes.{letter_set, class_shape};
-ghost use Rattle.classes.specs.Masks.{letters_in, mask_of};
+ghost use Rattle.classes.specs.Classes.{letter_set};
+ghost use Rattle.classes.specs.Masks.{letters_in, class_mask};
 
 // How many letters a mask has.
 pub fn size_in(mask: u64) -> usize
@@ -41,10 +41,8 @@ pub fn letter_in(mask: u64, d: usize) -> u8
     ensures { result ≡ get_or (letters_in mask) d 0 }
 {
     let mut x = mask;
-    let mut i: usize = 0;
-    while i < d {
+    for _ in 0..d {
         x = x & (x - 1);
-        i += 1;
     }
     u64::trailing_zeros(x) as u8
 }
@@ -77,30 +75,27 @@ pub fn mask_shaped(mask: u64) -> bool
     size_in(mask) <= rules::MAX_CLASS
 }
 
-// The mask of letters: 0 where they are not those of a class.
-pub fn class_mask(letters: &[u8]) -> u64
-    ensures { (result ≡ cond (class_shape letters.now) (mask_of letters.now) 0) × (class_shape letters.now ≡ leb 1 result) }
+// The mask of letters, where they are those of a class.
+pub fn class_mask(letters: &[u8]) -> Option<u64>
+    ensures { result ≡ class_mask letters.now }
 {
     if letters.len() < 1 {
-        return 0;
+        return None;
     }
     if rules::MAX_CLASS < letters.len() {
-        return 0;
+        return None;
     }
     let mut mask: u64 = 0;
     let mut low: u8 = 1;
-    let mut i: usize = 0;
-    while i < letters.len() {
-        let c = letters[i];
+    for &c in letters {
         if c < low {
-            return 0;
+            return None;
         }
         if rules::MAX_LETTER < c {
-            return 0;
+            return None;
         }
         mask = numbers::with_bit(mask, numbers::wide64(c));
         low = c + 1;
-        i += 1;
     }
-    mask
+    Some(mask)
 }

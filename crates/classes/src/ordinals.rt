@@ -13,10 +13,8 @@ pub fn rest_of(masks: &[u8], run: &[u8], j: usize) -> usize
     ensures { result ≡ j / size (classes_in masks.now) run.now }
 {
     let mut q = j;
-    let mut i: usize = 0;
-    while i < run.len() {
-        q = rest_after(masks, run[i], q);
-        i += 1;
+    for &symbol in run {
+        q = rest_after(masks, symbol, q);
     }
     q
 }
@@ -27,9 +25,7 @@ pub fn put_choice(masks: &[u8], run: &[u8], j: usize, out: &mut [u8]) -> usize
     ensures { (result ≡ j / size (classes_in masks.now) run.now) × (out.new ≡ over (choice_at (classes_in masks.now) run.now j) out.old) }
 {
     let mut q = j;
-    let mut i = run.len();
-    while 0 < i {
-        i -= 1;
+    for i in (0..run.len()).rev() {
         out[i] = letter_round(masks, run[i], q);
         q = rest_after(masks, run[i], q);
     }

@@ -35,10 +35,8 @@ pub fn run_size(masks: &[u8], run: &[u8], from: usize) -> usize
     ensures { (result ≡ capped (from * size (classes_in masks.now) run.now)) × (result ≤ 513) }
 {
     let mut n = from;
-    let mut i: usize = 0;
-    while i < run.len() {
-        n = grown(masks, run[i], n);
-        i += 1;
+    for &symbol in run {
+        n = grown(masks, symbol, n);
     }
     n
 }
@@ -51,26 +49,9 @@ pub fn literal_count(masks: &[u8], left: &[u8], right: &[u8]) -> usize
     run_size(masks, right, run_size(masks, left, 1))
 }
 
-// Whether a symbol stands in a run.
-pub fn run_has(run: &[u8], symbol: u8) -> bool
-    ensures { result ≡ is_in symbol run.now }
-{
-    let mut i: usize = 0;
-    while i < run.len() {
-        if run[i] == symbol {
-            return true;
-        }
-        i += 1;
-    }
-    false
-}
-
 // Whether a symbol stands in one of two contexts.
 pub fn uses(left: &[u8], right: &[u8], symbol: u8) -> bool
     ensures { result ≡ (is_in symbol left.now || is_in symbol right.now) }
 {
-    if run_has(left, symbol) {
-        return true;
-    }
-    run_has(right, symbol)
+    left.contains(&symbol) || right.contains(&symbol)
 }

@@ -4,7 +4,6 @@ ghost use Rattle.classes.specs.Classes.{letters, stands};
 ghost use Rattle.classes.specs.Masks.{masks_size, letters_in, classes_in};
 ghost use Rattle.classes.specs.Steps.{stepped};
 
-use crate::Rest;
 use crate::masks::{is_letter_in, letter_in, size_in};
 use crate::storing::mask_at;
 
@@ -71,21 +70,21 @@ pub fn rest_after(masks: &[u8], symbol: u8, q: usize) -> usize
     q / size_in(mask_of(masks, symbol))
 }
 
-// Whether a letter is the one that a symbol stands for at q, counted round; where it is, what is left of q for the symbols before.
-pub fn step(masks: &[u8], symbol: u8, letter: u8, q: usize) -> Rest
+// What is left of q for the symbols before, where a letter is the one that a symbol stands for at q, counted round.
+pub fn step(masks: &[u8], symbol: u8, letter: u8, q: usize) -> Option<usize>
     requires { (masks_size ≤ length masks.now) × (1 ≤ length (letters (classes_in masks.now) symbol)) }
     ensures { result ≡ stepped (classes_in masks.now) symbol letter q }
 {
     if symbol < rules::FIRST_CLASS {
         if symbol == letter {
-            return Rest::Next(q);
+            return Some(q);
         }
-        return Rest::Differs;
+        return None;
     }
     let mask = mask_of(masks, symbol);
     let n = size_in(mask);
     if is_letter_in(mask, q % n, letter) {
-        return Rest::Next(q / n);
+        return Some(q / n);
     }
-    Rest::Differs
+    None
 }

@@ -1,5 +1,6 @@
 -- The lines of answers, how long they are, and an edit's outcome with its answer.
 -- Assumes nothing.
+use Rattle.std.specs.Prelude.{Result, Ok, Err}
 use Prim.Native.Nat.{ℕ, ◌≤◌}
 use mathlib.Core.Path.{◌≡◌, refl, sym, ap, ◌∙◌}
 use mathlib.Core.List.{List, [], ◌∷◌, ◌++◌}
@@ -10,8 +11,6 @@ use Rattle.numbers.specs.Numbers.{bytes2, bytes4}
 use Rattle.rules.specs.Memory.{over}
 use Rattle.rules.specs.Refusals.{reply_of, refusal_number, refusal_place}
 use Rattle.rules.specs.declared.Refusal.{Refusal}
-use Rattle.rules.specs.declared.Answer.{Answer}
-use Rattle.rules.specs.declared.Answer.TheVariants.{Accepted, Refused}
 use Rattle.image.specs.Image.{Edited, outcome, last_of}
 use Rattle.lines.specs.Printed.{refused_body, refusal_line}
 use Rattle.lines.proofs.Printed.{length_printed}
@@ -29,11 +28,11 @@ Gives line len out out' = (len ≡ length line) × (out' ≡ over line out)
 pub within : (line : List ℕ) (len : ℕ) (out out' : List ℕ) → len ≡ length line → out' ≡ over line out → len ≤ length out'
 within line len out out' l h = omega (arith, l, ap length h, length-append line (drop (length line) out))
 
-module _ (a : Answer) (last len : ℕ) (out out' : List ℕ) where
-  pub gives_last : a ≡ Accepted → (n : ℕ) → n ≡ last → len ≡ 9 → out' ≡ over (last_line n) out → Gives (reply_line (reply_of a) last) len out out'
+module _ (a : Result (Unit {0}) Refusal) (last len : ℕ) (out out' : List ℕ) where
+  pub gives_last : a ≡ Ok tt → (n : ℕ) → n ≡ last → len ≡ 9 → out' ≡ over (last_line n) out → Gives (reply_line (reply_of a) last) len out out'
   gives_last p n e l h = rw (p, ← e) (l ∙ sym (length_last n), h)
 
-  pub gives_refusal : (x : Refusal) → a ≡ Refused x → len ≡ 15 → out' ≡ over (refusal_line x) out → Gives (reply_line (reply_of a) last) len out out'
+  pub gives_refusal : (x : Refusal) → a ≡ Err x → len ≡ 15 → out' ≡ over (refusal_line x) out → Gives (reply_line (reply_of a) last) len out out'
   gives_refusal x p l h = rw p (l ∙ sym (length_printed (refused_body (refusal_number x) (refusal_place x))), h)
 
 length_states : (l r : ℕ) → length (states_line l r) ≡ 13
@@ -61,7 +60,7 @@ module _ (b : Bool) (e : Effect) (xs out out' : List ℕ) (len : ℕ) where
       → Answered (sized_to b e xs) xs' len out out'
   answered_so p xs' x l h = rw p (record { left = x; many = l; bytes = h })
 
-pub answered_edit : (b : Bool) (e : Edited) (image out out' : List ℕ) (len : ℕ) → b ≡ true → (a : Answer) (image' : List ℕ)
+pub answered_edit : (b : Bool) (e : Edited) (image out out' : List ℕ) (len : ℕ) → b ≡ true → (a : Result (Unit {0}) Refusal) (image' : List ℕ)
     → outcome (reply_of a) image' ≡ e → len ≡ length (reply_line (reply_of a) (last_of image')) → out' ≡ over (reply_line (reply_of a) (last_of image')) out
     → Answered (sized_to b (ruled e) image) image' len out out'
 unfolding edit_line

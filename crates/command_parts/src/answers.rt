@@ -6,7 +6,7 @@ ghost use Rattle.rules.specs.Refusals.{refusal_number, refusal_place, reply_of};
 ghost use Rattle.command_parts.specs.Answers.{done_line, last_line, states_line, walk_refusal, malformed_line, reply_line};
 
 use frames::writer;
-use rules::{Answer, Refusal};
+use rules::Refusal;
 
 // 06 alone.
 pub fn done_line(out: &mut [u8]) -> usize
@@ -68,13 +68,13 @@ pub fn malformed(out: &mut [u8]) -> usize
 }
 
 // The answer of a call that changes the ruleset.
-pub fn reply_line(answer: Answer, image: &[u8], out: &mut [u8]) -> usize
+pub fn reply_line(answer: Result<(), Refusal>, image: &[u8], out: &mut [u8]) -> usize
     requires { (image_size ≤ length image.now) × (15 ≤ length out.old) }
     ensures len { result ≡ length (reply_line (reply_of answer) (last_of image.now)) }
     ensures bytes { out.new ≡ over (reply_line (reply_of answer) (last_of image.now)) out.old }
 {
     match answer {
-        Answer::Accepted => last_line(numbers::wide16(image::last_issued(image)), out),
-        Answer::Refused(x) => lines::refusal_line(x, out),
+        Ok(()) => last_line(numbers::wide16(image::last_issued(image)), out),
+        Err(x) => lines::refusal_line(x, out),
     }
 }

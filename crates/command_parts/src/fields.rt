@@ -41,5 +41,5 @@ pub fn add_sized(f: &[u8]) -> bool
 pub fn lent(asked: usize, there: usize) -> usize
     ensures { (result ≡ lent_of asked there) × ((result ≤ asked) × (result ≤ there)) }
 {
-    if asked < there { asked } else { there }
+    asked.min(there)
 }

@@ -97,10 +97,8 @@ fn put_sets(out: &mut [u8], w: Writer, sets: &[u64]) -> Writer
     ensures sent { Sent (eights sets.now) (output w out.old) (output result out.new) }
 {
     let mut next = w;
-    let mut k: usize = 0;
-    while k < sets.len() {
-        next = put_set(&mut *out, next, sets[k]);
-        k += 1;
+    for &set in sets {
+        next = put_set(&mut *out, next, set);
     }
     next
 }
@@ -176,8 +174,7 @@ pub fn show_contested(f: &[u8], contested: u8, out: &mut [u8]) -> usize
     if f.len() != 1 {
         return answers::malformed(out);
     }
-    let bytes = [contested];
-    bytes_line(&bytes, out)
+    bytes_line(&[contested], out)
 }
 
 // 0A and an edit count (4).

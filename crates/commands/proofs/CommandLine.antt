@@ -3,9 +3,10 @@
 use Prim.Native.Nat.{ℕ, ◌-◌, ◌≤◌, ◌<◌}
 use mathlib.Core.Path.{◌≡◌, sym, ap, ◌∙◌}
 use mathlib.Core.List.{List, []}
-use mathlib.Core.Bool.{Bool, true, false, cond}
+use mathlib.Core.Bool.{Bool, cond}
 use native.Mathlib.Omega.{arith}
 use borrow.Author.Tests.{le-leb, lt-leb}
+use Rattle.std.specs.Prelude.{Some, None}
 use lib.ListN.{length, take, drop}
 use lib.Seq.{take_all, take-append-le}
 use Rattle.rules.specs.Memory.{over}
@@ -15,21 +16,17 @@ use Rattle.frames.proofs.Lines.{sound_was}
 use Rattle.frames.proofs.Report.{Found, found, not_found, decoded_sound}
 use Rattle.commands.specs.Monitor.{command_in}
 
-module _ (text : List ℕ) (line : Line) (xs z : List ℕ)
-    (e : line ≡ report (length text) (sound_line (drop 0 text)))
+module _ (text xs z : List ℕ)
     (h : z ≡ over (take (length xs) (decoded (drop 0 text))) xs) (n : length z ≡ length xs) where
-  pub none_unsound : line.sound ≡ false → [] ≡ command_in (length xs) (sound_line (drop 0 text))
-  none_unsound s = sym (ap (command_in (length xs)) (not_found text 0 line e s))
+  pub none_unsound : None ≡ report (length text) (sound_line (drop 0 text)) → [] ≡ command_in (length xs) (sound_line (drop 0 text))
+  none_unsound e = sym (ap (command_in (length xs)) (not_found text 0 e))
 
-  module _ (s : line.sound ≡ true) where
+  module _ (line : Line) (e : Some line ≡ report (length text) (sound_line (drop 0 text))) where
     g : Found text 0 line
-    g = found text 0 line e s
+    g = found text 0 line e
 
-    some : 2 ≤ length g.f
-    some = (sound_was (drop 0 text) g.f g.rest g.is).two
-
-    pub not_none : line.len ≡ 0 → ⊥
-    not_none l = omega (arith, some, g.many)
+    pub some : 2 ≤ line.len
+    some = omega (arith, (sound_was (drop 0 text) g.f g.rest g.is).two, g.many)
 
     pub none_long : length z < line.len → [] ≡ command_in (length xs) (sound_line (drop 0 text))
     none_long l =

@@ -1,17 +1,15 @@
 -- What tables and names are answered with.
 -- Assumes nothing.
+use Rattle.std.specs.Prelude.{Result, Ok, Err}
 use Prim.Native.Nat.{ℕ}
 use mathlib.Core.Path.{◌≡◌, refl, sym, ◌∙◌, subst}
 use mathlib.Core.List.{List}
 use mathlib.Core.Bool.{Bool, true}
 use Rattle.rules.specs.Memory.{over}
 use Rattle.rules.specs.Refusals.{Reply, reply_of, refusal_number, refusal_place}
-use Rattle.rules.specs.declared.Refusal.{Refusal}
-use Rattle.rules.specs.declared.Answer.{Answer}
-use Rattle.rules.specs.declared.Answer.TheVariants.{Accepted, Refused}
 use Rattle.speech.specs.Speech.{Told, told_of, Said, saying}
-use Rattle.speech.specs.declared.Speech.{Speech}
-use Rattle.speech.specs.declared.Speech.TheVariants as speeches
+use Rattle.speech.specs.declared.Spoken.{Spoken}
+use Rattle.rules.specs.declared.Refusal.{Refusal}
 use Rattle.tables.specs.Words.{left_count, right_count, Built, building}
 use Rattle.tables.specs.Walk.{Walked}
 use Rattle.lines.specs.Printed.{refused_body, printed, refusal_line}
@@ -21,12 +19,12 @@ use Rattle.command_parts.specs.Answers.{contested_after, states_line, walk_refus
 use Rattle.commands.specs.Lent.{build_line, build_effects, plain_line, plain_effect, walk_line, walk_effect}
 use Rattle.command_parts.proofs.Replies.{Gives, gives_counts, length_walk_refusal}
 
-module _ (a : Answer) (words : List ℕ) (len : ℕ) (out out' : List ℕ) where
-  pub gives_states : a ≡ Accepted → (l r : ℕ) → l ≡ left_count words → r ≡ right_count words → len ≡ 13 → out' ≡ over (states_line l r) out
+module _ (a : Result (Unit {0}) Refusal) (words : List ℕ) (len : ℕ) (out out' : List ℕ) where
+  pub gives_states : a ≡ Ok tt → (l r : ℕ) → l ≡ left_count words → r ≡ right_count words → len ≡ 13 → out' ≡ over (states_line l r) out
       → Gives (build_line (reply_of a) words) len out out'
   gives_states p l r el er n h = rw (p, ← el, ← er) (gives_counts l r len out out' n h)
 
-  pub gives_unbuilt : (x : Refusal) → a ≡ Refused x → len ≡ 15 → out' ≡ over (refusal_line x) out → Gives (build_line (reply_of a) words) len out out'
+  pub gives_unbuilt : (x : Refusal) → a ≡ Err x → len ≡ 15 → out' ≡ over (refusal_line x) out → Gives (build_line (reply_of a) words) len out out'
   gives_unbuilt x p l h = rw p (l ∙ sym (length_printed (refused_body (refusal_number x) (refusal_place x))), h)
 
 pub both_built : (b : Bool) (xs ys out out' : List ℕ) (len : ℕ) → b ≡ true → (xs' ys' : List ℕ) (w : Built) (a : Reply) → building a xs' ys' ≡ w
@@ -43,13 +41,13 @@ module _ (b : Bool) (xs ys : List ℕ) (k : ℕ) (out out' : List ℕ) (len : �
   speech_walked w steps q g = rw (p, ← q) (record { said = refl; numbered = refl; counted = h; many = g.0; bytes = g.1 })
 
 -- a walk that is refused is answered by 08, any other as it is told
-module _ (speech : Speech) (steps : ℕ) (phones numbers : List ℕ) (len : ℕ) (out out' : List ℕ) where
-  pub walk_refused : (x : Refusal) → speech ≡ speeches.Refused x → len ≡ 19 → out' ≡ over (walk_refusal steps (refusal_number x) (refusal_place x)) out
+module _ (speech : Result Spoken Refusal) (steps : ℕ) (phones numbers : List ℕ) (len : ℕ) (out out' : List ℕ) where
+  pub walk_refused : (x : Refusal) → speech ≡ Err x → len ≡ 19 → out' ≡ over (walk_refusal steps (refusal_number x) (refusal_place x)) out
       → Gives (walk_line (told_of speech) steps phones numbers) len out out'
   walk_refused x p l h = rw p (l ∙ sym (length_walk_refusal steps (refusal_number x) (refusal_place x)), h)
 
-  pub walk_spoken : (p n c : ℕ) → speech ≡ speeches.Spoken p n c → Gives (printed (told_body (told_of speech) steps phones numbers)) len out out'
+  pub walk_spoken : (x : Spoken) → speech ≡ Ok x → Gives (printed (told_body (told_of speech) steps phones numbers)) len out out'
       → Gives (walk_line (told_of speech) steps phones numbers) len out out'
-  walk_spoken p n c e g =
-      subst (λ (s : Speech). Gives (printed (told_body (told_of s) steps phones numbers)) len out out' → Gives (walk_line (told_of s) steps phones numbers) len out out')
+  walk_spoken x e g =
+      subst (λ (s : Result Spoken Refusal). Gives (printed (told_body (told_of s) steps phones numbers)) len out out' → Gives (walk_line (told_of s) steps phones numbers) len out out')
       (sym e) (λ h. h) g

@@ -1,5 +1,6 @@
 -- The rule file written into a part of the lent bytes: what is answered, and all of the bytes after it.
 -- Assumes nothing.
+use Rattle.std.specs.Prelude.{Result, Ok, Err}
 use Prim.Native.Nat.{ℕ, zero, suc, ◌≤◌}
 use mathlib.Core.Path.{◌≡◌, refl, sym, ap, ◌∙◌, subst}
 use mathlib.Core.Bool.{Bool, true, false, cond}
@@ -15,8 +16,6 @@ use Rattle.rules.specs.declared.Refusal.{Refusal}
 use Rattle.image.specs.Image.{valid}
 use Rattle.file_format.specs.File.{encode}
 use Rattle.file.specs.Loading.{Filed, filing, filed, ruleset_in}
-use Rattle.rules.specs.declared.Written.{Written}
-use Rattle.rules.specs.declared.Written.TheVariants.{Bytes, Refused}
 use Rattle.lines.specs.Printed.{refused_body, refusal_line}
 use Rattle.lines.proofs.Printed.{length_printed}
 use Rattle.file_format.specs.Layout.{longest_file}
@@ -79,20 +78,20 @@ module _ (n : ℕ) (image : List ℕ) where
   unfolding filed
   says_wrote k e = tested_wrote (valid image) (leb (length text) (length (replicate n 0))) text (replicate n 0) k e
 
-  module _ (w : Written) (out x : List ℕ) (h : n ≤ length out) (e : filing (report_of w) x ≡ filed_in n image out) where
+  module _ (w : Result ℕ Refusal) (out x : List ℕ) (h : n ≤ length out) (e : filing (report_of w) x ≡ filed_in n image out) where
     said : report_of w ≡ says
     said = ap (λ (b : Filed). b.report) (e ∙ filed-in out h)
 
     kept : x ≡ left says text out
     kept = ap (λ (b : Filed). b.bytes) (e ∙ filed-in out h)
 
-    pub gives_file : (k : ℕ) → w ≡ Bytes k → Gives (file_line n image) k out x
+    pub gives_file : (k : ℕ) → w ≡ Ok k → Gives (file_line n image) k out x
     unfolding file_line
     gives_file k p =
         let s : says ≡ wrote k = sym said ∙ ap report_of p in
         subst (λ (r : Report). Gives (report_line r text) k out x) (sym s) (says_wrote k s, kept ∙ ap (λ (r : Report). left r text out) s)
 
-    pub gives_unwritten : (y : Refusal) (len : ℕ) (out' : List ℕ) → w ≡ Refused y → len ≡ 15 → out' ≡ over (refusal_line y) x
+    pub gives_unwritten : (y : Refusal) (len : ℕ) (out' : List ℕ) → w ≡ Err y → len ≡ 15 → out' ≡ over (refusal_line y) x
         → Gives (file_line n image) len out out'
     unfolding file_line
     gives_unwritten y len out' p l b =

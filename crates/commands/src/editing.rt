@@ -11,10 +11,10 @@ ghost use Rattle.command_parts.specs.Fields.{AddSized, added_rule};
 ghost use Rattle.command_parts.specs.Memory.{renumbered, forced, forced_by, recounted, recounted_by, cleared_by};
 
 use command_parts::{answers, fields};
-use rules::Answer;
+use rules::Refusal;
 
 // 10, p (2), four lengths, their bytes.
-pub fn add(f: &[u8], image: &mut [u8]) -> Answer
+pub fn add(f: &[u8], image: &mut [u8]) -> Result<(), Refusal>
     requires { AddSized f.now }
     ensures { outcome (reply_of result) image.new ≡ edited image.old (Edit.Add (added_rule f.now) (two 1 f.now)) }
 {
@@ -23,7 +23,7 @@ pub fn add(f: &[u8], image: &mut [u8]) -> Answer
 }
 
 // 11, number (2).
-pub fn drop(f: &[u8], image: &mut [u8]) -> Answer
+pub fn drop(f: &[u8], image: &mut [u8]) -> Result<(), Refusal>
     requires { length f.now ≡ 3 }
     ensures { outcome (reply_of result) image.new ≡ edited image.old (Edit.Drop (two 1 f.now)) }
 {
@@ -31,7 +31,7 @@ pub fn drop(f: &[u8], image: &mut [u8]) -> Answer
 }
 
 // 12, number (2), p (2).
-pub fn relocate(f: &[u8], image: &mut [u8]) -> Answer
+pub fn relocate(f: &[u8], image: &mut [u8]) -> Result<(), Refusal>
     requires { length f.now ≡ 5 }
     ensures { outcome (reply_of result) image.new ≡ edited image.old (Edit.Move (two 1 f.now) (two 3 f.now)) }
 {
@@ -39,7 +39,7 @@ pub fn relocate(f: &[u8], image: &mut [u8]) -> Answer
 }
 
 // 28, symbol (1), letters to the end.
-pub fn set_class(f: &[u8], image: &mut [u8]) -> Answer
+pub fn set_class(f: &[u8], image: &mut [u8]) -> Result<(), Refusal>
     requires { 2 ≤ length f.now }
     ensures { outcome (reply_of result) image.new ≡ edited image.old (Edit.SetClass (get_or f.now 1 0) (drop 2 f.now)) }
 {
@@ -157,6 +157,6 @@ pub fn clear_command(f: &[u8], image: &mut [u8], out: &mut [u8]) -> usize
     if f.len() != 1 {
         return answers::malformed(out);
     }
-    image::clear(&mut *image);
+    let _ = image::clear(&mut *image); // the lent memory is long enough: it is accepted
     answers::done_line(out)
 }

@@ -11,14 +11,14 @@ ghost use Rattle.commands.specs.Filing.{loaded_from, loaded_by, filed_in, write_
 
 use crate::speaking;
 use command_parts::{answers, fields};
-use rules::{Answer, Refusal, Written};
+use rules::Refusal;
 
 // The bytes of rules.hex become the ruleset; over 32,768 of them are refused.
-pub fn load(file: &[u8], image: &mut [u8]) -> Answer
+pub fn load(file: &[u8], image: &mut [u8]) -> Result<(), Refusal>
     ensures { outcome (reply_of result) image.new ≡ loaded_from file.now image.old }
 {
     if file_format::MAX_INPUT < file.len() {
-        return Answer::Refused(Refusal::BadLine(file_format::MAX_INPUT));
+        return Err(Refusal::BadLine(file_format::MAX_INPUT));
     }
     file::read_file(file, image)
 }
@@ -36,7 +36,7 @@ pub fn read_command(f: &[u8], file: &[u8], image: &mut [u8], out: &mut [u8]) -> 
 }
 
 // The file into the first so many bytes.
-fn write_in(image: &[u8], out: &mut [u8], n: usize) -> Written
+fn write_in(image: &[u8], out: &mut [u8], n: usize) -> Result<usize, Refusal>
     requires { n ≤ length out.old }
     ensures { filing (report_of result) out.new ≡ filed_in n image.now out.old }
 {
@@ -55,7 +55,7 @@ pub fn write_command(f: &[u8], image: &[u8], out: &mut [u8]) -> usize
     let n = fields::lent(fields::four_at(f, 1), crate::LONGEST_FILE);
     let written = write_in(image, &mut *out, n);
     match written {
-        Written::Bytes(k) => k,
-        Written::Refused(x) => lines::refusal_line(x, out),
+        Ok(k) => k,
+        Err(x) => lines::refusal_line(x, out),
     }
 }

@@ -24,15 +24,11 @@ pub fn command_in(text: &[u8], frame: &mut [u8]) -> usize
     ensures within { result ≤ length frame.new }
     ensures bytes { frame.new ≡ over (take (length frame.old) (decoded text.now)) frame.old }
 {
-    let line = frames::read_line(text, 0, &mut *frame);
+    let Some(line) = frames::read_line(text, 0, &mut *frame) else {
+        return 0;
+    };
     let n = line.len;
-    if !line.sound {
-        return 0;
-    }
     if frame.len() < n {
-        return 0;
-    }
-    if n == 0 {
         return 0;
     }
     n - 1
@@ -42,10 +38,7 @@ pub fn command_in(text: &[u8], frame: &mut [u8]) -> usize
 pub fn asks_for_file(f: &[u8]) -> bool
     ensures { result ≡ reads_file f.now }
 {
-    if f.len() != 1 {
-        return false;
-    }
-    f[0] == 0x13
+    f.len() == 1 && f[0] == 0x13
 }
 
 // The answer to a command, at the front of `out`, and its length; `file` holds the bytes of rules.hex where the command reads it, `list` is the
@@ -66,11 +59,10 @@ pub fn answer(
     ensures replied { Replied (answer_to f.now file.now list.now (holding image.old words.old sets.old phones.old numbers.old contested.old)) (holding image.new words.new sets.new phones.new numbers.new contested.new) result out.old out.new }
     ensures within { result ≤ length out.new }
 {
-    if f.len() == 0 {
+    let [kind, ..] = f else {
         return answers::malformed(out);
-    }
-    let kind = f[0];
-    match kind {
+    };
+    match *kind {
         0x10 => editing::add_command(f, image, out),
         0x11 => editing::drop_command(f, image, out),
         0x12 => editing::move_command(f, image, out),

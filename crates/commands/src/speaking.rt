@@ -12,12 +12,18 @@ ghost use Rattle.command_parts.specs.Fields.{four, lent_of};
 ghost use Rattle.commands.specs.Lent.{built_in, plain_in, walk_in, built_by, plain_line, plain_by, walk_line, walked_by};
 
 use command_parts::{answers, fields};
-use rules::Answer;
-use speech::Speech;
+use rules::Refusal;
+use speech::Spoken;
 use walk::WalkAnswer;
 
 // Tables built into the first so many words and set words.
-fn build_in(image: &[u8], words: &mut [u16], n: usize, sets: &mut [u64], m: usize) -> Answer
+fn build_in(
+    image: &[u8],
+    words: &mut [u16],
+    n: usize,
+    sets: &mut [u64],
+    m: usize,
+) -> Result<(), Refusal>
     requires { (n ≤ length words.old) × (m ≤ length sets.old) }
     ensures { building (reply_of result) words.new sets.new ≡ built_in n m image.now words.old sets.old }
 {
@@ -25,7 +31,12 @@ fn build_in(image: &[u8], words: &mut [u16], n: usize, sets: &mut [u64], m: usiz
 }
 
 // 15, lent words (4), lent set words (4).
-pub fn build_lent(f: &[u8], image: &[u8], words: &mut [u16], sets: &mut [u64]) -> Answer
+pub fn build_lent(
+    f: &[u8],
+    image: &[u8],
+    words: &mut [u16],
+    sets: &mut [u64],
+) -> Result<(), Refusal>
     requires { length f.now ≡ 9 }
     ensures { building (reply_of result) words.new sets.new ≡ built_in (lent_of (four 1 f.now) (length words.old)) (lent_of (four 5 f.now) (length sets.old)) image.now words.old sets.old }
 {
@@ -50,12 +61,12 @@ pub fn build_command(
     }
     let answer = build_lent(f, image, &mut *words, sets);
     match answer {
-        Answer::Accepted => {
+        Ok(()) => {
             let l = compiled::state_count(words, tables::LEFT_COUNT);
             let r = compiled::state_count(words, tables::RIGHT_COUNT);
             answers::states_line(l, r, out)
         },
-        Answer::Refused(x) => lines::refusal_line(x, out),
+        Err(x) => lines::refusal_line(x, out),
     }
 }
 
@@ -68,7 +79,7 @@ fn plain_in(
     n: usize,
     numbers: &mut [u16],
     m: usize,
-) -> Speech
+) -> Result<Spoken, Refusal>
     requires { (n ≤ length phones.old) × (m ≤ length numbers.old) }
     ensures { saying (told_of result) phones.new numbers.new ≡ plain_in n m image.now list.now name.now phones.old numbers.old }
 {
@@ -82,7 +93,7 @@ pub fn plain_lent(
     list: &[u32],
     phones: &mut [u8],
     numbers: &mut [u16],
-) -> Speech
+) -> Result<Spoken, Refusal>
     requires { 5 ≤ length f.now }
     ensures said { saying (told_of result) phones.new numbers.new ≡ plain_in (lent_of (two 1 f.now) (length phones.old)) (lent_of (two 3 f.now) (length numbers.old)) image.now list.now (drop 5 f.now) phones.old numbers.old }
     ensures within { ToldWithin (told_of result) (length phones.old) (length numbers.old) }
@@ -150,22 +161,23 @@ pub fn walk_lent<'a>(
 }
 
 // The contested letters of the last name spoken, after a speech: no more than the numbers given, so that a byte holds them.
-fn contested_after(speech: Speech, before: u8) -> u8
+fn contested_after(speech: Result<Spoken, Refusal>, before: u8) -> u8
     requires { ToldWithin (told_of speech) 256 64 }
     ensures { result ≡ contested_after (told_of speech) before }
 {
     match speech {
-        Speech::Spoken {
-            phones: _,
-            numbers: _,
-            contested: c,
-        } => c as u8,
-        Speech::Refused(_) => before,
+        Ok(said) => said.contested as u8,
+        Err(_) => before,
     }
 }
 
 // The answer of a plain reading: 04 with no steps, or 05.
-fn plain_line(speech: Speech, phones: &[u8], numbers: &[u16], out: &mut [u8]) -> usize
+fn plain_line(
+    speech: Result<Spoken, Refusal>,
+    phones: &[u8],
+    numbers: &[u16],
+    out: &mut [u8],
+) -> usize
     requires { (length phones.now ≤ 256) × ((length numbers.now ≤ 64) × ((longest_line ≤ length out.old) × ToldWithin (told_of speech) (length phones.now) (length numbers.now))) }
     ensures len { result ≡ length (plain_line (told_of speech) phones.now numbers.now) }
     ensures bytes { out.new ≡ over (plain_line (told_of speech) phones.now numbers.now) out.old }
@@ -201,8 +213,7 @@ fn walk_line(answer: WalkAnswer, phones: &[u8], numbers: &[u16], out: &mut [u8])
     ensures len { result ≡ length (walk_line (told_of answer.speech) answer.steps phones.now numbers.now) }
     ensures bytes { out.new ≡ over (walk_line (told_of answer.speech) answer.steps phones.now numbers.now) out.old }
 {
-    let speech = answer.speech;
-    if let Speech::Refused(x) = speech {
+    if let Err(x) = answer.speech {
         return answers::walk_refusal(answer.steps, x, out);
     }
     answer_lines::answer_line(answer, phones, numbers, out)

@@ -1,13 +1,32 @@
 -- The number of marked rows, one row after another.
 -- Assumes nothing.
-use mathlib.Core.Path.{◌≡◌, refl, sym, ap, ◌∙◌}
+use mathlib.Core.Path.{◌≡◌, refl, ap}
 use Prim.Native.Nat.{ℕ, zero, suc, ◌+◌, ◌≤◌, ◌<◌}
 use native.Mathlib.Omega.{arith}
 use Rattle.automaton.specs.Bounds.{some}
+use mathlib.Core.Bool.{Bool, not, cond}
+use mathlib.Core.List.{List, [], ◌∷◌}
+use lib.ListN.{length, get_or, take}
+use lib.Dec.{eqb, eqb-suc-zero}
+use lib.Seq.{take-suc}
+use Rattle.std.specs.List.{count_by}
+use Rattle.std.proofs.lemmas.List.Sums.{sum_by-append}
 use Rattle.compaction.specs.Compaction.{marked}
 
-pub some_zero : (x : ℕ) → x ≡ 0 → 0 ≡ some x
-some_zero x e = ap some (sym e)
+one_some : (x : ℕ) → cond (not (eqb x 0)) 1 0 ≡ some x
+one_some zero = refl
+one_some (suc x) = ap (λ (b : Bool). cond (not b) 1 0) (eqb-suc-zero x)
+
+-- the marks of the first k rows that are set
+pub marked_count : (m : List ℕ) (k : ℕ) → k ≤ length m → count_by (λ (x : ℕ). not (eqb x 0)) (take k m) ≡ marked (λ x. get_or m x 0) k
+unfolding marked
+marked_count m zero h = refl
+marked_count m (suc k) h =
+    let a = marked_count m k (omega arith) in
+    let t = ap (count_by (λ (x : ℕ). not (eqb x 0))) (take-suc m k 0 h) in
+    let s = sum_by-append (λ (x : ℕ). cond (not (eqb x 0)) 1 0) (take k m) (get_or m k 0 ∷ []) in
+    let o = one_some (get_or m k 0) in
+    omega arith
 
 pub some_one : (x : ℕ) → 0 < x → some x ≡ 1
 some_one zero h = absurd (omega arith)
@@ -30,27 +49,3 @@ module _ (m : ℕ → ℕ) where
 
   pub marked_keep : (i k : ℕ) → 0 < m i → k ≡ marked m i → k + 1 ≡ marked m (i + 1)
   marked_keep i k h g = let y = more i 1 (some_one (m i) h) in omega arith
-
-  -- k of the first i rows are marked
-  pub record Counting (top k i : ℕ) : Type 0 where
-    pub within : i ≤ top + 1
-    pub most : k ≤ i
-    pub is : k ≡ marked m i
-
-  pub counting-begin : (top : ℕ) → Counting top 0 0
-  counting-begin top = record { within = omega arith; most = omega arith; is = marked_none }
-
-  pub counting-next : (top k i x : ℕ) → Counting top k i → i ≤ top → x ≡ some (m i) → Counting top (k + x) (i + 1)
-  counting-next top k i x a h e =
-      let y = more i x (sym e) in
-      let o : some (m i) ≤ 1 = at_most (m i) in
-      let g = a.is in
-      let l = a.most in
-      record { within = omega arith; most = omega arith; is = omega arith }
-    where
-      at_most : (x : ℕ) → some x ≤ 1
-      at_most zero = omega arith
-      at_most (suc x) = omega arith
-
-  pub counting_end : (top k i : ℕ) → Counting top k i → top < i → k ≡ marked m (suc top)
-  counting_end top k i a h = let w = a.within in let z : i ≡ suc top = omega arith in a.is ∙ ap (marked m) z

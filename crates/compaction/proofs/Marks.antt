@@ -12,7 +12,6 @@ use Rattle.automaton.proofs.Tests.{by_same}
 use Rattle.states.specs.States.{Written, Placing, Split, lower}
 use Rattle.states.proofs.Cells.{at_cell, cell_for, lower_below, lower_sorted, at_lower}
 use Rattle.states.proofs.Parts.{part_length, part_get}
-use Rattle.states.proofs.Rows.{written_next}
 use Rattle.compaction.specs.Compaction.{zero_of, SweepAsks, CellsAsk, CellsMarked, RowMarked, RowSpread, Spread}
 
 -- ---- the cells of a row one by one
@@ -157,12 +156,6 @@ module _ (ws m m' : List ℕ) (top i : ℕ) (s : Sound (rows_of ws) top) (p : 0 
             (λ q. let y = a.why x z l (let t : 0 < get_or m x 0 = omega arith in t) in (y.0, y.1, more y.0 y.2, y.3))
             (λ q. (i - 1, (let t : i - 1 ≤ top = omega arith in t), more (i - 1) q.1, q.2)) (r.other x);
       }
-
--- the marks of the first rows cleared, one cleared more
-pub clear_next : (m₀ m : List ℕ) (k : ℕ) → Written zero_of 0 k m₀ m → k < length m₀ → Written zero_of 0 (k + 1) m₀ (set m k 0)
-clear_next m₀ m k w h =
-    let e : 0 + k ≡ k = omega arith in
-    subst (λ (x : ℕ). Written zero_of 0 (k + 1) m₀ (set m x 0)) e (written_next zero_of 0 k m₀ m 0 w (omega arith) refl)
 
 pub asks_kept : (ws m m' : List ℕ) (top : ℕ) → SweepAsks ws m top → length m' ≡ length m → SweepAsks ws m' top
 asks_kept ws m m' top q e =

@@ -3,7 +3,6 @@
 
 ghost use Rattle.std.specs.Prelude.{◌≡◌, ℕ, suc, ◌+◌, ◌-◌, ◌<◌, ◌≤◌, length, get_or};
 ghost use Rattle.automaton.specs.Automaton.{key_of, val_of};
-ghost use Rattle.automaton.specs.Bounds.{some};
 ghost use Rattle.states.specs.States.{Written};
 ghost use Rattle.compaction.specs.Compaction.{zero_of, SweepAsks, CellsAsk, CellsMarked, RowMarked, RowSpread, Spread, marked, new_cell, moved_of, KeepAsks, Moved, RowKept, Swept};
 
@@ -12,11 +11,7 @@ pub fn clear(marks: &mut [u16], len: usize)
     requires { len ≤ length marks.old }
     ensures { Written zero_of 0 len marks.old marks.new }
 {
-    let mut k: usize = 0;
-    while k < len {
-        marks[k] = 0;
-        k += 1;
-    }
+    marks[..len].fill(0);
 }
 
 // Marks what the cells a to e lead to.
@@ -24,11 +19,8 @@ fn mark_cells(words: &[u32], marks: &mut [u16], a: usize, e: usize)
     requires { CellsAsk words.now marks.old a e }
     ensures { CellsMarked words.now a e marks.old marks.new }
 {
-    let mut k = a;
-    while k < e {
-        let x = states::val(words[k]);
-        marks[x] = 1;
-        k += 1;
+    for &cell in &words[a..e] {
+        marks[states::val(cell)] = 1;
     }
 }
 
@@ -63,21 +55,9 @@ pub fn mark(words: &[u32], marks: &mut [u16], top: usize)
     clear(marks, top + 1);
     marks[0] = 1;
     marks[top] = 1;
-    let mut i = top + 1;
-    while 0 < i {
-        spread_row(words, marks, top, i - 1);
-        i -= 1;
+    for i in (0..top + 1).rev() {
+        spread_row(words, marks, top, i);
     }
-}
-
-// 1 where x is a mark.
-fn one_if(x: u16) -> usize
-    ensures { result ≡ some x }
-{
-    if x == 0 {
-        return 0;
-    }
-    1
 }
 
 // How many of the rows to `top` are marked.
@@ -85,13 +65,7 @@ pub fn count_marks(marks: &[u16], top: usize) -> usize
     requires { top < length marks.now }
     ensures { result ≡ marked (λ x. get_or marks.now x 0) (suc top) }
 {
-    let mut k: usize = 0;
-    let mut i: usize = 0;
-    while i <= top {
-        k += one_if(marks[i]);
-        i += 1;
-    }
-    k
+    marks[..=top].iter().filter(|&&x| x != 0).count()
 }
 
 // A cell with its successor by its new number.
@@ -112,11 +86,8 @@ fn move_cells(words: &mut [u32], marks: &[u16], a: usize, b: usize, len: usize)
     requires { (b ≤ a) × (a + len ≤ length words.old) × ((j : ℕ) → j < len → key_of (get_or words.old (a + j) 0) < 64 → val_of (get_or words.old (a + j) 0) < length marks.now) }
     ensures { Written (moved_of marks.now words.old a) b len words.old words.new }
 {
-    let mut j: usize = 0;
-    while j < len {
-        let x = words[a + j];
-        words[b + j] = renumbered(marks, x);
-        j += 1;
+    for j in 0..len {
+        words[b + j] = renumbered(marks, words[a + j]);
     }
 }
 
@@ -151,10 +122,8 @@ pub fn compact(words: &mut [u32], marks: &mut [u16], top: usize) -> usize
     ensures { Swept words.old marks.old top words.new result }
 {
     let mut k: usize = 0;
-    let mut i: usize = 0;
-    while i <= top {
+    for i in 0..=top {
         k = keep_row(words, marks, i, k);
-        i += 1;
     }
     k - 1
 }

@@ -14,8 +14,7 @@ ghost use Rattle.tables.specs.Walk.{walk_through, walkedAs, walk_said};
 ghost use Rattle.walk.specs.Walked.{walked_of, compiled_with};
 ghost use Rattle.compiled.specs.Compiling.{compiled_of};
 
-use rules::{Answer, Refusal};
-use speech::Listed;
+use rules::Refusal;
 use walk::WalkAnswer;
 
 // The two lent tables, and their state counts.
@@ -108,16 +107,8 @@ pub fn speak_valid<'a>(
 {
     let judged = rules::judge_name(name);
     match judged {
-        Answer::Refused(x) => walk::at_once(x),
-        Answer::Accepted => speak_words(
-            words,
-            sets,
-            image,
-            &reading::NO_LIST,
-            name,
-            phones,
-            numbers,
-        ),
+        Err(x) => walk::at_once(x),
+        Ok(()) => speak_words(words, sets, image, &reading::NO_LIST, name, phones, numbers),
     }
 }
 
@@ -136,8 +127,8 @@ fn speak_listed<'a>(
 {
     let found = speech::say_listed(list, name, &mut *phones);
     match found {
-        Listed::Said(speech) => WalkAnswer { steps: 0, speech },
-        Listed::Unlisted => speak_words(words, sets, image, list, name, phones, numbers),
+        Some(speech) => WalkAnswer { steps: 0, speech },
+        None => speak_words(words, sets, image, list, name, phones, numbers),
     }
 }
 
@@ -156,8 +147,8 @@ pub fn speak_known<'a>(
 {
     let judged = rules::judge_name(name);
     match judged {
-        Answer::Refused(x) => walk::at_once(x),
-        Answer::Accepted => speak_listed(image, list, words, sets, name, phones, numbers),
+        Err(x) => walk::at_once(x),
+        Ok(()) => speak_listed(image, list, words, sets, name, phones, numbers),
     }
 }
 

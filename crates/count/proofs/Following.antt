@@ -1,6 +1,6 @@
 -- A pattern is followed along the nodes of the patterns before it.
 -- Assumes nothing.
-use mathlib.Core.Path.{◌≡◌, refl, sym, ap, ap₂, ◌∙◌}
+use mathlib.Core.Path.{◌≡◌, refl, sym, ap, ap₂, ◌∙◌, subst}
 use Prim.Native.Nat.{ℕ, zero, suc, ◌+◌, ◌*◌, ◌≤◌, ◌<◌}
 use native.Mathlib.Omega.{arith}
 use native.Mathlib.Nat.{suc-ne-zero}
@@ -97,21 +97,19 @@ module _ (ps ls : List ℕ) (i : ℕ) (ok : Patterns ps ls (i + 1)) where
       node_lt = omega (arith, f.node, first_lt (take m p) (nodes pats) f.has, nodes_length)
 
       -- p ends
-      pub ended : get_or ls i 0 ≤ m → Followed pats p (record { node = q; depth = m })
-      ended h =
-          record {
+      pub ended : get_or ls i 0 ≤ m → (n : ℕ) → m ≡ n → Followed pats p (record { node = q; depth = n })
+      ended h n e =
+          subst (λ (d : ℕ). Followed pats p (record { node = q; depth = d })) e
+          (record {
             reached = f.reached;
             has = any_node pats (take m p) ∙ f.has;
             node = f.node;
             most = λ l. absurd (omega (arith, p_length));
-          }
+          })
 
-      module _ (h : m < get_or ls i 0) where
-        abbrev c : ℕ
-        c = get_or ps (max_pattern * i + m) 0
-
+      module _ (h : m < get_or ls i 0) (c : ℕ) (is : c ≡ get_or ps (max_pattern * i + m) 0) where
         small : c < row_size
-        small = symbol_small ps ls (i + 1) ok i (omega arith) m h
+        small = rw is (symbol_small ps ls (i + 1) ok i (omega arith) m h)
 
         pub asks : (Patterns ps ls q) × (m < max_pattern) × (c < row_size) × (Linked fi nx ky q)
         asks = (
@@ -123,7 +121,7 @@ module _ (ps ls : List ℕ) (i : ℕ) (ok : Patterns ps ls (i + 1)) where
 
         more : take m p ++ (c ∷ []) ≡ take (suc m) p
         more =
-            ap (λ (k : ℕ). take m p ++ (k ∷ [])) (sym (pattern_symbol ps ls (i + 1) ok i (omega arith) m h))
+            ap (λ (k : ℕ). take m p ++ (k ∷ [])) (is ∙ sym (pattern_symbol ps ls (i + 1) ok i (omega arith) m h))
             ∙ sym (take-suc p m 0 (omega (arith, p_length)))
 
         module _ (r : ℕ) (e : r ≡ next_node (node_at ps ls q) (child_of fi nx ky) q m c) where

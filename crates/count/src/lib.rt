@@ -29,7 +29,7 @@ fn key_of(depth: usize, c: u8) -> u16
     requires { (depth < max_pattern) × (c < row_size) }
     ensures { result ≡ key_of depth c }
 {
-    (tables::ROW * depth + numbers::wide(c)) as u16
+    (tables::ROW * depth + usize::from(c)) as u16
 }
 
 // The node under the key `c` in the chain from `s` on, or 0.
@@ -42,7 +42,7 @@ fn find(next: &[u16], key: &[u16], s: usize, c: u16) -> usize
         if key[k] == c {
             return k;
         }
-        k = numbers::wide16(next[k]);
+        k = usize::from(next[k]);
     }
     k
 }
@@ -70,10 +70,7 @@ fn has_symbol(pats: &[u8], lens: &[u8], q: usize, m: usize, c: u8) -> bool
         return false;
     }
     let i = q - 1;
-    if numbers::wide(lens[i]) <= m {
-        return false;
-    }
-    c == pats[rules::MAX_PATTERN * i + m]
+    m < usize::from(lens[i]) && c == pats[rules::MAX_PATTERN * i + m]
 }
 
 // The node that a pattern follows after node q with the symbol c at depth m: q itself, or a child of it; 0 where there is none.
@@ -93,7 +90,7 @@ fn next_node(
     if has_symbol(pats, lens, q, m, c) {
         return q;
     }
-    find(next, key, numbers::wide16(first[q]), key_of(m, c))
+    find(next, key, usize::from(first[q]), key_of(m, c))
 }
 
 // Where pattern i branches off from the nodes of the patterns before it.
@@ -102,18 +99,19 @@ fn follow(first: &[u16], next: &[u16], key: &[u16], pats: &[u8], lens: &[u8], i:
     ensures { Followed (patterns_of pats.now lens.now i) (pattern_at pats.now lens.now i) result }
 {
     let a = rules::MAX_PATTERN * i;
-    let len = numbers::wide(lens[i]);
+    let len = usize::from(lens[i]);
     let mut q: usize = 0;
-    let mut m: usize = 0;
-    while m < len {
-        let r = next_node(first, next, key, pats, lens, q, m, pats[a + m]);
+    for (m, &c) in pats[a..a + len].iter().enumerate() {
+        let r = next_node(first, next, key, pats, lens, q, m, c);
         if r == 0 {
             return Branch { node: q, depth: m };
         }
         q = r;
-        m += 1;
     }
-    Branch { node: q, depth: m }
+    Branch {
+        node: q,
+        depth: len,
+    }
 }
 
 // Pattern i goes into the tree, and its new states are counted to those of the patterns before it.
@@ -131,7 +129,7 @@ fn count_one(
 {
     let s = follow(first, next, key, pats, lens, i);
     let m = s.depth;
-    let len = numbers::wide(lens[i]);
+    let len = usize::from(lens[i]);
     if len <= m {
         return count;
     }
@@ -154,10 +152,8 @@ fn count_all(
     ensures { result ≡ state_count pats.now lens.now n }
 {
     let mut count: usize = 1;
-    let mut i: usize = 0;
-    while i < n {
+    for i in 0..n {
         count = count_one(first, next, key, pats, lens, i, count);
-        i += 1;
     }
     count
 }

@@ -7,7 +7,7 @@ use mathlib.Core.Bool.{Bool, true, false, cond}
 use native.Mathlib.Omega.{arith}
 use borrow.Author.Tests.{eq-eqb, ne_eqb, le-leb, lt-leb, lt-ltb, le-ltb}
 use lib.ListN.{length, take, drop}
-use lib.Dec.{leb}
+use Rattle.std.specs.Prelude.{Some, None}
 use Rattle.numbers.specs.Numbers.{bytes8}
 use Rattle.rules.specs.Limits.{max_rules, max_number, max_edits, first_class, max_symbol}
 use Rattle.rules.specs.Memory.{over_at}
@@ -15,7 +15,7 @@ use Rattle.rules.specs.Refusals.{Reply, accepted, declined}
 use Rattle.rules.specs.declared.Rule.{Rule}
 use Rattle.rules.specs.declared.Numbered.{Numbered}
 use Rattle.classes.specs.Classes.{is_class, class_shape}
-use Rattle.classes.specs.Masks.{mask_size, mask_start, mask_of, with_mask}
+use Rattle.classes.specs.Masks.{mask_size, mask_start, mask_of, class_mask, with_mask}
 use Rattle.classes.specs.Setting.{list_uses, settable}
 use Rattle.image.specs.State.{rules_of, relist, insert_at, remove_at, relocated}
 use Rattle.rule_bytes.specs.RuleBytes.{Filled}
@@ -39,6 +39,16 @@ module _ (image : List ℕ) (n i : ℕ) (h : i < n) (m : ℕ) where
 
   pub place_miss : (x : ℕ) → x ≡ (numbered_at image i).number → (x ≡ m → ⊥) → place_of m (drop i (rules_in n image)) ≡ suc (place_of m (drop (i + 1) (rules_in n image)))
   place_miss x is e = rw (here image n i h, ne_eqb (numbered_at image i).number m (λ (q : (numbered_at image i).number ≡ m). e (is ∙ q)))
+
+-- ---- a mask that may be none
+
+none_of : (b : Bool) (n : ℕ) → None ≡ cond b (Some n) None → b ≡ false
+none_of true n e = let z : ◌≡◌ {A = ℕ} 0 1 = cc in absurd (omega arith)
+none_of false n e = refl
+
+some_of : (b : Bool) (m n : ℕ) → Some m ≡ cond b (Some n) None → (b ≡ true) × (m ≡ n)
+some_of true m n e = (refl, cc)
+some_of false m n e = let z : ◌≡◌ {A = ℕ} 0 1 = cc in absurd (omega arith)
 
 -- ---- what `edited` is
 
@@ -173,14 +183,14 @@ module _ (d : List ℕ) (ok : valid d ≡ true) where
         within : is_class c ≡ true
         within = rw (le-leb first_class c h, lt-ltb c 96 (omega arith))
 
-        module _ (mask : ℕ) (m : (mask ≡ cond (class_shape l) (mask_of l) 0) × (class_shape l ≡ leb 1 mask)) where
-          pub set_letters : mask ≡ 0 → outcome (declined 20 0) d ≡ edited d (SetClass c l)
-          unfolding settable
-          set_letters e = unsettable (rw (within, m.1, e))
+        pub set_letters : None ≡ class_mask l → outcome (declined 20 0) d ≡ edited d (SetClass c l)
+        unfolding settable
+        set_letters e = unsettable (rw (within, none_of (class_shape l) (mask_of l) e))
 
-          module _ (v : mask ≡ 0 → ⊥) (b : Bool) (used : b ≡ list_uses c (entries_of d)) where
+        module _ (mask : ℕ) (m : Some mask ≡ class_mask l) where
+          module _ (b : Bool) (used : b ≡ list_uses c (entries_of d)) where
             class_shaped : class_shape l ≡ true
-            class_shaped = m.1 ∙ le-leb 1 mask (omega arith)
+            class_shaped = (some_of (class_shape l) mask (mask_of l) m).0
 
             pub set_used : b ≡ true → outcome (declined 20 0) d ≡ edited d (SetClass c l)
             unfolding settable entries_of
@@ -191,6 +201,6 @@ module _ (d : List ℕ) (ok : valid d ≡ true) where
                 → outcome accepted z ≡ edited d (SetClass c l)
             unfolding judged settable entries_of with_mask
             set_yes e z q =
-                let t : mask ≡ mask_of l = m.0 ∙ ap (λ (x : Bool). cond x (mask_of l) 0) class_shaped in
+                let t : mask ≡ mask_of l = (some_of (class_shape l) mask (mask_of l) m).1 in
                 yes (SetClass c l) (rw (within, class_shaped, ← used, e)) z
                 (q ∙ ap (λ (x : ℕ). over_at class_start (take (mask_start c) (masks_in d) ++ (bytes8 x ++ drop (mask_start c + mask_size) (masks_in d))) d) t)

@@ -1,16 +1,15 @@
 -- The edit count is how many additions, drops and moves were accepted (document 02, request 6); where there were none, no literal rule has changed.
 -- Assumes nothing.
-use Prim.Native.Nat.{ℕ, ◌+◌, ◌<◌}
-use mathlib.Core.Path.{◌≡◌, refl, sym, ap, ◌∙◌}
+use Prim.Native.Nat.{◌+◌}
+use mathlib.Core.Path.{◌≡◌, refl, ◌∙◌}
 use mathlib.Core.List.{List, [], ◌∷◌}
 use native.Mathlib.Omega.{arith}
-use lib.ListN.{length, get_or}
 use Rattle.rules.specs.Refusals.{Reply, accepted, declined}
 use Rattle.rules.specs.Shape.{Entry}
 use Rattle.classes.specs.Expansion.{expand}
 use Rattle.classes.proofs.Setting.{expand_kept}
 use Rattle.image.specs.State.{Ledger, rules_of}
-use Rattle.edits.specs.Ledger.{Edit, judged, applied, after, after_by, after_all, counted_by, counted}
+use Rattle.edits.specs.Ledger.{Edit, judged, after, after_by, after_all, counted_by, counted}
 use Rattle.edits.specs.Ledger.Edit.{Add, Drop, Move, SetClass}
 use Rattle.edits.proofs.Applied.{can_set}
 

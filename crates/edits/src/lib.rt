@@ -1,7 +1,7 @@
 // The edits of a ruleset in lent memory, in place (document 01, "The ledger"; document 02, requests 5 and 6).
 #![tactic(auto)]
 
-ghost use Rattle.std.specs.Prelude.{◌≡◌, true, ◌≤◌, length};
+ghost use Rattle.std.specs.Prelude.{◌≡◌, true, ◌<◌, ◌≤◌, length, MatchOption};
 ghost use Rattle.rules.specs.Limits.{max_rules};
 ghost use Rattle.rules.specs.Refusals.{reply_of};
 ghost use Rattle.rules.specs.Shape.{shape, view};
@@ -11,22 +11,20 @@ ghost use Rattle.image.specs.Image.{image_size, rules_in, classes_of, ledger_of,
 ghost use Rattle.edits.specs.Ledger.{Edit, place_of, judged};
 ghost use Rattle.edits.specs.Edits.{edited};
 
-use rules::{Answer, Numbered, Refusal, Rule};
+use rules::{Numbered, Refusal, Rule};
 
-// The place of the rule numbered `number` among the first `count`, or `count` where there is none.
-fn place_of(image: &[u8], count: usize, number: u16) -> usize
+// The place of the rule numbered `number` among the first `count`.
+fn place_of(image: &[u8], count: usize, number: u16) -> Option<usize>
     requires { (count ≤ max_rules) × (image_size ≤ length image.now) }
-    ensures { result ≡ place_of number (rules_in count image.now) }
+    ensures { MatchOption result (place_of number (rules_in count image.now) ≡ count) (λ k. (k ≡ place_of number (rules_in count image.now)) × (k < count)) }
 {
-    let mut i = 0;
-    while i < count {
+    for i in 0..count {
         let n = image::number_at(image, i);
         if n == number {
-            return i;
+            return Some(i);
         }
-        i += 1;
     }
-    i
+    None
 }
 
 // How many literal rules a rule has by the classes of the image, counted to 513: 0 where a class that it uses is undefined.
@@ -42,113 +40,107 @@ fn literals_of(image: &[u8], rule: Rule) -> usize
 }
 
 // The answer of Add(rule, p): the limit of 512 counts literal rules.
-fn judge_add(image: &[u8], rule: Rule, p: usize) -> Answer
+fn judge_add(image: &[u8], rule: Rule, p: usize) -> Result<(), Refusal>
     requires { valid image.now ≡ true }
     ensures { reply_of result ≡ judged (ledger_of image.now) (Edit.Add rule p) }
 {
     if !rules::well_shaped(rule) {
-        return Answer::Refused(Refusal::Shape(0));
+        return Err(Refusal::Shape(0));
     }
     let n = literals_of(image, rule);
     if n == 0 {
-        return Answer::Refused(Refusal::BadClass(0));
+        return Err(Refusal::BadClass(0));
     }
     if image::rule_count(image) < p {
-        return Answer::Refused(Refusal::Place(0));
+        return Err(Refusal::Place(0));
     }
     if rules::MAX_RULES < image::table::literal_total(image) + n {
-        return Answer::Refused(Refusal::Full(0));
+        return Err(Refusal::Full(0));
     }
     if rules::MAX_NUMBER <= image::last_issued(image) {
-        return Answer::Refused(Refusal::LastIssued(0));
+        return Err(Refusal::LastIssued(0));
     }
     if rules::MAX_EDITS <= image::edit_count(image) {
-        return Answer::Refused(Refusal::EditsSpent(0));
+        return Err(Refusal::EditsSpent(0));
     }
-    Answer::Accepted
+    Ok(())
 }
 
 // Add(rule, p).
-pub fn add_rule(image: &mut [u8], rule: Rule, p: usize) -> Answer
+pub fn add_rule(image: &mut [u8], rule: Rule, p: usize) -> Result<(), Refusal>
     ensures { outcome (reply_of result) image.new ≡ edited image.old (Edit.Add rule p) }
 {
     if !image::is_ruleset(image) {
-        return Answer::Refused(Refusal::NotRuleset(0));
+        return Err(Refusal::NotRuleset(0));
     }
-    let answer = judge_add(image, rule, p);
-    if let Answer::Refused(why) = answer {
-        return Answer::Refused(why);
-    }
+    judge_add(image, rule, p)?;
     let last = image::last_issued(image);
     let number = last + 1;
     slots::insert(image, p, Numbered { number, rule }, number);
     image::table::settle(image);
-    Answer::Accepted
+    Ok(())
 }
 
 // Drop(number).
-pub fn drop_rule(image: &mut [u8], number: u16) -> Answer
+pub fn drop_rule(image: &mut [u8], number: u16) -> Result<(), Refusal>
     ensures { outcome (reply_of result) image.new ≡ edited image.old (Edit.Drop number) }
 {
     if !image::is_ruleset(image) {
-        return Answer::Refused(Refusal::NotRuleset(0));
+        return Err(Refusal::NotRuleset(0));
     }
     let count = image::rule_count(image);
-    let k = place_of(image, count, number);
-    if count <= k {
-        return Answer::Refused(Refusal::NoNumber(0));
-    }
+    let Some(k) = place_of(image, count, number) else {
+        return Err(Refusal::NoNumber(0));
+    };
     if rules::MAX_EDITS <= image::edit_count(image) {
-        return Answer::Refused(Refusal::EditsSpent(0));
+        return Err(Refusal::EditsSpent(0));
     }
     slots::remove(image, k);
     image::table::settle(image);
-    Answer::Accepted
+    Ok(())
 }
 
 // Move(number, p).
-pub fn move_rule(image: &mut [u8], number: u16, p: usize) -> Answer
+pub fn move_rule(image: &mut [u8], number: u16, p: usize) -> Result<(), Refusal>
     ensures { outcome (reply_of result) image.new ≡ edited image.old (Edit.Move number p) }
 {
     if !image::is_ruleset(image) {
-        return Answer::Refused(Refusal::NotRuleset(0));
+        return Err(Refusal::NotRuleset(0));
     }
     let count = image::rule_count(image);
-    let k = place_of(image, count, number);
-    if count <= k {
-        return Answer::Refused(Refusal::NoNumber(0));
-    }
+    let Some(k) = place_of(image, count, number) else {
+        return Err(Refusal::NoNumber(0));
+    };
     if count <= p {
-        return Answer::Refused(Refusal::Place(0));
+        return Err(Refusal::Place(0));
     }
     if rules::MAX_EDITS <= image::edit_count(image) {
-        return Answer::Refused(Refusal::EditsSpent(0));
+        return Err(Refusal::EditsSpent(0));
     }
     slots::relocate(image, k, p);
     image::table::settle(image);
-    Answer::Accepted
+    Ok(())
 }
 
 // SetClass(symbol, letters): only a class that no rule uses can be set.
-pub fn set_class(image: &mut [u8], symbol: u8, letters: &[u8]) -> Answer
+pub fn set_class(image: &mut [u8], symbol: u8, letters: &[u8]) -> Result<(), Refusal>
     ensures { outcome (reply_of result) image.new ≡ edited image.old (Edit.SetClass symbol letters.now) }
 {
     if !image::is_ruleset(image) {
-        return Answer::Refused(Refusal::NotRuleset(0));
+        return Err(Refusal::NotRuleset(0));
     }
     if symbol < rules::FIRST_CLASS {
-        return Answer::Refused(Refusal::BadClass(0));
+        return Err(Refusal::BadClass(0));
     }
     if rules::MAX_SYMBOL < symbol {
-        return Answer::Refused(Refusal::BadClass(0));
+        return Err(Refusal::BadClass(0));
     }
-    let mask = classes::masks::class_mask(letters);
-    if mask == 0 {
-        return Answer::Refused(Refusal::BadClass(0));
-    }
+    let Some(mask) = classes::masks::class_mask(letters) else {
+        return Err(Refusal::BadClass(0));
+    };
     if image::class_bytes::in_use(image, symbol) {
-        return Answer::Refused(Refusal::BadClass(0));
+        return Err(Refusal::BadClass(0));
     }
     image::class_bytes::put_class(image, symbol, mask);
-    Answer::Accepted
+    Ok(())
 }

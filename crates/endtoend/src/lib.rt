@@ -9,16 +9,16 @@ ghost use Rattle.tables.specs.Words.{building};
 ghost use Rattle.walk.specs.Walked.{walked_of};
 ghost use Rattle.endtoend.specs.EndToEnd.{EndToEnd, lent, given};
 
-use rules::Answer;
-use speech::Speech;
+use rules::Refusal;
+use speech::Spoken;
 use walk::WalkAnswer;
 
 // The answers of the four calls.
 #[derive(Clone, Copy)]
 pub struct Answers {
-    pub replay: Answer,
-    pub build: Answer,
-    pub plain: Speech,
+    pub replay: Result<(), Refusal>,
+    pub build: Result<(), Refusal>,
+    pub plain: Result<Spoken, Refusal>,
     pub walk: WalkAnswer,
 }
 

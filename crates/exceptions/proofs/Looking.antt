@@ -22,8 +22,7 @@ use Rattle.phone_strings.specs.Groups.{byte_from, HoldsPhones}
 use Rattle.exceptions.specs.Layout.{list_size, words_of, start_of, phones_for, phones_ending}
 use Rattle.exceptions.specs.Judging.{IsList, is_list, says_of, KnownList, StateOf}
 use Rattle.exceptions.specs.Calls.{looking_up, looked_up, EndsIn, EndsInList, StateIn}
-use Rattle.exceptions.specs.declared.Ending.{Ending}
-use Rattle.exceptions.specs.declared.Ending.TheVariants.{State, Absent}
+use Rattle.std.specs.Prelude.{Option, Some, None}
 use Rattle.exceptions.specs.declared.Lookup.TheVariants.{Unlisted, Given, NoRoom}
 use Rattle.exceptions.proofs.Sizes.{words_are}
 use Rattle.exceptions.proofs.Decided.{list_long, list_facts}
@@ -217,9 +216,9 @@ unfolding phones_for unpack
 phones-most ws w = up_to_long 64 (byte_of (look (rows_of ws) (start_of ws) w))
 
 -- what a state found in the words of a lent list says
-pub ends_list : (list : List ℕ) → is_list list ≡ true → (w : Str) (r : Ending) → EndsIn (take 35886 list) w r → EndsInList list w r
+pub ends_list : (list : List ℕ) → is_list list ≡ true → (w : Str) (r : Option ℕ) → EndsIn (take 35886 list) w r → EndsInList list w r
 ends_list list h w r e = by r (subst (λ (ws : List ℕ). EndsIn ws w r) (words_are list) e)
   where
-    by : (r : Ending) → EndsIn (words_of list) w r → EndsInList list w r
-    by (State q) x = (record { lent = h; inside = x.0 }, x.1 ∙ sym (says_list list h w), subst (λ (p : Str). 1 ≤ length p) (sym (says_list list h w)) x.2)
-    by Absent x = says_list list h w ∙ x
+    by : (r : Option ℕ) → EndsIn (words_of list) w r → EndsInList list w r
+    by (Some q) x = (record { lent = h; inside = x.0 }, x.1 ∙ sym (says_list list h w), subst (λ (p : Str). 1 ≤ length p) (sym (says_list list h w)) x.2)
+    by None x = says_list list h w ∙ x

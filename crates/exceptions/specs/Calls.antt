@@ -1,13 +1,11 @@
 -- What the calls that make, count and look up a list give.
 -- Assumes nothing.
-use Rattle.std.specs.Prelude.{ℕ, ◌≤◌, ◌≡◌, cond, List, [], ◌∷◌, leb, length, set}
+use Rattle.std.specs.Prelude.{ℕ, ◌≤◌, ◌≡◌, cond, Option, Some, None, List, [], ◌∷◌, leb, length, set}
 use Rattle.rules.specs.Memory.{over}
 use Rattle.rules.specs.Refusals.{Reply, accepted, declined}
 use Rattle.automaton.specs.Automaton.{Str}
 use Rattle.exceptions.specs.Layout.{list_size, startWord, words_of, start_of, phones_for, phones_ending, names_in, states_in}
 use Rattle.exceptions.specs.Judging.{IsList, is_list, says_of, StateOf}
-use Rattle.exceptions.specs.declared.Ending.{Ending}
-use Rattle.exceptions.specs.declared.Ending.TheVariants.{State, Absent}
 use Rattle.exceptions.specs.declared.Lookup.{Lookup}
 use Rattle.exceptions.specs.declared.Lookup.TheVariants.{Unlisted, Given, NoRoom}
 
@@ -51,14 +49,14 @@ looked_up (x ∷ p) phones =
 -- ---- the state in which a listed name ends
 
 -- the phones of the state are those that the words say of the name, of which there are some; or they say none
-abbrev pub EndsIn : List ℕ → Str → Ending → Type 0
-EndsIn ws w (State q) = (q ≤ start_of ws) × (phones_ending ws q ≡ phones_for ws w) × (1 ≤ length (phones_for ws w))
-EndsIn ws w Absent = phones_for ws w ≡ []
+abbrev pub EndsIn : List ℕ → Str → Option ℕ → Type 0
+EndsIn ws w (Some q) = (q ≤ start_of ws) × (phones_ending ws q ≡ phones_for ws w) × (1 ≤ length (phones_for ws w))
+EndsIn ws w None = phones_for ws w ≡ []
 
 -- the same of a lent list, or of memory too short for one
-abbrev pub EndsInList : List ℕ → Str → Ending → Type 0
-EndsInList list w (State q) = StateOf list q × (phones_ending (words_of list) q ≡ says_of list w) × (1 ≤ length (says_of list w))
-EndsInList list w Absent = says_of list w ≡ []
+abbrev pub EndsInList : List ℕ → Str → Option ℕ → Type 0
+EndsInList list w (Some q) = StateOf list q × (phones_ending (words_of list) q ≡ says_of list w) × (1 ≤ length (says_of list w))
+EndsInList list w None = says_of list w ≡ []
 
 -- q is a state of words that are a list
 pub record StateIn (ws : List ℕ) (q : ℕ) : Type 0 where

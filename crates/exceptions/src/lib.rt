@@ -17,7 +17,7 @@ ghost use Rattle.exceptions.specs.Calls.{emptying, emptied, name_count, state_co
 
 use phone_strings::phone_groups;
 use phone_strings::phone_groups::Located;
-use rules::{Answer, Refusal};
+use rules::Refusal;
 
 // Words of a list.
 pub const SIZE: usize = 35886;
@@ -31,13 +31,6 @@ pub enum Lookup {
     Unlisted,
     Given(usize),
     NoRoom(usize),
-}
-
-// The state in which a listed name ends; any other name is absent.
-#[derive(Clone, Copy)]
-pub enum Ending {
-    State(usize),
-    Absent,
 }
 
 // The number of the start.
@@ -59,16 +52,16 @@ pub fn is_list(list: &[u32]) -> bool
 }
 
 // The empty list, in memory that held anything.
-pub fn clear(list: &mut [u32]) -> Answer
+pub fn clear(list: &mut [u32]) -> Result<(), Refusal>
     ensures { emptying (reply_of result) list.new ≡ emptied list.old }
 {
     if list.len() < SIZE {
-        return Answer::Refused(Refusal::BadList(0));
+        return Err(Refusal::BadList(0));
     }
     list[0] = automaton::FIRST_CELL;
     list[1] = automaton::FIRST_CELL;
     list[START] = 0;
-    Answer::Accepted
+    Ok(())
 }
 
 // How many names are listed, 0 where the memory is no list.
@@ -123,8 +116,8 @@ pub fn look_up(list: &[u32], name: &[u8], phones: &mut [u8]) -> Lookup
     look_up_words(&list[..SIZE], name, phones)
 }
 
-// The state in which a name ends, of words which are a list.
-fn end_state_words(words: &[u32], name: &[u8]) -> Ending
+// The state in which a listed name ends, of words which are a list.
+fn end_state_words(words: &[u32], name: &[u8]) -> Option<usize>
     requires { (list_size ≤ length words.now) × IsList words.now × Letters name.now }
     ensures { EndsIn words.now name.now result }
 {
@@ -132,18 +125,18 @@ fn end_state_words(words: &[u32], name: &[u8]) -> Ending
     let q = states::end_state(words, n, name);
     let found = phone_groups::locate(words, n, q);
     if found.count == 0 {
-        return Ending::Absent;
+        return None;
     }
-    Ending::State(q)
+    Some(q)
 }
 
-// The state in which a sound name ends, for a caller that knows the list to be one, or lends too few words for any.
-pub fn end_state(list: &[u32], name: &[u8]) -> Ending
+// The state in which a sound name ends that is listed, for a caller that knows the list to be one, or lends too few words for any.
+pub fn end_state(list: &[u32], name: &[u8]) -> Option<usize>
     requires { KnownList list.now × SoundName name.now }
     ensures { EndsInList list.now name.now result }
 {
     if list.len() < SIZE {
-        return Ending::Absent;
+        return None;
     }
     end_state_words(&list[..SIZE], name)
 }

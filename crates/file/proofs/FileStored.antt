@@ -6,11 +6,13 @@ use mathlib.Core.List.{List, [], map}
 use mathlib.Core.Bool.{true}
 use native.Mathlib.Omega.{arith}
 use borrow.Author.Tests.{le-leb, lt-leb}
+use Rattle.std.specs.Prelude.{Result, Ok, Err}
 use lib.ListN.{length, drop, length-append, length-drop, length-map}
 use Rattle.rules.specs.Limits.{max_rules}
 use Rattle.rules.specs.Memory.{over_at}
 use Rattle.rules.specs.Refusals.{accepted, declined}
 use Rattle.rules.specs.declared.Numbered.{Numbered}
+use Rattle.rules.specs.declared.Refusal.{Refusal}
 use Rattle.classes.specs.Classes.{Classes}
 use Rattle.classes.specs.Masks.{masks_size, masks_of}
 use Rattle.classes.proofs.Bytes.{length_masks}
@@ -19,75 +21,70 @@ use Rattle.image.specs.Image.{image_size, head_size, class_start, head_of, laid,
 use Rattle.image.proofs.Stored.{Fine, fine_held, laid_long}
 use Rattle.image.proofs.Whole.{classed_sound}
 use Rattle.frames.specs.Lines.{sound_line}
-use Rattle.file.specs.declared.heading.HeadLine.{HeadLine}
-use Rattle.file.specs.declared.defining.ClassesEnd.{ClassesEnd}
+use Rattle.file.specs.declared.heading.Head.{Head}
 use Rattle.file_format.specs.Layout.{numbered_of}
 use Rattle.file_format.specs.File.{Read, read_rules, Defined, read_defined, readFile, Written}
 use Rattle.file_format.specs.File.Read.{Accepted, Malformed, Broken}
 use Rattle.file.specs.Loading.{ledger_for, verdict, described, stored, loaded, head_at, classes_end, RulesFrom, with_rules}
 use Rattle.file_format.proofs.Accepts.{Were, rules_were, after_ok, accepted as accepted-was}
 use Rattle.file.proofs.ClassReading.{after_within, after_rules}
-use Rattle.file.proofs.FirstLine.{no_decline, head_sound, head_ok, head_few, head_within, head_on}
+use Rattle.file.proofs.FirstLine.{no_decline, not-err, head_few, head_within, head_on}
 use Rattle.file.proofs.Slots.{rules_laid}
 use Rattle.file.proofs.Storing.{accepted_is, each_numbered, formed_fine, slots}
 
 -- ---- the whole file
 
-module _ (file : List ℕ) (ok : verdict (readFile file) ≡ accepted) (line : HeadLine) (e : line ≡ head_at (length file) (sound_line file))
-    (r : ClassesEnd) (er : r ≡ classes_end (length file) (read_defined (drop line.next file))) where
-  sound_head : line.sound ≡ true
-  sound_head = head_sound file line e ok
-
-  good_head : line.head.ok ≡ true
-  good_head = head_ok file line e ok
-
+module _ (file : List ℕ) (ok : verdict (readFile file) ≡ accepted) (head : Head) (e : Ok head ≡ head_at (length file) (sound_line file)) where
   abbrev b : Ruleset
   b = described (readFile file)
 
   abbrev d : Defined
-  d = read_defined (drop line.next file)
+  d = read_defined (drop head.next file)
 
   is : readFile file ≡ Accepted b
   is = accepted_is (readFile file) ok
 
-  after : (d.ok ≡ true) × (read_rules (length file) line.head.last d.classes line.head.count [] d.rest ≡ Accepted b)
-  after = after_ok (length file) line.head.last line.head.count d b (head_on file line e sound_head good_head ∙ is)
+  after : (d.ok ≡ true) × (read_rules (length file) head.last d.classes head.count [] d.rest ≡ Accepted b)
+  after = after_ok (length file) head.last head.count d b (head_on file head e ∙ is)
 
-  good_classes : r.ok ≡ true
-  good_classes = ap (λ (c : ClassesEnd). c.ok) er ∙ after.0
-
-  were : Were line.head.last d.classes line.head.count [] d.rest b
-  were = rules_were (length file) line.head.last d.classes line.head.count [] d.rest b after.1
+  were : Were head.last d.classes head.count [] d.rest b
+  were = rules_were (length file) head.last d.classes head.count [] d.rest b after.1
 
   classes_are : d.classes ≡ b.classes
   classes_are = sym (ap (λ (q : Ruleset). q.classes) were.whole)
 
-  pub file_few : line.head.count ≤ max_rules
-  file_few = head_few file line e sound_head good_head
+  pub file_few : head.count ≤ max_rules
+  file_few = head_few file head e
 
-  pub file_within : r.at ≤ length file
-  file_within = after_within file line.next r er good_classes
+  -- its class lines end at a place
+  pub file_classes : (r : Result ℕ Refusal) → r ≡ classes_end (length file) (read_defined (drop head.next file)) → ((at : ℕ) → r ≡ Ok at → ⊥) → ⊥
+  file_classes (Ok at) er n = n at refl
+  file_classes (Err x) er n = not-err (rw after.0 at er)
 
-  pub file_rules : RulesFrom file line.head.last line.head.count r.at
-  file_rules =
-      ap (λ (k : Classes). read_rules (length file) line.head.last k line.head.count [] (drop r.at file)) (sym classes_are)
-      ∙ (after_rules file line.next r er good_classes (head_within file line e sound_head good_head) line.head.last line.head.count
-      ∙ head_on file line e sound_head good_head)
+  module _ (at : ℕ) (er : Ok at ≡ classes_end (length file) (read_defined (drop head.next file))) where
+    pub file_within : at ≤ length file
+    file_within = after_within file head.next at er
+
+    pub file_rules : RulesFrom file head.last head.count at
+    file_rules =
+        ap (λ (k : Classes). read_rules (length file) head.last k head.count [] (drop at file)) (sym classes_are)
+        ∙ (after_rules file head.next at er (head_within file head e) head.last head.count
+        ∙ head_on file head e)
 
   abbrev l : List Numbered
   l = slots b.rules
 
-  count-is : line.head.count ≡ length l
+  count-is : head.count ≡ length l
   count-is = sym (length-map b.rules numbered_of ∙ (ap (λ (q : Ruleset). length q.rules) were.whole ∙ were.many))
 
-  last_is : line.head.last ≡ b.last
+  last_is : head.last ≡ b.last
   last_is = sym (ap (λ (q : Ruleset). q.last) were.whole)
 
-  pub headed-length : (xs : List ℕ) → image_size ≤ length xs → (w : List ℕ) → w ≡ with_head line.head.count line.head.last 0 xs → length w ≡ length xs
+  pub headed-length : (xs : List ℕ) → image_size ≤ length xs → (w : List ℕ) → w ≡ with_head head.count head.last 0 xs → length w ≡ length xs
   headed-length xs h w ew =
-      omega (arith, ap length ew, length-append (head_of line.head.count line.head.last 0) (drop head_size xs), length-drop head_size xs)
+      omega (arith, ap length ew, length-append (head_of head.count head.last 0) (drop head_size xs), length-drop head_size xs)
 
-  module _ (xs : List ℕ) (h : image_size ≤ length xs) (w z : List ℕ) (ew : w ≡ with_head line.head.count line.head.last 0 xs)
+  module _ (xs : List ℕ) (h : image_size ≤ length xs) (w z : List ℕ) (ew : w ≡ with_head head.count head.last 0 xs)
       (ez : z ≡ with_rules 0 (map numbered_of (described (readFile file)).rules) w) where
     file_laid : z ≡ laid (ledger_for b) xs
     file_laid =
@@ -104,7 +101,7 @@ module _ (file : List ℕ) (ok : verdict (readFile file) ≡ accepted) (line : H
     pub stored_room : image_size ≤ length z
     stored_room = omega (arith, ap length file_laid, laid_long xs h (ledger_for b) (fine_held (ledger_for b) ruled) ruled.filled)
 
-    module _ (masks : List ℕ) (em : masks ≡ masks_of (read_defined (drop line.next file)).classes) where
+    module _ (masks : List ℕ) (em : masks ≡ masks_of (read_defined (drop head.next file)).classes) where
       pub masks_length : length masks ≡ masks_size
       masks_length = ap length em ∙ length_masks d.classes
 

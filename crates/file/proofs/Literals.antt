@@ -7,6 +7,7 @@ use mathlib.Core.Bool.{true, false, and-false}
 use native.Mathlib.Omega.{arith}
 use borrow.Author.Tests.{leb-true, leb-false, le-leb, lt-leb}
 use lib.Dec.{leb}
+use Rattle.std.specs.Prelude.{Some, None, IfSome}
 use lib.ListN.{length, take}
 use Rattle.rules.specs.Limits.{max_rules, max_context}
 use Rattle.rules.specs.Shape.{view, shape}
@@ -48,21 +49,21 @@ module _ (rule : Rule) (s : shape (view rule) ≡ true) where
     exact_by : count ≤ max_rules → count ≡ n
     exact_by h = by_bool (leb n max_rules) (λ t. exact (leb-true n max_rules t)) (λ t. let u = more (leb-false n max_rules t) in absurd (omega arith))
 
-    pub total_none : count < 1 → (0 ≡ total_with before k (view rule)) × (0 ≤ max_rules)
+    pub total_none : count < 1 → (None ≡ total_with before k (view rule)) × IfSome {T = ℕ} None (λ n. n ≤ max_rules)
     total_none h =
         let z = exact_by (omega arith) in
         let d : defined k (view rule) ≡ false = defined_count k (view rule) ∙ lt-leb 1 n (omega arith) in
-        (rw d, omega arith)
+        (rw d, tt)
 
-    pub total_over : max_rules < before + count → (0 ≡ total_with before k (view rule)) × (0 ≤ max_rules)
+    pub total_over : max_rules < before + count → (None ≡ total_with before k (view rule)) × IfSome {T = ℕ} None (λ n. n ≤ max_rules)
     total_over h =
         let u : max_rules < before + n = by_bool (leb n max_rules) (λ t. let z = exact (leb-true n max_rules t) in omega arith) (λ t. let z = leb-false n max_rules t in omega arith) in
         let d : leb (before + n) max_rules ≡ false = lt-leb (before + n) max_rules u in
-        (rw (d, and-false (defined k (view rule))), omega arith)
+        (rw (d, and-false (defined k (view rule))), tt)
 
-    pub total_more : 1 ≤ count → before + count ≤ max_rules → (before + count ≡ total_with before k (view rule)) × (before + count ≤ max_rules)
+    pub total_more : 1 ≤ count → before + count ≤ max_rules → (Some (before + count) ≡ total_with before k (view rule)) × (before + count ≤ max_rules)
     total_more h g =
         let z = exact_by (omega arith) in
         let d : defined k (view rule) ≡ true = defined_count k (view rule) ∙ le-leb 1 n (omega arith) in
         let u : leb (before + n) max_rules ≡ true = le-leb (before + n) max_rules (omega arith) in
-        (ap (λ (m : ℕ). before + m) z ∙ sym (rw (d, u)), g)
+        (ap (λ (m : ℕ). Some (before + m)) z ∙ sym (rw (d, u)), g)

@@ -5,6 +5,7 @@ use mathlib.Core.Path.{◌≡◌, refl, sym, ap, ◌∙◌}
 use mathlib.Core.List.{List, [], ◌∷◌}
 use mathlib.Core.Bool.{Bool, true, false, ◌&&◌, and-false}
 use native.Mathlib.Omega.{arith}
+use Rattle.std.specs.Prelude.{Option, Some, None}
 use borrow.Author.Tests.{leb-true, leb-false, eqb-true, eqb-false, le-leb, lt-leb, eq-eqb, ne_eqb}
 use lib.ListN.{length, drop, length-drop}
 use lib.Dec.{leb, eqb}
@@ -16,11 +17,10 @@ use Rattle.rules.proofs.Laws.{length_first}
 use Rattle.image.specs.State.{entry}
 use Rattle.image.proofs.Entries.{shaped}
 use Rattle.file.specs.declared.heading.Head.{Head}
-use Rattle.file.specs.declared.parsing.Ruled.{Ruled}
 use Rattle.rule_bytes.specs.RuleBytes.{rule_struct}
 use Rattle.file_format.specs.Layout.{frame_type, head_type, edition, head_edition, head_count, head_last, head_frame_size, rule_type, front_size, left_length, target_length, right_length, phones_length, body_size, longest_frame, rule_in, entry_in, numbered_of}
 use Rattle.file_format.specs.File.{is_rule}
-use Rattle.file.specs.Loading.{no_head, head_in, none_ruled, ruled_in, rule_frame}
+use Rattle.file.specs.Loading.{head_in, ruled_in, rule_frame}
 use Rattle.file_format.proofs.Bodies.{both, in_range, parts}
 
 -- ---- a rule in a struct
@@ -58,23 +58,23 @@ shape_struct r =
 
 -- ---- a head
 
-module _ (w : List ℕ) where
-  pub head_length : (length w ≡ head_frame_size → ⊥) → no_head ≡ head_in w
+module _ (next : ℕ) (w : List ℕ) where
+  pub head_length : (length w ≡ head_frame_size → ⊥) → None ≡ head_in next w
   head_length a = rw (ne_eqb (length w) head_frame_size a)
 
   module _ (a : length w ≡ head_frame_size) where
-    pub head_first : (frame_type w ≡ head_type → ⊥) → no_head ≡ head_in w
+    pub head_first : (frame_type w ≡ head_type → ⊥) → None ≡ head_in next w
     head_first b = rw (eq-eqb (length w) head_frame_size a, ne_eqb (frame_type w) head_type b)
 
     module _ (b : frame_type w ≡ head_type) where
-      pub head-edition : (head_edition w ≡ edition → ⊥) → no_head ≡ head_in w
+      pub head-edition : (head_edition w ≡ edition → ⊥) → None ≡ head_in next w
       head-edition c = rw (eq-eqb (length w) head_frame_size a, eq-eqb (frame_type w) head_type b, ne_eqb (head_edition w) edition c)
 
       module _ (c : head_edition w ≡ edition) (n : ℕ) (e : n ≡ head_count w) where
-        pub head_many : max_rules < n → no_head ≡ head_in w
+        pub head_many : max_rules < n → None ≡ head_in next w
         head_many h = rw (eq-eqb (length w) head_frame_size a, eq-eqb (frame_type w) head_type b, eq-eqb (head_edition w) edition c, ← e, lt-leb n max_rules h)
 
-        pub head_ok : n ≤ max_rules → (last : ℕ) → last ≡ head_last w → ◌≡◌ {A = Head} (record { ok = true; count = n; last = last }) (head_in w)
+        pub head_ok : n ≤ max_rules → (last : ℕ) → last ≡ head_last w → ◌≡◌ {A = Option Head} (Some (record { next = next; count = n; last = last })) (head_in next w)
         head_ok h last g = rw (eq-eqb (length w) head_frame_size a, eq-eqb (frame_type w) head_type b, eq-eqb (head_edition w) edition c, ← e, le-leb n max_rules h, g)
 
 -- ---- a rule's frame
@@ -122,11 +122,11 @@ frame_fits w e =
 -- ---- the rule of a frame, judged
 
 module _ (last : ℕ) (w : List ℕ) where
-  pub ruled_not : is_rule w ≡ false → none_ruled ≡ ruled_in last w
+  pub ruled_not : is_rule w ≡ false → None ≡ ruled_in last w
   ruled_not i = rw i
 
   -- a frame longer than the longest is that of no rule of the shape
-  pub ruled_long : longest_frame < length w → none_ruled ≡ ruled_in last w
+  pub ruled_long : longest_frame < length w → None ≡ ruled_in last w
   ruled_long h =
       let n : (is_rule w && entry last (entry_in w)) ≡ false =
       by_bool (is_rule w && entry last (entry_in w))
@@ -141,21 +141,21 @@ module _ (last : ℕ) (w : List ℕ) where
     viewed : shape (view x.rule) ≡ shape (rule_in w)
     viewed = ap (λ (y : Numbered). shape (view y.rule)) e ∙ shape_struct (rule_in w)
 
-    pub ruled_shape : shape (view x.rule) ≡ false → none_ruled ≡ ruled_in last w
+    pub ruled_shape : shape (view x.rule) ≡ false → None ≡ ruled_in last w
     ruled_shape s = rw (i, sym viewed ∙ s)
 
     module _ (s : shape (view x.rule) ≡ true) where
       number : x.number ≡ (entry_in w).number
       number = ap (λ (y : Numbered). y.number) e
 
-      pub ruled_low : x.number < 1 → none_ruled ≡ ruled_in last w
+      pub ruled_low : x.number < 1 → None ≡ ruled_in last w
       ruled_low h = rw (i, sym viewed ∙ s, ← number, lt-leb _ _ h)
 
       module _ (l : 1 ≤ x.number) where
-        pub ruled_high : last < x.number → none_ruled ≡ ruled_in last w
+        pub ruled_high : last < x.number → None ≡ ruled_in last w
         ruled_high h = rw (i, sym viewed ∙ s, ← number, le-leb _ _ l, lt-leb _ _ h)
 
-        pub ruled_ok : x.number ≤ last → ◌≡◌ {A = Ruled} (record { ok = true; entry = x }) (ruled_in last w)
+        pub ruled_ok : x.number ≤ last → Some x ≡ ruled_in last w
         ruled_ok h =
             let b : entry last (entry_in w) ≡ true = rw (sym viewed ∙ s, ← number, le-leb _ _ l, le-leb _ _ h) in
-            ap (λ (y : Numbered). record { ok = true; entry = y }) e ∙ sym (rw (i, b))
+            ap (λ (y : Numbered). Some y) e ∙ sym (rw (i, b))

@@ -1,24 +1,23 @@
 -- What reading a file into lent memory, and writing a ruleset to lent bytes, give: the answer with document 01's number and place, and
 -- the memory after it.
 -- Assumes nothing.
-use Rattle.std.specs.Prelude.{ℕ, suc, ◌+◌, ◌-◌, ◌/◌, ◌%◌, ◌≡◌, List, [], ◌∷◌, ◌++◌, map, Bool, true, false, cond, ◌&&◌, length, drop, leb, eqb}
+use Rattle.std.specs.Prelude.{ℕ, suc, ◌+◌, ◌-◌, ◌/◌, ◌%◌, ◌≡◌, List, [], ◌∷◌, ◌++◌, map, Bool, cond, ◌&&◌, Option, Some, None, Result, Ok, Err, length, drop, leb, eqb}
 use Rattle.rules.specs.Limits.{max_rules}
 use Rattle.rules.specs.Memory.{over}
 use Rattle.rules.specs.Shape.{Production, shape}
-use Rattle.rules.specs.Refusals.{Reply, accepted, declined, Report, wrote, refused}
+use Rattle.rules.specs.Refusals.{refusal_number, refusal_place, Reply, accepted, declined, Report, wrote, refused}
+use Rattle.rules.specs.declared.Refusal.{Refusal}
+use Rattle.rules.specs.declared.Refusal.TheVariants.{BadLine, BadText}
 use Rattle.rules.specs.declared.Numbered.{Numbered}
 use Rattle.classes.specs.Classes.{Classes, no_classes, defined}
 use Rattle.classes.specs.Expansion.{literal_count}
 use Rattle.classes.specs.Masks.{mask_of}
-use Rattle.image.specs.State.{Ruleset, Ledger, ruleset_of, entry, no_entry}
+use Rattle.image.specs.State.{Ruleset, Ledger, ruleset_of, entry}
 use Rattle.image.specs.Image.{image_size, ledger_of, whole, with_rule, valid, Edited, outcome}
 use Rattle.frames.specs.Lines.{Parsed}
 use Rattle.frames.specs.Lines.Parsed.{Bad, Good}
 use Rattle.file.specs.declared.heading.Head.{Head}
-use Rattle.file.specs.declared.heading.HeadLine.{HeadLine}
 use Rattle.file.specs.declared.defining.ClassLine.{ClassLine}
-use Rattle.file.specs.declared.defining.ClassesEnd.{ClassesEnd}
-use Rattle.file.specs.declared.parsing.Ruled.{Ruled}
 use Rattle.file.specs.declared.parsing.RuleLine.{RuleLine}
 use Rattle.file_format.specs.Layout.{frame_type, head_count, head_last, class_type, class_symbol, letters_of, rule_type, entry_in, numbered_of}
 use Rattle.file_format.specs.File.{encode, Read, is_head, class_fits, Defined, is_rule, read_rules, readFile}
@@ -76,50 +75,48 @@ filed image out =
 
 -- ---- what the functions give on the way
 
-abbrev pub no_head : Head
-no_head = record { ok = false; count = 0; last = 0 }
+-- what a head's frame says, where its line ends at `next`
+abbrev pub head_from : ℕ → List ℕ → Head
+head_from next f = record { next = next; count = head_count f; last = head_last f }
 
 -- the head of a frame
-abbrev pub head_in : List ℕ → Head
-head_in f = cond (is_head f) (record { ok = true; count = head_count f; last = head_last f }) no_head
+abbrev pub head_in : ℕ → List ℕ → Option Head
+head_in next f = cond (is_head f) (Some (head_from next f)) None
 
 -- the head of a line, in a file of len bytes
-abbrev pub head_at : ℕ → Parsed → HeadLine
-head_at len Bad = record { sound = false; next = 0; head = no_head }
-head_at len (Good f rest) = record { sound = true; next = len - length rest; head = head_in f }
+abbrev pub head_at : ℕ → Parsed → Result Head Refusal
+head_at len Bad = Err (BadLine 0)
+head_at len (Good f rest) = cond (is_head f) (Ok (head_from (len - length rest) f)) (Err (BadText 0))
 
-abbrev pub no_class_line : ClassLine
-no_class_line = record { defines = false; next = 0; symbol = 0; mask = 0 }
+-- the mask of the class that a frame defines with a symbol from `low` on
+abbrev pub class_mask : ℕ → List ℕ → Option ℕ
+class_mask low f = cond (class_fits low f) (Some (mask_of (letters_of f))) None
 
--- the mask of the class that a frame defines with a symbol from `low` on; 0 where it defines none
-abbrev pub class_mask : ℕ → List ℕ → ℕ
-class_mask low f = cond (class_fits low f) (mask_of (letters_of f)) 0
+-- the class that a line at a place defines, in a file of len bytes; none where it is of another type
+abbrev pub class_at : ℕ → ℕ → ℕ → Parsed → Result (Option ClassLine) Refusal
+class_at at low len Bad = Ok None
+class_at at low len (Good f rest) =
+    cond (eqb (frame_type f) class_type)
+    (cond (class_fits low f) (Ok (Some (record { next = len - length rest; symbol = class_symbol f; mask = mask_of (letters_of f) }))) (Err (BadText at)))
+    (Ok None)
 
--- the class of a line, in a file of len bytes
-abbrev pub class_at : ℕ → ℕ → Parsed → ClassLine
-class_at low len Bad = no_class_line
-class_at low len (Good f rest) =
-    cond (eqb (frame_type f) class_type) (record { defines = true; next = len - length rest; symbol = class_symbol f; mask = class_mask low f }) no_class_line
+-- where class lines end, in a file of len bytes: at another line, or refused at one of their type that defines no class
+abbrev pub classes_end : ℕ → Defined → Result ℕ Refusal
+classes_end len d = cond d.ok (Ok (len - length d.rest)) (Err (BadText (len - length d.rest)))
 
--- where class lines end, in a file of len bytes
-abbrev pub classes_end : ℕ → Defined → ClassesEnd
-classes_end len d = record { ok = d.ok; at = len - length d.rest }
-
--- `before` literal rules with those of a rule more; 0 where a class that it uses is undefined, or where they are more than 512
-abbrev pub total_with : ℕ → Classes → Production → ℕ
-total_with before k r = cond (defined k r && leb (before + literal_count k r) max_rules) (before + literal_count k r) 0
-
-abbrev pub none_ruled : Ruled
-none_ruled = record { ok = false; entry = numbered_of no_entry }
+-- `before` literal rules with those of a rule more; none where a class that it uses is undefined, or where they are more than 512
+abbrev pub total_with : ℕ → Classes → Production → Option ℕ
+total_with before k r = cond (defined k r && leb (before + literal_count k r) max_rules) (Some (before + literal_count k r)) None
 
 -- the rule of a frame: of the shape, with a number from 1 to last
-abbrev pub ruled_in : ℕ → List ℕ → Ruled
-ruled_in last f = cond (is_rule f && entry last (entry_in f)) (record { ok = true; entry = numbered_of (entry_in f) }) none_ruled
+abbrev pub ruled_in : ℕ → List ℕ → Option Numbered
+ruled_in last f = cond (is_rule f && entry last (entry_in f)) (Some (numbered_of (entry_in f))) None
 
--- the rule of a line, in a file of len bytes
-abbrev pub rule_at : ℕ → ℕ → Parsed → RuleLine
-rule_at last len Bad = record { sound = false; next = 0; ruled = none_ruled }
-rule_at last len (Good f rest) = record { sound = true; next = len - length rest; ruled = ruled_in last f }
+-- the rule of a line at a place, in a file of len bytes
+abbrev pub rule_at : ℕ → ℕ → ℕ → Parsed → Result RuleLine Refusal
+rule_at at last len Bad = Err (BadLine at)
+rule_at at last len (Good f rest) =
+    cond (is_rule f && entry last (entry_in f)) (Ok (record { next = len - length rest; entry = numbered_of (entry_in f) })) (Err (BadText at))
 
 -- a frame is that of a rule of the shape
 abbrev pub rule_frame : List ℕ → Bool

@@ -10,7 +10,7 @@ use frames::writer;
 use frames::writer::Writer;
 
 // The bytes of the lines of a head, and of a class without its letters: two digits for each byte of the frame, and 0A.
-const HEAD_LINE: usize = 2 * file_format::HEAD + 1;
+pub const HEAD_LINE: usize = 2 * file_format::HEAD + 1;
 
 const CLASS_FRONT_LINE: usize = 2 * (file_format::LETTERS + 1) + 1;
 
@@ -63,11 +63,9 @@ pub fn write_classes(masks: &[u8], pairs: &[u8], out: &mut [u8]) -> usize
     ensures bytes { out.new ≡ over_at head_line_size (class_lines (classes_in masks.now)) out.old }
 {
     let mut at: usize = HEAD_LINE;
-    let mut symbol = rules::FIRST_CLASS;
-    while symbol <= rules::MAX_SYMBOL {
+    for symbol in rules::FIRST_CLASS..=rules::MAX_SYMBOL {
         let mask = classes::storing::mask_at(masks, symbol);
         at = write_class(mask, symbol, pairs, &mut *out, at);
-        symbol += 1;
     }
     at
 }
@@ -88,10 +86,8 @@ pub fn classes_size(masks: &[u8]) -> usize
     ensures { (result ≡ length (class_lines (classes_in masks.now))) × (result ≤ 4384) }
 {
     let mut n: usize = 0;
-    let mut symbol = rules::FIRST_CLASS;
-    while symbol <= rules::MAX_SYMBOL {
+    for symbol in rules::FIRST_CLASS..=rules::MAX_SYMBOL {
         n += class_size(classes::storing::mask_at(masks, symbol), symbol);
-        symbol += 1;
     }
     n
 }

@@ -14,35 +14,32 @@ ghost use Rattle.rules.specs.Refusals.{reply_of, report_of};
 ghost use Rattle.image.specs.Image.{outcome};
 ghost use Rattle.file.specs.Loading.{loaded, filing, filed};
 
-use rules::{Answer, Refusal, Written};
+use rules::Refusal;
 
 // A file read into lent memory, which holds its ruleset afterwards. The whole file is judged before the first byte is stored: refusals 0,
 // 13 and 14 leave the memory as it was.
-pub fn read_file(file: &[u8], image: &mut [u8]) -> Answer
+pub fn read_file(file: &[u8], image: &mut [u8]) -> Result<(), Refusal>
     ensures { outcome (reply_of result) image.new ≡ loaded file.now image.old }
 {
     if image.len() < image::SIZE {
-        return Answer::Refused(Refusal::NotRuleset(0));
+        return Err(Refusal::NotRuleset(0));
     }
-    let answer = loading::judge(file);
-    if let Answer::Refused(why) = answer {
-        return Answer::Refused(why);
-    }
+    loading::judge(file)?;
     loading::store_file(file, image);
-    Answer::Accepted
+    Ok(())
 }
 
 // The file of a ruleset, at the front of lent bytes. Refusals 0 and 15 leave them as they were.
-pub fn write_file(image: &[u8], out: &mut [u8]) -> Written
+pub fn write_file(image: &[u8], out: &mut [u8]) -> Result<usize, Refusal>
     ensures { filing (report_of result) out.new ≡ filed image.now out.old }
 {
     if !image::is_ruleset(image) {
-        return Written::Refused(Refusal::NotRuleset(0));
+        return Err(Refusal::NotRuleset(0));
     }
     let needed = writing::file_size(image);
     if out.len() < needed {
-        return Written::Refused(Refusal::FileRoom(needed));
+        return Err(Refusal::FileRoom(needed));
     }
     writing::write_ruleset(image, out);
-    Written::Bytes(needed)
+    Ok(needed)
 }

@@ -12,7 +12,7 @@ ghost use Rattle.file_format.specs.File.{read_rules, readFile};
 ghost use Rattle.file.specs.Loading.{ledger_for, verdict, described, RulesFrom, rule_frame, with_rules};
 
 use crate::{defining, heading, parsing};
-use rules::{Answer, Refusal};
+use rules::Refusal;
 
 // Whether a set of numbers, a bit for each, holds n; then it does.
 fn mark(seen: &mut [u64], n: u16) -> bool
@@ -35,58 +35,36 @@ fn judge_rules(
     last: u16,
     masks: &[u8],
     seen: &mut [u64],
-) -> Answer
+) -> Result<(), Refusal>
     requires { (from ≤ length file.now) × ((masks_size ≤ length masks.now) × (seen.old ≡ replicate 1024 0)) }
     ensures { reply_of result ≡ verdict (read_rules (length file.now) last (classes_in masks.now) count [] (drop from file.now)) }
 {
     let mut at = from;
     let mut total: usize = 0;
-    let mut i: usize = 0;
-    while i < count {
-        let line = parsing::read_rule(file, at, last);
-        if !line.sound {
-            return Answer::Refused(Refusal::BadLine(at));
-        }
-        let ruled = line.ruled;
-        if !ruled.ok {
-            return Answer::Refused(Refusal::BadText(at));
-        }
-        let entry = ruled.entry;
+    for _ in 0..count {
+        let line = parsing::read_rule(file, at, last)?;
+        let entry = line.entry;
         if mark(&mut *seen, entry.number) {
-            return Answer::Refused(Refusal::BadText(at)); // its later line
+            return Err(Refusal::BadText(at)); // its later line
         }
-        total = parsing::total_with(total, masks, entry.rule);
-        if total == 0 {
-            return Answer::Refused(Refusal::BadText(at)); // its literal rules
-        }
+        total = parsing::total_with(total, masks, entry.rule).ok_or(Refusal::BadText(at))?; // its literal rules
         at = line.next;
-        i += 1;
     }
     if at < file.len() {
-        return Answer::Refused(Refusal::BadText(at));
+        return Err(Refusal::BadText(at));
     }
-    Answer::Accepted
+    Ok(())
 }
 
 // The whole file, judged: refusals 13 and 14.
-pub fn judge(file: &[u8]) -> Answer
+pub fn judge(file: &[u8]) -> Result<(), Refusal>
     ensures { reply_of result ≡ verdict (readFile file.now) }
 {
-    let line = heading::read_head(file);
-    if !line.sound {
-        return Answer::Refused(Refusal::BadLine(0));
-    }
-    let head = line.head;
-    if !head.ok {
-        return Answer::Refused(Refusal::BadText(0));
-    }
+    let head = heading::read_head(file)?;
     let mut masks = [0u8; classes::MASKS_SIZE];
-    let defined = defining::read_classes(file, line.next, &mut masks);
-    if !defined.ok {
-        return Answer::Refused(Refusal::BadText(defined.at));
-    }
+    let at = defining::read_classes(file, head.next, &mut masks)?;
     let mut seen = [0u64; 1024];
-    judge_rules(file, defined.at, head.count, head.last, &masks, &mut seen)
+    judge_rules(file, at, head.count, head.last, &masks, &mut seen)
 }
 
 // The rule of a line that was judged, put into its slot without judging it again, and where the next line starts.
@@ -109,10 +87,8 @@ fn store_rules(file: &[u8], from: usize, count: usize, last: u16, image: &mut [u
     ensures { image.new ≡ with_rules 0 (map numbered_of (described (readFile file.now)).rules) image.old }
 {
     let mut at = from;
-    let mut i: usize = 0;
-    while i < count {
+    for i in 0..count {
         at = store_rule(file, at, i, &mut *image);
-        i += 1;
     }
 }
 
@@ -121,12 +97,15 @@ pub fn store_file(file: &[u8], image: &mut [u8])
     requires { (image_size ≤ length image.old) × (verdict (readFile file.now) ≡ accepted) }
     ensures { image.new ≡ whole (ledger_for (described (readFile file.now))) image.old }
 {
-    let line = heading::read_head(file);
-    let head = line.head;
+    let Ok(head) = heading::read_head(file) else {
+        unreachable!()
+    };
     let mut masks = [0u8; classes::MASKS_SIZE];
-    let defined = defining::read_classes(file, line.next, &mut masks);
+    let Ok(at) = defining::read_classes(file, head.next, &mut masks) else {
+        unreachable!()
+    };
     image::put_head(&mut *image, head.count, head.last, 0);
-    store_rules(file, defined.at, head.count, head.last, &mut *image);
+    store_rules(file, at, head.count, head.last, &mut *image);
     image::class_bytes::put_classes(&mut *image, &masks);
     image::table::settle(image);
 }

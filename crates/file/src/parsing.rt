@@ -1,28 +1,20 @@
 // The lines of a rule file after its classes: a rule in each.
-ghost use Rattle.std.specs.Prelude.{◌≡◌, true, ◌≤◌, length, drop};
+ghost use Rattle.std.specs.Prelude.{◌≡◌, true, ◌≤◌, IfSome, length, drop};
 ghost use Rattle.rules.specs.Limits.{max_rules};
 ghost use Rattle.rules.specs.Shape.{view, shape};
 ghost use Rattle.classes.specs.Masks.{masks_size, classes_in};
 ghost use Rattle.frames.specs.Lines.{sound_line, decoded};
 ghost use Rattle.file_format.specs.Layout.{longest_frame, entry_in, numbered_of};
 ghost use Rattle.file_format.specs.File.{is_rule};
-ghost use Rattle.file.specs.Loading.{none_ruled, rule_frame, ruled_in, rule_at, total_with};
+ghost use Rattle.file.specs.Loading.{rule_frame, ruled_in, rule_at, total_with};
 
-use rules::{Numbered, Rule};
+use rules::{Numbered, Refusal, Rule};
 
-// A rule that was read from a frame.
-#[derive(Clone, Copy)]
-pub struct Ruled {
-    pub ok: bool,
-    pub entry: Numbered,
-}
-
-// A line after the first.
+// A rule line: where the next one starts, and its rule with its number.
 #[derive(Clone, Copy)]
 pub struct RuleLine {
-    pub sound: bool,
     pub next: usize,
-    pub ruled: Ruled,
+    pub entry: Numbered,
 }
 
 // Whether a frame has a rule's type and length.
@@ -60,69 +52,49 @@ pub fn frame_size(file: &[u8], at: usize) -> usize
     file_format::FRONT + (l + (t + (r + p))) + 1
 }
 
-fn no_rule() -> Ruled
-    ensures { result ≡ none_ruled }
-{
-    let rule = rule_bytes::blank();
-    let entry = Numbered { number: 0, rule };
-    Ruled { ok: false, entry }
-}
-
 // The rule of a frame: of the shape, with a number from 1 to `last`.
-fn ruled_in(f: &[u8], last: u16) -> Ruled
+fn ruled_in(f: &[u8], last: u16) -> Option<Numbered>
     ensures { result ≡ ruled_in last f.now }
 {
     if !is_rule(f) {
-        return no_rule();
+        return None;
     }
     let entry = entry_in(f);
     if !rules::well_shaped(entry.rule) {
-        return no_rule();
+        return None;
     }
     if entry.number < 1 {
-        return no_rule();
+        return None;
     }
     if last < entry.number {
-        return no_rule();
+        return None;
     }
-    Ruled { ok: true, entry }
+    Some(entry)
 }
 
-// The rule line that starts at a place.
-pub fn read_rule(file: &[u8], at: usize, last: u16) -> RuleLine
-    ensures { result ≡ rule_at last (length file.now) (sound_line (drop at file.now)) }
+// The rule line that starts at a place: refusals 13 and 14.
+pub fn read_rule(file: &[u8], at: usize, last: u16) -> Result<RuleLine, Refusal>
+    ensures { result ≡ rule_at at last (length file.now) (sound_line (drop at file.now)) }
 {
     let mut frame = [0u8; file_format::LONGEST];
-    let line = frames::read_line(file, at, &mut frame);
-    if !line.sound {
-        let ruled = no_rule();
-        return RuleLine {
-            sound: false,
-            next: 0,
-            ruled,
-        };
-    }
+    let Some(line) = frames::read_line(file, at, &mut frame) else {
+        return Err(Refusal::BadLine(at));
+    };
     let n = line.len;
     if file_format::LONGEST < n {
-        let ruled = no_rule();
-        return RuleLine {
-            sound: true,
-            next: line.next,
-            ruled,
-        };
+        return Err(Refusal::BadText(at));
     }
-    let ruled = ruled_in(&frame[..n], last);
-    RuleLine {
-        sound: true,
-        next: line.next,
-        ruled,
-    }
+    let Some(entry) = ruled_in(&frame[..n], last) else {
+        return Err(Refusal::BadText(at));
+    };
+    let next = line.next;
+    Ok(RuleLine { next, entry })
 }
 
-// `before` literal rules with those of a rule more: 0 where a class that it uses is undefined, or where they are more than 512.
-pub fn total_with(before: usize, masks: &[u8], rule: Rule) -> usize
+// `before` literal rules with those of a rule more: none where a class that it uses is undefined, or where they are more than 512.
+pub fn total_with(before: usize, masks: &[u8], rule: Rule) -> Option<usize>
     requires { (before ≤ max_rules) × ((masks_size ≤ length masks.now) × (shape (view rule) ≡ true)) }
-    ensures { (result ≡ total_with before (classes_in masks.now) (view rule)) × (result ≤ max_rules) }
+    ensures { (result ≡ total_with before (classes_in masks.now) (view rule)) × IfSome result (λ n. n ≤ max_rules) }
 {
     let left = rule.left;
     let right = rule.right;
@@ -130,10 +102,10 @@ pub fn total_with(before: usize, masks: &[u8], rule: Rule) -> usize
     let r = numbers::wide(rule.right_len);
     let count = classes::runs::literal_count(masks, &left[..l], &right[..r]);
     if count < 1 {
-        return 0;
+        return None;
     }
     if rules::MAX_RULES < before + count {
-        return 0;
+        return None;
     }
-    before + count
+    Some(before + count)
 }

@@ -12,9 +12,7 @@ use crate::class_writing;
 use frames::writer;
 use frames::writer::Writer;
 
-// The bytes of the line of a frame of n bytes: two digits each, and 0A. Those of a head's, and of a rule's without its fields.
-const HEAD_LINE: usize = 2 * file_format::HEAD + 1;
-
+// The bytes of the line of a rule's frame without its fields: two digits each, and 0A.
 const FRONT_LINE: usize = 2 * (file_format::FRONT + 1) + 1;
 
 // A field's length.
@@ -133,10 +131,8 @@ fn write_rules(image: &[u8], pairs: &[u8], out: &mut [u8], from: usize)
 {
     let count = image::rule_count(image);
     let mut at = from;
-    let mut i: usize = 0;
-    while i < count {
+    for i in 0..count {
         at = write_rule(image, i, pairs, &mut *out, at);
-        i += 1;
     }
 }
 
@@ -171,11 +167,10 @@ pub fn file_size(image: &[u8]) -> usize
     ensures { result ≡ length (encode (ruleset_in image.now)) }
 {
     let count = image::rule_count(image);
-    let mut n: usize = HEAD_LINE + class_writing::classes_size(image::class_bytes::masks(image));
-    let mut i: usize = 0;
-    while i < count {
+    let mut n: usize = class_writing::HEAD_LINE
+        + class_writing::classes_size(image::class_bytes::masks(image));
+    for i in 0..count {
         n += rule_size(image, i);
-        i += 1;
     }
     n
 }

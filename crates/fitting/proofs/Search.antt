@@ -15,7 +15,8 @@ use Rattle.image.specs.Image.{entries_of, valid, entry_at, count_of, classes_of}
 use Rattle.image.proofs.Entries.{entry_shaped, entries_length}
 use Rattle.fitting.specs.Fitting.{Str, fits_by}
 use Rattle.fitting.specs.Reading.{Application, apply, chosen, nothing, unusable, past, Targets, passing, first_rule, first_fit}
-use Rattle.fitting.specs.declared.Fit.TheVariants.{Rule, Nothing}
+use Rattle.fitting.specs.declared.Fit.{Fit}
+use Rattle.std.specs.Prelude.{Some, None}
 use Rattle.fitting.specs.Search.{FitAt}
 
 pub valid_targets : (d : List ℕ) → valid d ≡ true → Targets (entries_of d)
@@ -137,10 +138,10 @@ module _ (d : List ℕ) (f : Str) (i : ℕ) where
         ap (first_rule test n) at_front ∙ ap (λ (c : Bool). cond c (chosen (apply n (entry_at d p))) (first_rule test n (drop (p + 1) (entries_of d)))) y
 
     module _ (s : Searched p) where
-      pub search_found : fits_by (classes_of d) (entry_at d p).rule f i ≡ true → (n : ℕ) → n ≡ fits_from p → FitAt d f i (Rule p n)
+      pub search_found : fits_by (classes_of d) (entry_at d p).rule f i ≡ true → (n : ℕ) → n ≡ fits_from p → FitAt d f i (Some (record { place = p; fitting = n }))
       search_found y n e = record {
         choice = s.choice ∙ (first_next (fits_from 0) true y ∙ ap (λ (k : ℕ). chosen (apply k (entry_at d p))) (s.many ∙ sym e));
-        inside = λ q m u. let g : p ≡ q = cc in let k : n ≡ m = cc in (omega arith, omega (arith, fits_most p));
+        inside = λ x u. let g : ◌≡◌ {A = Fit} (record { place = p; fitting = n }) x = cc in (rw (← g) (omega arith), rw (← g) (omega (arith, fits_most p)));
       }
 
       pub search_next : fits_by (classes_of d) (entry_at d p).rule f i ≡ false → Searched (p + 1)
@@ -149,8 +150,8 @@ module _ (d : List ℕ) (f : Str) (i : ℕ) where
         many = s.many ∙ (count_next false y ∙ omega arith);
       }
 
-  pub search_none : (p : ℕ) → Searched p → count_of d ≤ p → FitAt d f i Nothing
+  pub search_none : (p : ℕ) → Searched p → count_of d ≤ p → FitAt d f i None
   search_none p s h = record {
     choice = s.choice ∙ ap (first_rule test (fits_from 0)) (drop_of_length-le (entries_of d) {i = p} (omega (arith, entries_length d)));
-    inside = λ q m u. let z : ◌≡◌ {A = ℕ} 0 1 = cc in absurd (omega arith);
+    inside = λ x u. let z : ◌≡◌ {A = ℕ} 0 1 = cc in absurd (omega arith);
   }

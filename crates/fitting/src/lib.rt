@@ -6,30 +6,15 @@ ghost use Rattle.std.specs.Prelude.{◌≡◌, true, ◌+◌, ◌<◌, ◌≤◌
 ghost use Rattle.rules.specs.Limits.{max_target};
 ghost use Rattle.classes.specs.Masks.{masks_size, classes_in};
 ghost use Rattle.image.specs.Image.{count_of, entries_of, entry_at, masks_in, classes_of, valid};
-ghost use Rattle.fitting.specs.Fitting.{same, starts, same_by, starts_by, ends_by, fits_by};
+ghost use Rattle.fitting.specs.Fitting.{starts, same_by, starts_by, ends_by, fits_by};
 ghost use Rattle.fitting.specs.Reading.{passing};
 ghost use Rattle.fitting.specs.Search.{FitAt};
 
 // A rule that fits, by its place, and how many rules fit there.
 #[derive(Clone, Copy)]
-pub enum Fit {
-    Rule(usize, usize),
-    Nothing,
-}
-
-// Whether `b` has the symbols of `a` from `at` on.
-fn same_run(a: &[u8], b: &[u8], at: usize) -> bool
-    requires { at + length a.now ≤ length b.now }
-    ensures { result ≡ same a.now (take (length a.now) (drop at b.now)) }
-{
-    let mut i = 0;
-    while i < a.len() {
-        if a[i] != b[at + i] {
-            return false;
-        }
-        i += 1;
-    }
-    true
+pub struct Fit {
+    pub place: usize,
+    pub fitting: usize,
 }
 
 // Whether the frame starts, from `i` on, with a pattern.
@@ -37,10 +22,7 @@ pub fn starts_at(pattern: &[u8], frame: &[u8], i: usize) -> bool
     requires { i ≤ length frame.now }
     ensures { result ≡ starts pattern.now (drop i frame.now) }
 {
-    if frame.len() - i < pattern.len() {
-        return false;
-    }
-    same_run(pattern, frame, i)
+    frame[i..].starts_with(pattern)
 }
 
 // Whether the symbols of a context stand for the letters of the frame from `at` on.
@@ -48,12 +30,10 @@ fn same_by(masks: &[u8], context: &[u8], frame: &[u8], at: usize) -> bool
     requires { (masks_size ≤ length masks.now) × (at + length context.now ≤ length frame.now) }
     ensures { result ≡ same_by (classes_in masks.now) context.now (take (length context.now) (drop at frame.now)) }
 {
-    let mut i = 0;
-    while i < context.len() {
-        if !classes::symbols::stands_for(masks, context[i], frame[at + i]) {
+    for (i, &symbol) in context.iter().enumerate() {
+        if !classes::symbols::stands_for(masks, symbol, frame[at + i]) {
             return false;
         }
-        i += 1;
     }
     true
 }
@@ -128,28 +108,25 @@ fn count_fits(
     ensures { result ≡ passing (λ e. fits_by (classes_of image.now) e.rule frame.now i) (drop from (entries_of image.now)) }
 {
     let mut fitting = 0;
-    let mut p = from;
-    while p < count {
+    for p in from..count {
         if fits_by(image, masks, p, frame, i) {
             fitting += 1;
         }
-        p += 1;
     }
     fitting
 }
 
 // The first rule in order that fits at `i`, and how many do: none before it.
-pub fn first_fit(image: &[u8], count: usize, frame: &[u8], i: usize) -> Fit
+pub fn first_fit(image: &[u8], count: usize, frame: &[u8], i: usize) -> Option<Fit>
     requires { (valid image.now ≡ true) × ((count ≡ count_of image.now) × (i ≤ length frame.now)) }
     ensures { FitAt image.now frame.now i result }
 {
     let masks = image::class_bytes::masks(image);
-    let mut p = 0;
-    while p < count {
-        if fits_by(image, masks, p, frame, i) {
-            return Fit::Rule(p, count_fits(image, masks, count, frame, i, p));
+    for place in 0..count {
+        if fits_by(image, masks, place, frame, i) {
+            let fitting = count_fits(image, masks, count, frame, i, place);
+            return Some(Fit { place, fitting });
         }
-        p += 1;
     }
-    Fit::Nothing
+    None
 }

@@ -1,6 +1,7 @@
 -- What the report of a line tells: of a sound one its frame, what follows it, and that the frame stands in the lent bytes that hold it.
 -- Assumes nothing.
-use Rattle.std.proofs.Common.{◌≡◌, ℕ, ◌+◌, ◌-◌, ◌*◌, ◌%◌, ◌≤◌, true, false, eqb, ltb, leb, List, [], ◌∷◌, length, take, drop, sym, refl, ap, ◌∙◌, arith, length-append, length-drop, take_all, drop-drop}
+use Rattle.std.proofs.Common.{◌≡◌, ℕ, ◌+◌, ◌-◌, ◌*◌, ◌%◌, ◌≤◌, eqb, ltb, leb, List, [], ◌∷◌, length, take, drop, sym, refl, ap, ◌∙◌, arith, length-append, length-drop, take_all, drop-drop}
+use Rattle.std.specs.Prelude.{Some, None}
 use lib.Seq.{drop-append_seam, take-append_seam}
 use Rattle.rules.specs.Memory.{over}
 use Rattle.rules.proofs.Cases.{by_bool}
@@ -55,35 +56,40 @@ pub record Found (text : List ℕ) (at : ℕ) (line : Line) : Type 0 where
   pub onward : drop line.next text ≡ rest
   pub within : line.next ≤ length text
 
-module _ (text : List ℕ) (at : ℕ) (line : Line) where
-  found_by : (l : Parsed) → sound_line (drop at text) ≡ l → line ≡ report (length text) l → line.sound ≡ true → Found text at line
-  found_by Bad p e s = let q = ap (λ (r : Line). r.sound) e in let z : ◌≡◌ {A = ℕ} 0 1 = cc in absurd (omega arith)
-  found_by (Good f rest) p e s =
+module _ (text : List ℕ) (at : ℕ) where
+  -- what follows a sound line
+  pub past_sound : (f rest : List ℕ) → sound_line (drop at text) ≡ Good f rest → drop (length text - length rest) text ≡ rest
+  past_sound f rest p =
       let w = (sound_was (drop at text) f rest p).was in
       let n : length text - at ≡ length (line_of f) + length rest = sym (length-drop at text) ∙ (ap length w ∙ length-append (line_of f) rest) in
-      let m : line.next ≡ at + length (line_of f) = omega (arith, ap (λ (r : Line). r.next) e, length_line f) in
+      let m : length text - length rest ≡ at + length (line_of f) = omega (arith, length_line f) in
+      ap (λ (k : ℕ). drop k text) m
+      ∙ (sym (drop-drop (length (line_of f)) at text) ∙ (ap (drop (length (line_of f))) w ∙ drop-append_seam (line_of f) rest))
+
+  found_by : (line : Line) (l : Parsed) → sound_line (drop at text) ≡ l → Some line ≡ report (length text) l → Found text at line
+  found_by line Bad p e = let z : ◌≡◌ {A = ℕ} 0 1 = cc in absurd (omega arith)
+  found_by line (Good f rest) p e =
+      let r : line ≡ record { next = length text - length rest; len = length f } = cc in
+      let n = ap (λ (r : Line). r.next) r in
       record {
         f = f;
         rest = rest;
         is = p;
-        many = ap (λ (r : Line). r.len) e;
-        next = ap (λ (r : Line). r.next) e;
-        onward =
-            ap (λ (k : ℕ). drop k text) m
-            ∙ (sym (drop-drop (length (line_of f)) at text) ∙ (ap (drop (length (line_of f))) w ∙ drop-append_seam (line_of f) rest));
-        within = omega (arith, length_line f);
+        many = ap (λ (r : Line). r.len) r;
+        next = n;
+        onward = ap (λ (k : ℕ). drop k text) n ∙ past_sound f rest p;
+        within = omega (arith, n);
       }
 
-  bad_by : (l : Parsed) → sound_line (drop at text) ≡ l → line ≡ report (length text) l → line.sound ≡ false → sound_line (drop at text) ≡ Bad
-  bad_by Bad p e s = p
-  bad_by (Good f rest) p e s = let q = ap (λ (r : Line). r.sound) e in let z : ◌≡◌ {A = ℕ} 0 1 = cc in absurd (omega arith)
+  bad_by : (l : Parsed) → sound_line (drop at text) ≡ l → None ≡ report (length text) l → sound_line (drop at text) ≡ Bad
+  bad_by Bad p e = p
+  bad_by (Good f rest) p e = let z : ◌≡◌ {A = ℕ} 0 1 = cc in absurd (omega arith)
 
-  module _ (e : line ≡ report (length text) (sound_line (drop at text))) where
-    pub found : line.sound ≡ true → Found text at line
-    found = found_by (sound_line (drop at text)) refl e
+  pub found : (line : Line) → Some line ≡ report (length text) (sound_line (drop at text)) → Found text at line
+  found line = found_by line (sound_line (drop at text)) refl
 
-    pub not_found : line.sound ≡ false → sound_line (drop at text) ≡ Bad
-    not_found = bad_by (sound_line (drop at text)) refl e
+  pub not_found : None ≡ report (length text) (sound_line (drop at text)) → sound_line (drop at text) ≡ Bad
+  not_found = bad_by (sound_line (drop at text)) refl
 
 -- the frame of a sound line, where the lent bytes hold it
 pub frame_held : (s f rest xs z : List ℕ) → sound_line s ≡ Good f rest → z ≡ over (take (length xs) (decoded s)) xs → length f ≤ length xs → take (length f) z ≡ f

@@ -1,12 +1,12 @@
 -- What the scan of a line has found so far: what remains from here gives the whole line, and the frame's bytes so far stand in the lent ones.
 -- Assumes nothing.
 use Rattle.std.proofs.Common.{◌≡◌, ℕ, zero, suc, ◌+◌, ◌-◌, ◌%◌, ◌<◌, ◌≤◌, Bool, true, false, cond, eqb, leb, List, [], ◌∷◌, ◌++◌, length, get_or, take, drop, set, sym, refl, ap, ◌∙◌, ap₂, append_assoc, append-nil, add-one, arith, length-append, length-drop, drop_of_length-le, length-take, length-take-le, get_or-drop, take_all, drop-cons, drop-drop, eq-eqb, ne_eqb, eqb-true, leb-false, leb-true}
+use Rattle.std.specs.Prelude.{Some, None}
 use borrow.Author.Tests.{eqb-false}
 use lib.Seq.{take-append-le, set_out}
 use Rattle.rules.specs.Memory.{over}
 use Rattle.rules.proofs.Memory.{over_length, over_snoc}
 use Rattle.rules.proofs.Cases.{by_bool}
-use Rattle.frames.specs.declared.Pair.{Pair}
 use Rattle.frames.specs.Lines.{total, complement, Parsed, after, guard, read_line, checked, sound_line, pair_of, decoded, report, past_line, line_after}
 use Rattle.frames.specs.Lines.Parsed.{Bad, Good}
 use Rattle.frames.proofs.Lines.{total_append}
@@ -101,14 +101,14 @@ module _ (s : List ℕ) (at : ℕ) (xs frame : List ℕ) (sum last len i : ℕ) 
       let d : decoded (drop at s) ≡ c.done = c.bytes ∙ (ap (λ (l : List ℕ). c.done ++ l) e ∙ append-nil c.done) in
       c.stored ∙ ap (λ (l : List ℕ). over (take (length xs) l) xs) (sym d)
 
-  unsound : read_line (drop i s) ≡ Bad → report 0 Bad ≡ report (length s) (sound_line (drop at s))
+  unsound : read_line (drop i s) ≡ Bad → None ≡ report (length s) (sound_line (drop at s))
   unfolding sound_line
   unsound r =
       let a : read_line (drop at s) ≡ Bad = c.ahead ∙ (ap (after_all c.done) r ∙ after_bad c.done) in
       ap (λ (l : Parsed). report (length s) (checked l)) (sym a)
 
   -- the text ends inside the line
-  pub out_line : length s ≤ i → report 0 Bad ≡ report (length s) (sound_line (drop at s))
+  pub out_line : length s ≤ i → None ≡ report (length s) (sound_line (drop at s))
   out_line h = unsound (rw (drop_of_length-le s h))
 
   pub out_bytes : length s ≤ i → frame ≡ over (take (length xs) (decoded (drop at s))) xs
@@ -121,7 +121,7 @@ module _ (s : List ℕ) (at : ℕ) (xs frame : List ℕ) (sum last len i : ℕ) 
     end_bytes e = shut (decoded_end (drop i s) (at_front ∙ e))
 
     pub end_line : get_or s i 0 ≡ 10
-        → cond (leb 2 len) (cond (eqb last (complement sum)) (record { sound = true; next = i + 1; len = len }) (report 0 Bad)) (report 0 Bad) ≡ report (length s) (sound_line (drop at s))
+        → cond (leb 2 len) (cond (eqb last (complement sum)) (Some (record { next = i + 1; len = len })) None) None ≡ report (length s) (sound_line (drop at s))
     unfolding sound_line
     end_line e =
         let f = c.done in
@@ -132,32 +132,28 @@ module _ (s : List ℕ) (at : ℕ) (xs frame : List ℕ) (sum last len i : ℕ) 
         rw (n, ← c.counted, ends_sum sum last c.sum-byte c.last_byte, ← c.summed)
         (guarded (length s) (leb 2 (length f)) (eqb (total f % 256) 0) (Good f rest) ∙ ap (λ (m : Parsed). report (length s) (checked m)) (sym a))
 
-    module _ (ne : get_or s i 0 ≡ 10 → ⊥) (p : Pair) (e : p ≡ pair_of (drop i s)) where
+    module _ (ne : get_or s i 0 ≡ 10 → ⊥) where
       front_ne : get_or (drop i s) 0 0 ≡ 10 → ⊥
       front_ne q = ne (sym at_front ∙ q)
 
       -- no pair of digits stands here
-      pub fault_line : p.ok ≡ false → report 0 Bad ≡ report (length s) (sound_line (drop at s))
-      fault_line t = unsound (read_unpaired (drop i s) front_ne (ap (λ (q : Pair). q.ok) (sym e) ∙ t))
+      pub fault_line : None ≡ pair_of (drop i s) → None ≡ report (length s) (sound_line (drop at s))
+      fault_line e = unsound (read_unpaired (drop i s) front_ne e)
 
-      pub fault_bytes : p.ok ≡ false → frame ≡ over (take (length xs) (decoded (drop at s))) xs
-      fault_bytes t = shut (decoded_unpaired (drop i s) front_ne (ap (λ (q : Pair). q.ok) (sym e) ∙ t))
+      pub fault_bytes : None ≡ pair_of (drop i s) → frame ≡ over (take (length xs) (decoded (drop at s))) xs
+      fault_bytes e = shut (decoded_unpaired (drop i s) front_ne e)
 
-      module _ (t : p.ok ≡ true) where
-        ok : (pair_of (drop i s)).ok ≡ true
-        ok = ap (λ (q : Pair). q.ok) (sym e) ∙ t
-
+      module _ (b : ℕ) (e : Some b ≡ pair_of (drop i s)) where
         pub scan_room : i + 2 ≤ length s
-        scan_room = omega (arith, pair_room (drop i s) ok, length-drop i s)
+        scan_room = omega (arith, pair_room b (drop i s) e, length-drop i s)
 
-        pub scan_next : (r : ℕ) → r ≡ (sum + last) % 256 → p.byte < 256 → (z : List ℕ) → z ≡ set frame len p.byte → Scan s at xs z r p.byte (len + 1) (i + 2)
+        pub scan_next : (r : ℕ) → r ≡ (sum + last) % 256 → b < 256 → (z : List ℕ) → z ≡ set frame len b → Scan s at xs z r b (len + 1) (i + 2)
         scan_next r q v z w =
-            let b = p.byte in
             let f = c.done in
             let l : read_line (drop i s) ≡ after b (read_line (drop (i + 2) s)) =
-            read_pair (drop i s) front_ne ok ∙ ap₂ (λ (x : ℕ) (m : List ℕ). after x (read_line m)) (ap (λ (y : Pair). y.byte) (sym e)) (drop-drop 2 i s) in
+            read_pair b (drop i s) front_ne e ∙ ap (λ (m : List ℕ). after b (read_line m)) (drop-drop 2 i s) in
             let d : decoded (drop i s) ≡ b ∷ decoded (drop (i + 2) s) =
-            decoded_pair (drop i s) front_ne ok ∙ ap₂ (λ (x : ℕ) (m : List ℕ). x ∷ decoded m) (ap (λ (y : Pair). y.byte) (sym e)) (drop-drop 2 i s) in
+            decoded_pair b (drop i s) front_ne e ∙ ap (λ (m : List ℕ). b ∷ decoded m) (drop-drop 2 i s) in
             record {
               done = f ++ (b ∷ []);
               ahead = c.ahead ∙ (ap (after_all f) l ∙ sym (after_snoc f b (read_line (drop (i + 2) s))));

@@ -1,9 +1,8 @@
 -- A line of document 01's files: a frame of bytes in upper-case hexadecimal, ended by 0A. The last byte of a frame, its checksum,
 -- makes all its bytes add to zero modulo 256.
 -- Assumes nothing.
-use Rattle.std.specs.Prelude.{ℕ, ◌+◌, ◌-◌, ◌*◌, ◌/◌, ◌%◌, Bool, true, false, cond, List, [], ◌∷◌, ◌++◌, length, drop, ◌==◌, nat_le, nat_lt}
+use Rattle.std.specs.Prelude.{ℕ, ◌+◌, ◌-◌, ◌*◌, ◌/◌, ◌%◌, Bool, true, false, cond, List, [], ◌∷◌, ◌++◌, length, drop, ◌==◌, nat_le, nat_lt, Option, Some, None}
 use Rattle.frames.specs.declared.Line.{Line}
-use Rattle.frames.specs.declared.Pair.{Pair}
 
 -- the digit of a number below 16
 unfoldable pub digit : ℕ → ℕ
@@ -67,13 +66,11 @@ sound_line s = checked (read_line s)
 
 -- ---- what the functions give
 
--- two digits at the front of a list: whether they are, and their byte
-abbrev pub pair_of : List ℕ → Pair
-pair_of [] = record { ok = false; byte = 0 }
-pair_of (a ∷ []) = record { ok = false; byte = 0 }
-pair_of (a ∷ b ∷ s) =
-    cond (nat_lt (value a) 16) (cond (nat_lt (value b) 16) (record { ok = true; byte = 16 * value a + value b }) (record { ok = false; byte = 0 }))
-    (record { ok = false; byte = 0 })
+-- the byte of two digits at the front of a list
+abbrev pub pair_of : List ℕ → Option ℕ
+pair_of [] = None
+pair_of (a ∷ []) = None
+pair_of (a ∷ b ∷ s) = cond (nat_lt (value a) 16) (cond (nat_lt (value b) 16) (Some (16 * value a + value b)) None) None
 
 -- the bytes from a line's start on, up to its end or to the first fault
 unfoldable pub decoded : List ℕ → List ℕ
@@ -83,9 +80,9 @@ decoded (a ∷ b ∷ s) =
     cond (a == 10) [] (cond (nat_lt (value a) 16) (cond (nat_lt (value b) 16) ((16 * value a + value b) ∷ decoded s) []) [])
 
 -- a line as it is reported, in a text of len bytes: where the next line starts, and how many bytes its frame has
-abbrev pub report : ℕ → Parsed → Line
-report len Bad = record { sound = false; next = 0; len = 0 }
-report len (Good f rest) = record { sound = true; next = len - length rest; len = length f }
+abbrev pub report : ℕ → Parsed → Option Line
+report len Bad = None
+report len (Good f rest) = Some (record { next = len - length rest; len = length f })
 
 -- what follows the first 0A
 abbrev pub past_line : List ℕ → List ℕ

@@ -3,23 +3,15 @@
 
 pub mod writer;
 
-ghost use Rattle.std.specs.Prelude.{◌≡◌, ◌+◌, ◌-◌, ◌*◌, ◌/◌, ◌%◌, ◌<◌, ◌≤◌, Bool, eqb, leb, length, take, drop, if◌then◌else◌, nat_lt, slice_index, slice_set};
+ghost use Rattle.std.specs.Prelude.{◌≡◌, ◌+◌, ◌-◌, ◌*◌, ◌/◌, ◌%◌, ◌<◌, ◌≤◌, Some, None, eqb, leb, length, take, drop, if◌then◌else◌, nat_lt, slice_index, slice_set};
 ghost use Rattle.rules.specs.Memory.{over};
-ghost use Rattle.frames.specs.Lines.{digit, value, complement, Parsed, sound_line, pair_of, decoded, report, line_after};
+ghost use Rattle.frames.specs.Lines.{digit, value, complement, sound_line, pair_of, decoded, report, line_after};
 
-// A line that was read: whether it is sound, where the next one starts and how many bytes its frame has, the checksum among them.
+// A sound line that was read: where the next one starts and how many bytes its frame has, the checksum among them.
 #[derive(Clone, Copy)]
 pub struct Line {
-    pub sound: bool,
     pub next: usize,
     pub len: usize,
-}
-
-// Two digits that were read: whether they are, and their byte.
-#[derive(Clone, Copy)]
-struct Pair {
-    ok: bool,
-    byte: u8,
 }
 
 // What the digit of a number has above it: one of two constants, so that no test is mispredicted.
@@ -56,28 +48,25 @@ fn hex_value(a: u8) -> u8
 
 // ---- reading
 
-// Two digits at a place of a slice.
-fn pair_at(s: &[u8], i: usize) -> Pair
+// The byte of two digits at a place of a slice.
+fn pair_at(s: &[u8], i: usize) -> Option<u8>
     ensures { result ≡ pair_of (drop i s.now) }
 {
     if s.len() <= i {
-        return Pair { ok: false, byte: 0 };
+        return None;
     }
     if s.len() - i < 2 {
-        return Pair { ok: false, byte: 0 };
+        return None;
     }
     let h = hex_value(s[i]);
     if 16 <= h {
-        return Pair { ok: false, byte: 0 };
+        return None;
     }
     let l = hex_value(s[i + 1]);
     if 16 <= l {
-        return Pair { ok: false, byte: 0 };
+        return None;
     }
-    Pair {
-        ok: true,
-        byte: 16 * h + l,
-    }
+    Some(16 * h + l)
 }
 
 // A byte is stored where there is room for it.
@@ -89,36 +78,22 @@ fn store(out: &mut [u8], at: usize, x: u8)
     }
 }
 
-fn no_line() -> Line
-    ensures { result ≡ report 0 Parsed.Bad }
-{
-    Line {
-        sound: false,
-        next: 0,
-        len: 0,
-    }
-}
-
 // A line that ended: a frame of 2 bytes or more, the last of which is the checksum that the sum of those before it asks for.
-fn ended(sum: u8, last: u8, len: usize, next: usize) -> Line
-    ensures { result ≡ (if leb 2 len then (if eqb last (complement sum) then (record { sound = Bool.true; next = next; len = len }) else report 0 Parsed.Bad) else report 0 Parsed.Bad) }
+fn ended(sum: u8, last: u8, len: usize, next: usize) -> Option<Line>
+    ensures { result ≡ (if leb 2 len then (if eqb last (complement sum) then Some (record { next = next; len = len }) else None) else None) }
 {
     if len < 2 {
-        return no_line();
+        return None;
     }
     if last == std::num::wrapping_sub_u8(0, sum) {
-        return Line {
-            sound: true,
-            next,
-            len,
-        };
+        return Some(Line { next, len });
     }
-    no_line()
+    None
 }
 
 // The line that starts at a place. Of its bytes, or of those before the first fault, `frame` gets as many as it holds; what lies past them
 // keeps its contents.
-pub fn read_line(text: &[u8], at: usize, frame: &mut [u8]) -> Line
+pub fn read_line(text: &[u8], at: usize, frame: &mut [u8]) -> Option<Line>
     ensures line { result ≡ report (length text.now) (sound_line (drop at text.now)) }
     ensures bytes { frame.new ≡ over (take (length frame.old) (decoded (drop at text.now))) frame.old }
 {
@@ -130,17 +105,14 @@ pub fn read_line(text: &[u8], at: usize, frame: &mut [u8]) -> Line
         if text[i] == 10 {
             return ended(sum, last, len, i + 1);
         }
-        let p = pair_at(text, i);
-        if !p.ok {
-            return no_line();
-        }
+        let byte = pair_at(text, i)?;
         sum = std::num::wrapping_add_u8(sum, last);
-        last = p.byte;
-        store(&mut *frame, len, p.byte);
+        last = byte;
+        store(&mut *frame, len, byte);
         len += 1;
         i += 2;
     }
-    no_line()
+    None
 }
 
 // ---- a line whose digits were tested before
@@ -167,10 +139,8 @@ pub fn decode(text: &[u8], at: usize, n: usize, frame: &mut [u8])
     requires { (n ≤ length (decoded (drop at text.now))) × (n ≤ length frame.old) }
     ensures { frame.new ≡ over (take n (decoded (drop at text.now))) frame.old }
 {
-    let mut i: usize = 0;
-    while i < n {
+    for i in 0..n {
         frame[i] = byte_at(text, at, i);
-        i += 1;
     }
 }
 
@@ -180,12 +150,10 @@ pub fn decode(text: &[u8], at: usize, n: usize, frame: &mut [u8])
 pub fn next_line(text: &[u8], at: usize) -> usize
     ensures { result ≡ line_after text.now at }
 {
-    let mut i = at;
-    while i < text.len() {
+    for i in at..text.len() {
         if text[i] == 10 {
             return i + 1;
         }
-        i += 1;
     }
     text.len()
 }

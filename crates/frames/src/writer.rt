@@ -115,10 +115,8 @@ pub fn put_all_from(out: &mut [u8], w: Writer, pairs: &[u8], bytes: &[u8]) -> Wr
     ensures sent { Sent bytes.now (output w out.old) (output result out.new) }
 {
     let mut next = w;
-    let mut k: usize = 0;
-    while k < bytes.len() {
-        next = put_from(&mut *out, next, pairs, bytes[k]);
-        k += 1;
+    for &b in bytes {
+        next = put_from(&mut *out, next, pairs, b);
     }
     next
 }

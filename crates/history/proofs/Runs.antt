@@ -67,11 +67,12 @@ part_taken at n start end l s e =
     let c : drop at l ≡ [] = drop_of_length-le l {i = at} (omega arith) in
     ap (take (end - start)) b ∙ (take_all (end - start) [] (omega arith) ∙ sym (ap (take n) c ∙ take_all n [] (omega arith))))
 
-edits_on : (n i at : ℕ) (pool ws : List ℕ) → i < n
-    → coded_edits (n - i) pool (drop at ws) ≡ coded_edit pool (drop at ws) ∷ coded_edits (n - (i + 1)) pool (drop (at + edit_words) ws)
-edits_on n i at pool ws h =
+edits_on : (n i : ℕ) (pool ws : List ℕ) → i < n
+    → coded_edits (n - i) pool (drop (edit_words * i) ws) ≡ coded_edit pool (drop (edit_words * i) ws) ∷ coded_edits (n - (i + 1)) pool (drop (edit_words * (i + 1)) ws)
+edits_on n i pool ws h =
     let e : n - i ≡ suc (n - (i + 1)) = omega arith in
-    rw (e, ← drop-drop edit_words at ws)
+    let s : edit_words * (i + 1) ≡ edit_words * i + edit_words = omega arith in
+    rw (e, s, ← drop-drop edit_words (edit_words * i) ws)
 
 filled_by : (pool ws : List ℕ) (a b c : Bool)
     → FilledEdit (cond a (Add (coded_rule ws) (get_or ws 2 0)) (cond b (Drop (get_or ws 1 0 % 65536))
@@ -86,26 +87,24 @@ coded_filled zero pool ws k h = absurd (omega arith)
 coded_filled (suc n) pool ws zero h = filled_by pool ws (eqb (get_or ws 0 0) 0) (eqb (get_or ws 0 0) 1) (eqb (get_or ws 0 0) 2)
 coded_filled (suc n) pool ws (suc k) h = coded_filled n pool (drop edit_words ws) k (omega arith)
 
--- what holds after i turns, at the word `at`: the answers that are given, and that those to come make up the rest
-pub record Going (pool code d answers₀ places₀ : List ℕ) (n : ℕ) (img answers places : List ℕ) (i at : ℕ) : Type 0 where
+-- what holds after i turns: the answers that are given, and that those to come make up the rest
+pub record Going (pool code d answers₀ places₀ : List ℕ) (n : ℕ) (img answers places : List ℕ) (i : ℕ) : Type 0 where
   pub low : i ≤ n
-  pub word : at ≡ i * edit_words
   pub «image-long» : length img ≡ length d
   pub «answers-long» : length answers ≡ length answers₀
   pub «places-long» : length places ≡ length places₀
   pub replies : List Reply
   pub count : length replies ≡ i
-  pub images : image_all d (coded_edits n pool code) ≡ image_all img (coded_edits (n - i) pool (drop at code))
-  pub said : out_all d (coded_edits n pool code) ≡ replies ++ out_all img (coded_edits (n - i) pool (drop at code))
+  pub images : image_all d (coded_edits n pool code) ≡ image_all img (coded_edits (n - i) pool (drop (edit_words * i) code))
+  pub said : out_all d (coded_edits n pool code) ≡ replies ++ out_all img (coded_edits (n - i) pool (drop (edit_words * i) code))
   pub numbered : answers ≡ over (map reply_code replies) answers₀
   pub placed : places ≡ over (map reply_place replies) places₀
 
-pub going_start : (pool code d answers places : List ℕ) (n : ℕ) → Going pool code d answers places n d answers places 0 0
+pub going_start : (pool code d answers places : List ℕ) (n : ℕ) → Going pool code d answers places n d answers places 0
 going_start pool code d answers places n =
     let z : n - 0 ≡ n = omega arith in
     record {
       low = omega arith;
-      word = omega arith;
       «image-long» = refl;
       «answers-long» = refl;
       «places-long» = refl;
@@ -117,20 +116,23 @@ going_start pool code d answers places n =
       placed = refl;
     }
 
-module _ (pool code d answers₀ places₀ : List ℕ) (n : ℕ) (img answers places : List ℕ) (i at : ℕ) (g : Going pool code d answers₀ places₀ n img answers places i at) where
+module _ (pool code d answers₀ places₀ : List ℕ) (n : ℕ) (img answers places : List ℕ) (i : ℕ) (g : Going pool code d answers₀ places₀ n img answers places i) where
+  -- the word where the next edit starts
+  abbrev at : ℕ
+  at = edit_words * i
+
   pub going_on : (a : Reply) (img' : List ℕ) (v p : ℕ) → i < n → n ≤ turns (length code) (length answers₀) (length places₀) → length img' ≡ length img
       → outcome a img' ≡ edited img (coded_edit pool (take (length code - at) (drop at code)))
-      → v ≡ reply_code a → p ≡ reply_place a → Going pool code d answers₀ places₀ n img' (set answers i v) (set places i p) (i + 1) (at + edit_words)
+      → v ≡ reply_code a → p ≡ reply_place a → Going pool code d answers₀ places₀ n img' (set answers i v) (set places i p) (i + 1)
   going_on a img' v p h hn il oe ve pe =
       let t : take (length code - at) (drop at code) ≡ drop at code =
       take_all (length code - at) (drop at code) (omega (arith, length-drop at code)) in
       let q : outcome a img' ≡ edited img (coded_edit pool (drop at code)) = rw t at oe in
       let qa : a ≡ (edited img (coded_edit pool (drop at code))).reply = ap (λ (o : Edited). o.reply) q in
       let qi : img' ≡ (edited img (coded_edit pool (drop at code))).image = ap (λ (o : Edited). o.image) q in
-      let x = edits_on n i at pool code h in
+      let x = edits_on n i pool code h in
       record {
         low = omega arith;
-        word = omega (arith, g.word);
         «image-long» = il ∙ g.«image-long»;
         «answers-long» = length-set answers i v ∙ g.«answers-long»;
         «places-long» = length-set places i p ∙ g.«places-long»;
@@ -142,9 +144,9 @@ module _ (pool code d answers₀ places₀ : List ℕ) (n : ℕ) (img answers pl
         placed = snoc_by reply_place g.replies a places₀ places i p g.placed g.count (omega arith) pe;
       }
 
-pub going_end : (pool code d answers₀ places₀ : List ℕ) (n : ℕ) (img answers places : List ℕ) (i at : ℕ) → Going pool code d answers₀ places₀ n img answers places i at
+pub going_end : (pool code d answers₀ places₀ : List ℕ) (n : ℕ) (img answers places : List ℕ) (i : ℕ) → Going pool code d answers₀ places₀ n img answers places i
     → n ≤ i → replaying accepted img answers places ≡ through (coded_edits n pool code) d answers₀ places₀
-going_end pool code d answers₀ places₀ n img answers places i at g h =
+going_end pool code d answers₀ places₀ n img answers places i g h =
     let z : n - i ≡ 0 = omega (arith, g.low) in
     let w : image_all d (coded_edits n pool code) ≡ img = rw z at g.images in
     let o : out_all d (coded_edits n pool code) ≡ g.replies ++ [] = rw z at g.said in

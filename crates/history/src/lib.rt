@@ -9,7 +9,7 @@ ghost use Rattle.edits.specs.Edits.{edited};
 ghost use Rattle.history.specs.Code.{rule_word, byte_at, first_bytes, coded_rule, coded_letters, coded_edit, coded_edits};
 ghost use Rattle.history.specs.Replay.{turns, replaying, through, Replayed};
 
-use rules::{Answer, Rule};
+use rules::{Refusal, Rule};
 
 // Words of a coded edit; specs/Code.antt has the layout.
 const RULE_WORD: usize = 3;
@@ -20,10 +20,7 @@ const EDIT_WORDS: usize = RULE_WORD + rule_bytes::SIZE;
 fn word_at(code: &[usize], i: usize) -> usize
     ensures { result ≡ get_or code.now i 0 }
 {
-    if i < code.len() {
-        return code[i];
-    }
-    0
+    code.get(i).copied().unwrap_or(0)
 }
 
 fn byte_at(code: &[usize], i: usize) -> u8
@@ -36,10 +33,8 @@ fn byte_at(code: &[usize], i: usize) -> u8
 fn put_bytes(room: &mut [u8], code: &[usize])
     ensures { room.new ≡ first_bytes (length room.old) (drop rule_word code.now) }
 {
-    let mut i = 0;
-    while i < room.len() {
-        room[i] = byte_at(code, RULE_WORD + i);
-        i += 1;
+    for (i, byte) in room.iter_mut().enumerate() {
+        *byte = byte_at(code, RULE_WORD + i);
     }
 }
 
@@ -61,7 +56,7 @@ fn letters_at(letters: &[u8], at: usize, n: usize) -> &[u8]
 }
 
 // The class that the words say, set.
-fn class_edit(image: &mut [u8], code: &[usize], letters: &[u8]) -> Answer
+fn class_edit(image: &mut [u8], code: &[usize], letters: &[u8]) -> Result<(), Refusal>
     ensures { outcome (reply_of result) image.new ≡ edited image.old (Edit.SetClass (byte_at code.now 1) (coded_letters letters.now code.now)) }
 {
     let symbol = byte_at(code, 1);
@@ -71,23 +66,18 @@ fn class_edit(image: &mut [u8], code: &[usize], letters: &[u8]) -> Answer
 }
 
 // The edit that the words say, applied.
-fn edit(image: &mut [u8], code: &[usize], letters: &[u8]) -> Answer
+fn edit(image: &mut [u8], code: &[usize], letters: &[u8]) -> Result<(), Refusal>
     ensures { outcome (reply_of result) image.new ≡ edited image.old (coded_edit letters.now code.now) }
 {
     let kind = word_at(code, 0);
-    let place = word_at(code, 2);
-    if kind == 0 {
-        let rule = coded_rule(code);
-        return edits::add_rule(image, rule, place);
-    }
     let number = (word_at(code, 1) % 65536) as u16;
-    if kind == 1 {
-        return edits::drop_rule(image, number);
+    let place = word_at(code, 2);
+    match kind {
+        0 => edits::add_rule(image, coded_rule(code), place),
+        1 => edits::drop_rule(image, number),
+        2 => edits::move_rule(image, number, place),
+        _ => class_edit(image, code, letters),
     }
-    if kind == 2 {
-        return edits::move_rule(image, number, place);
-    }
-    class_edit(image, code, letters)
 }
 
 // The first `n` edits of `code`, from the image as it is lent; a code and a place for each answer.
@@ -102,14 +92,10 @@ fn replay_all(
     requires { n ≤ turns (length code.now) (length answers.old) (length places.old) }
     ensures { replaying accepted image.new answers.new places.new ≡ through (coded_edits n letters.now code.now) image.old answers.old places.old }
 {
-    let mut i = 0;
-    let mut at = 0;
-    while i < n {
-        let a = edit(image, &code[at..], letters);
+    for i in 0..n {
+        let a = edit(image, &code[EDIT_WORDS * i..], letters);
         answers[i] = rules::answer_code(a);
         places[i] = rules::answer_place(a);
-        i += 1;
-        at += EDIT_WORDS;
     }
 }
 
@@ -121,15 +107,12 @@ pub fn replay(
     letters: &[u8],
     answers: &mut [u8],
     places: &mut [usize],
-) -> Answer
+) -> Result<(), Refusal>
     ensures { Replayed image.old code.now letters.now answers.old places.old (replaying (reply_of result) image.new answers.new places.new) }
 {
-    let answer = image::clear(&mut *image);
-    if let Answer::Refused(why) = answer {
-        return Answer::Refused(why);
-    }
+    image::clear(image)?;
     let room = numbers::smaller(answers.len(), places.len());
     let n = numbers::smaller(code.len() / EDIT_WORDS, room);
     replay_all(image, code, letters, answers, places, n);
-    Answer::Accepted
+    Ok(())
 }

@@ -3,22 +3,22 @@ ghost use Rattle.std.specs.Prelude.{◌≡◌};
 ghost use Rattle.rules.specs.Refusals.{report_of};
 ghost use Rattle.host.specs.Files.{written_code, bytes_or_place};
 
-use rules::Written;
+use rules::Refusal;
 
-pub fn written_code(written: Written) -> u8
+pub fn written_code(written: Result<usize, Refusal>) -> u8
     ensures { result ≡ written_code (report_of written) }
 {
     match written {
-        Written::Bytes(_) => rules::ACCEPTED,
-        Written::Refused(x) => rules::refusal_number(x),
+        Ok(_) => rules::ACCEPTED,
+        Err(x) => rules::refusal_number(x),
     }
 }
 
-pub fn bytes_or_place(written: Written) -> usize
+pub fn bytes_or_place(written: Result<usize, Refusal>) -> usize
     ensures { result ≡ bytes_or_place (report_of written) }
 {
     match written {
-        Written::Bytes(n) => n,
-        Written::Refused(x) => rules::refusal_place(x),
+        Ok(n) => n,
+        Err(x) => rules::refusal_place(x),
     }
 }

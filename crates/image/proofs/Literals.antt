@@ -1,7 +1,7 @@
 -- The literal rules of a ruleset: how many there are, where each comes from, and their shape.
 -- Assumes nothing.
-use Prim.Native.Nat.{ℕ, zero, suc, ◌-◌, ◌/◌, ◌%◌, ◌≤◌, ◌<◌}
-use mathlib.Core.Path.{◌≡◌, sym, ap, ◌∙◌, subst}
+use Prim.Native.Nat.{ℕ, zero, suc, ◌/◌, ◌%◌, ◌≤◌, ◌<◌}
+use mathlib.Core.Path.{◌≡◌, sym, ◌∙◌, subst}
 use mathlib.Core.List.{List, [], ◌∷◌}
 use mathlib.Core.Bool.{true}
 use native.Mathlib.Omega.{arith}
@@ -15,7 +15,7 @@ use Rattle.numbers.specs.Numbers.{eight}
 use Rattle.classes.specs.Classes.{Classes, is_class, letters, Proper, OnlyClasses}
 use Rattle.classes.specs.Masks.{mask_start, letters_in, classes_in}
 use Rattle.classes.specs.Expansion.{size, literal_count, literal_total}
-use Rattle.classes.specs.Ordinal.{origin, origins, choice_at, literal_at}
+use Rattle.classes.specs.Ordinal.{origin, choice_at, literal_at}
 use Rattle.classes.proofs.Bytes.{outside_in, proper}
 use Rattle.classes.proofs.Letters.{letters_below}
 use Rattle.classes.proofs.Standing.{class_letters}

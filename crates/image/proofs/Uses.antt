@@ -1,15 +1,15 @@
 -- Whether a rule of a ruleset uses a class, rule by rule.
 -- Assumes nothing.
 use Prim.Native.Nat.{ℕ, suc, ◌+◌, ◌≤◌, ◌<◌}
-use mathlib.Core.Path.{◌≡◌, refl, sym, ap, ap₂, ◌∙◌}
+use mathlib.Core.Path.{◌≡◌, sym, ap, ap₂, ◌∙◌}
 use mathlib.Core.List.{List}
-use mathlib.Core.Bool.{Bool, true, false, ◌||◌}
+use mathlib.Core.Bool.{true, false, ◌||◌}
 use native.Mathlib.Omega.{arith}
 use native.Mathlib.Numerals.{add-one}
-use lib.ListN.{length, drop, drop_of_length-le}
+use lib.ListN.{drop, drop_of_length-le}
 use lib.Seq.{drop-cons}
 use Rattle.classes.specs.Classes.{is_in}
-use Rattle.classes.specs.Setting.{rule_uses, list_uses}
+use Rattle.classes.specs.Setting.{list_uses}
 use Rattle.image.specs.State.{no_entry}
 use Rattle.image.specs.Image.{count_of, entries_of, entry_at}
 use Rattle.image.proofs.Entries.{entries_length}

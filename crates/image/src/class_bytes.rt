@@ -22,11 +22,7 @@ pub fn clear(image: &mut [u8])
     requires { image_size ≤ length image.old }
     ensures { image.new ≡ over_at class_start (replicate (table_start - class_start) 0) image.old }
 {
-    let mut i = CLASSES;
-    while i < TABLE {
-        image[i] = 0;
-        i += 1;
-    }
+    image[CLASSES..TABLE].fill(0);
 }
 
 // All classes are stored, by their bytes.
@@ -51,14 +47,12 @@ pub fn in_use(image: &[u8], symbol: u8) -> bool
     ensures { result ≡ list_uses symbol (entries_of image.now) }
 {
     let count = crate::rule_count(image);
-    let mut i = 0;
-    while i < count {
+    for i in 0..count {
         let left = crate::left_at(image, i);
         let right = crate::right_at(image, i);
         if classes::runs::uses(left, right, symbol) {
             return true;
         }
-        i += 1;
     }
     false
 }

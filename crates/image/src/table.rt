@@ -90,8 +90,7 @@ fn has_run(image: &[u8], p: usize, q: usize, n: usize) -> bool
     ensures { result ≡ origins_at (origin_run q 0 n) (drop (table_start + origin_size * p) image.now) }
 {
     let from = TABLE + ORIGIN * p;
-    let mut j = 0;
-    while j < n {
+    for j in 0..n {
         let at = from + ORIGIN * j;
         if numbers::wide16(numbers::two_at(image, at)) != q {
             return false;
@@ -99,7 +98,6 @@ fn has_run(image: &[u8], p: usize, q: usize, n: usize) -> bool
         if numbers::wide16(numbers::two_at(image, at + 2)) != j {
             return false;
         }
-        j += 1;
     }
     true
 }
@@ -110,8 +108,7 @@ pub fn is_table(image: &[u8], count: usize) -> bool
     ensures { result ≡ (expandable (classes_of image.now) (entries_of image.now) && tabled image.now) }
 {
     let mut p = 0;
-    let mut q = 0;
-    while q < count {
+    for q in 0..count {
         let n = literal_count_at(image, q);
         if n == 0 {
             return false;
@@ -123,7 +120,6 @@ pub fn is_table(image: &[u8], count: usize) -> bool
             return false;
         }
         p += n;
-        q += 1;
     }
     literal_total(image) == p
 }
@@ -138,14 +134,12 @@ fn put_run(image: &mut [u8], p: usize, q: usize, n: usize)
     let from = TABLE + ORIGIN * p;
     let high = (q / 256) as u8;
     let low = (q % 256) as u8;
-    let mut j = 0;
-    while j < n {
+    for j in 0..n {
         let at = from + ORIGIN * j;
         image[at] = high;
         image[at + 1] = low;
         image[at + 2] = (j / 256) as u8;
         image[at + 3] = (j % 256) as u8;
-        j += 1;
     }
 }
 
@@ -154,8 +148,7 @@ fn put_total(image: &mut [u8], total: usize)
     requires { (image_size ≤ length image.old) × (total ≤ max_rules) }
     ensures { image.new ≡ over_at total_start (total / 256 ∷ total % 256 ∷ []) image.old }
 {
-    image[TOTAL] = (total / 256) as u8;
-    image[TOTAL + 1] = (total % 256) as u8;
+    rule_bytes::put(image, TOTAL, &(total as u16).to_be_bytes());
 }
 
 // The table of the image's rules and classes.
@@ -165,12 +158,10 @@ pub fn settle(image: &mut [u8])
 {
     let count = crate::rule_count(image);
     let mut p = 0;
-    let mut q = 0;
-    while q < count {
+    for q in 0..count {
         let n = literal_count_at(image, q);
         put_run(image, p, q, n);
         p += n;
-        q += 1;
     }
     put_total(image, p);
 }

@@ -39,10 +39,8 @@ pub fn put_numbers(out: &mut [u8], w: Writer, numbers: &[u16]) -> Writer
     ensures sent { Sent (twos numbers.now) (output w out.old) (output result out.new) }
 {
     let mut next = w;
-    let mut k: usize = 0;
-    while k < numbers.len() {
-        next = writer::put_two(&mut *out, next, numbers::wide16(numbers[k]));
-        k += 1;
+    for &n in numbers {
+        next = writer::put_two(&mut *out, next, numbers::wide16(n));
     }
     next
 }

@@ -7,21 +7,21 @@ ghost use Rattle.change.specs.Change.{Changed};
 ghost use Rattle.list_commands.specs.ListCommands.{change_line, add_sized, addition, Adds, Removes, empty_line, emptied_by, Carried};
 
 use command_parts::answers;
-use rules::Answer;
+use rules::Refusal;
 
 // The answer of a change: 06, names (2), states (2) of the list after it.
-fn change_line(answer: Answer, list: &[u32], out: &mut [u8]) -> usize
+fn change_line(answer: Result<(), Refusal>, list: &[u32], out: &mut [u8]) -> usize
     requires { 15 ≤ length out.old }
     ensures len { result ≡ length (change_line (reply_of answer) list.now) }
     ensures bytes { out.new ≡ over (change_line (reply_of answer) list.now) out.old }
 {
     match answer {
-        Answer::Accepted => {
+        Ok(()) => {
             let names = exceptions::name_count(list);
             let states = exceptions::state_count(list);
             answers::states_line(names, states, out)
         },
-        Answer::Refused(x) => lines::refusal_line(x, out),
+        Err(x) => lines::refusal_line(x, out),
     }
 }
 
@@ -36,7 +36,7 @@ fn add_sized(f: &[u8]) -> bool
 }
 
 // 20, name length (1), name, phones to the end.
-fn add(f: &[u8], list: &mut [u32]) -> Answer
+fn add(f: &[u8], list: &mut [u32]) -> Result<(), Refusal>
     requires { add_sized f.now ≡ true }
     ensures { Changed (addition f.now) list.old list.new (reply_of result) }
 {
@@ -66,14 +66,14 @@ pub fn remove_command(f: &[u8], list: &mut [u32], out: &mut [u8]) -> usize
 }
 
 // The answer of a call that only accepts or declines: 06.
-fn empty_line(answer: Answer, out: &mut [u8]) -> usize
+fn empty_line(answer: Result<(), Refusal>, out: &mut [u8]) -> usize
     requires { 15 ≤ length out.old }
     ensures len { result ≡ length (empty_line (reply_of answer)) }
     ensures bytes { out.new ≡ over (empty_line (reply_of answer)) out.old }
 {
     match answer {
-        Answer::Accepted => answers::done_line(out),
-        Answer::Refused(x) => lines::refusal_line(x, out),
+        Ok(()) => answers::done_line(out),
+        Err(x) => lines::refusal_line(x, out),
     }
 }
 

@@ -20,14 +20,10 @@ pub struct Reply {
 pub fn is_list_command(f: &[u8]) -> bool
     ensures { result ≡ is_list_command f.now }
 {
-    if f.len() == 0 {
+    let [kind, ..] = f else {
         return false;
-    }
-    let kind = f[0];
-    if kind < 0x20 {
-        return false;
-    }
-    kind <= 0x26
+    };
+    0x20 <= *kind && *kind <= 0x26
 }
 
 // The answer to a command that leaves as many units lent, and its length.
@@ -35,8 +31,7 @@ fn answer_kept(f: &[u8], list: &mut [u32], lent: usize, text: &mut [u8], out: &m
     requires { (is_list_command f.now ≡ true) × ((eqb (get_or f.now 0 0) 37 ≡ false) × ((lent ≤ length list.old) × (longest_answer ≤ length out.old))) }
     ensures { Replied f.now (holding list.old lent text.old) (holding list.new lent text.new) result out.old out.new }
 {
-    let kind = f[0];
-    match kind {
+    match f[0] {
         0x20 => changes::add_command(f, &mut list[..lent], out),
         0x21 => changes::remove_command(f, &mut list[..lent], out),
         0x22 => texts::read_out_command(f, &list[..lent], text, out),

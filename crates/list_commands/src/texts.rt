@@ -9,7 +9,7 @@ ghost use Rattle.list_commands.specs.ListCommands.{longest_answer, read_out_line
 
 use command_parts::{answers, fields, memory};
 use frames::writer;
-use rules::Written;
+use rules::Refusal;
 
 // 06 and a number of four bytes.
 fn count_line(n: usize, out: &mut [u8]) -> usize
@@ -24,19 +24,19 @@ fn count_line(n: usize, out: &mut [u8]) -> usize
 }
 
 // The answer of a read-out.
-fn read_out_line(written: Written, out: &mut [u8]) -> usize
+fn read_out_line(written: Result<usize, Refusal>, out: &mut [u8]) -> usize
     requires { 15 ≤ length out.old }
     ensures len { result ≡ length (read_out_line (report_of written)) }
     ensures bytes { out.new ≡ over (read_out_line (report_of written)) out.old }
 {
     match written {
-        Written::Bytes(n) => count_line(n, out),
-        Written::Refused(x) => lines::refusal_line(x, out),
+        Ok(n) => count_line(n, out),
+        Err(x) => lines::refusal_line(x, out),
     }
 }
 
 // The list into the first so many bytes.
-fn read_out_in(list: &[u32], text: &mut [u8], n: usize) -> Written
+fn read_out_in(list: &[u32], text: &mut [u8], n: usize) -> Result<usize, Refusal>
     requires { n ≤ length text.old }
     ensures { leaving (read_out_line (report_of result)) text.new ≡ read_out_in n list.now text.old }
 {

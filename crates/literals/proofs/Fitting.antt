@@ -7,11 +7,11 @@ use mathlib.Core.Bool.{Bool, true, false, ◌&&◌}
 use native.Mathlib.Omega.{arith}
 use lib.ListN.{length, take, drop, length-drop, drop_of_length-le}
 use lib.Seq.{drop-drop}
+use Rattle.std.specs.Prelude.{Some, None}
 use Rattle.rules.specs.Shape.{Production}
 use Rattle.classes.specs.Classes.{Classes}
 use Rattle.classes.specs.Expansion.{size}
 use Rattle.classes.specs.Ordinal.{choice_at, literal_at}
-use Rattle.classes.specs.declared.Rest.TheVariants.{Differs, Next}
 use Rattle.classes.proofs.Ordinal.{choice_none}
 use Rattle.fitting.specs.Fitting.{Str, same, starts, ends, fits}
 use Rattle.fitting.proofs.Strings.{and_turn, starts_append, starts_most, ends_same}
@@ -50,10 +50,10 @@ module _ (k : Classes) (left target right : Str) (j : ℕ) (f : Str) (i : ℕ) w
     pub past_target : i ≤ length f → i + length target ≤ length f
     past_target h = omega (arith, starts_most target (drop i f) yes, length-drop i f)
 
-    pub no_right : started k right rest j ≡ Differs → false ≡ fits rule f i
+    pub no_right : started k right rest j ≡ None → false ≡ fits rule f i
     no_right e = sym (parts ∙ ap₂ (λ (a b : Bool). a && (b && ends rule.left (take i f))) yes (started_no k right rest j e))
 
-    pub by_left : (q : ℕ) → started k right rest j ≡ Next q → (b : Bool) → b ≡ ends (choice_at k left q) (take i f) → b ≡ fits rule f i
+    pub by_left : (q : ℕ) → started k right rest j ≡ Some q → (b : Bool) → b ≡ ends (choice_at k left q) (take i f) → b ≡ fits rule f i
     by_left q e b g =
         g ∙ (ap (λ (n : ℕ). ends (choice_at k left n) (take i f)) (sym (started_rest k right rest j q e))
         ∙ sym (parts ∙ ap₂ (λ (x y : Bool). x && (y && ends rule.left (take i f))) yes (started_yes k right rest j q e)))

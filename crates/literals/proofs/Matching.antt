@@ -10,12 +10,13 @@ use native.Mathlib.Omega.{arith}
 use lib.Dec.{eqb}
 use lib.ListN.{length, get_or, take, drop, length-drop, drop_of_length-le}
 use lib.Seq.{drop-cons, get_or-take, get_or-drop, length-take-le}
+use Rattle.std.specs.Prelude.{Some, None}
+use Rattle.std.specs.Option.{is_some}
 use Rattle.rules.proofs.Cases.{by_bool, and_r}
 use Rattle.classes.specs.Classes.{Classes, letters}
 use Rattle.classes.specs.Expansion.{size}
 use Rattle.classes.specs.Ordinal.{choice_at}
 use Rattle.classes.specs.Steps.{stepped}
-use Rattle.classes.specs.declared.Rest.TheVariants.{Differs, Next}
 use Rattle.classes.proofs.Ordinal.{choice_cons, choice_none, choice_long, choice_drop, size_drop}
 use Rattle.fitting.specs.Fitting.{Str, same, starts, ends}
 use Rattle.fitting.proofs.Strings.{clash, starts_past, starts_run, ends_past, ends_run}
@@ -23,17 +24,21 @@ use Rattle.literals.specs.Matching.{matched, started}
 
 -- ---- the answer of a comparison
 
-cond_yes : (b : Bool) (q n : ℕ) → cond b (Next n) Differs ≡ Next q → b ≡ true
+cond_yes : (b : Bool) (q n : ℕ) → cond b (Some n) None ≡ Some q → b ≡ true
 cond_yes true q n e = refl
 cond_yes false q n e = let z : ◌≡◌ {A = ℕ} 0 1 = cc in absurd (omega arith)
 
-cond_rest : (b : Bool) (q n : ℕ) → cond b (Next n) Differs ≡ Next q → n ≡ q
+cond_rest : (b : Bool) (q n : ℕ) → cond b (Some n) None ≡ Some q → n ≡ q
 cond_rest true q n e = cc
 cond_rest false q n e = let z : ◌≡◌ {A = ℕ} 0 1 = cc in absurd (omega arith)
 
-cond_no : (b : Bool) (n : ℕ) → cond b (Next n) Differs ≡ Differs → b ≡ false
+cond_no : (b : Bool) (n : ℕ) → cond b (Some n) None ≡ None → b ≡ false
 cond_no true n e = let z : ◌≡◌ {A = ℕ} 0 1 = cc in absurd (omega arith)
 cond_no false n e = refl
+
+cond_some : (b : Bool) (n : ℕ) → is_some (cond b (Some n) None) ≡ b
+cond_some true n = refl
+cond_some false n = refl
 
 same_drop : (i : ℕ) (s w : Str) → same s w ≡ true → same (drop i s) (drop i w) ≡ true
 same_drop zero s w e = e
@@ -108,7 +113,7 @@ module _ (k : Classes) (s : Str) (ok : 1 ≤ size k s) (j : ℕ) (f : Str) (to :
         ∙ ap (λ (x : ℕ). eqb (get_or (letters k c) (x % length (letters k c)) 0) y && same (choice_at k (drop i s) j) (drop i seen)) (sym m.left))
 
     -- the letter is the choice's
-    pub match_next : (r : ℕ) → stepped k c y q ≡ Next r → Matching k s j f to r (i - 1)
+    pub match_next : (r : ℕ) → stepped k c y q ≡ Some r → Matching k s j f to r (i - 1)
     match_next r e = record {
       reached = omega (arith, m.reached);
       left =
@@ -118,7 +123,7 @@ module _ (k : Classes) (s : Str) (ok : 1 ≤ size k s) (j : ℕ) (f : Str) (to :
     }
 
     -- it is not
-    pub match_off : stepped k c y q ≡ Differs → Differs ≡ matched k s (take (length s) (drop to f)) j
+    pub match_off : stepped k c y q ≡ None → None ≡ matched k s (take (length s) (drop to f)) j
     match_off e =
         let t : same (choice_at k (drop (i - 1) s) j) (drop (i - 1) seen) ≡ false =
         alike_is ∙ ap (λ (b : Bool). b && same (choice_at k (drop i s) j) (drop i seen)) (cond_no (eqb (get_or (letters k c) (q % length (letters k c)) 0) y) (q / length (letters k c)) e) in
@@ -126,11 +131,11 @@ module _ (k : Classes) (s : Str) (ok : 1 ≤ size k s) (j : ℕ) (f : Str) (to :
         (λ z. clash (ap (λ (x : Str). same x (drop (i - 1) seen)) (sym (choice_drop k (i - 1) s j ok (omega (arith, m.reached)))) ∙ same_drop (i - 1) (choice_at k s j) seen z) t)
         (λ z. rw z)
 
-  pub match_end : (q i : ℕ) → Matching k s j f to q i → i ≡ 0 → Next q ≡ matched k s (take (length s) (drop to f)) j
+  pub match_end : (q i : ℕ) → Matching k s j f to q i → i ≡ 0 → Some q ≡ matched k s (take (length s) (drop to f)) j
   match_end q i m e =
       let l : q ≡ j / size k s = m.left ∙ ap (λ (n : ℕ). j / size k (drop n s)) e in
       let t : same (choice_at k s j) (take (length s) (drop to f)) ≡ true = ap (λ (n : ℕ). same (choice_at k (drop n s) j) (drop n (take (length s) (drop to f)))) (sym e) ∙ m.alike in
-      rw t (ap Next l)
+      rw t (ap Some l)
 
 -- ---- a choice that starts or ends a part of a frame is one run of it
 
@@ -141,12 +146,12 @@ module _ (k : Classes) (s : Str) (ok : 1 ≤ size k s) (j : ℕ) (f : Str) (i : 
   long : length choice ≡ length s
   long = choice_long k s j ok
 
-  pub begins_past : length f - i < length s → Differs ≡ started k s (drop i f) j
+  pub begins_past : length f - i < length s → None ≡ started k s (drop i f) j
   begins_past h = rw (starts_past choice f i inside (omega (arith, long)))
 
   pub begins_run : length s ≤ length f - i → matched k s (take (length s) (drop i f)) j ≡ started k s (drop i f) j
   begins_run h =
-      ap (λ (b : Bool). cond b (Next (j / size k s)) Differs)
+      ap (λ (b : Bool). cond b (Some (j / size k s)) None)
       (sym (starts_run choice f i inside (omega (arith, long)) ∙ ap (λ (n : ℕ). same choice (take n (drop i f))) long))
 
   pub ends_short : i < length s → false ≡ ends choice (take i f)
@@ -155,19 +160,16 @@ module _ (k : Classes) (s : Str) (ok : 1 ≤ size k s) (j : ℕ) (f : Str) (i : 
   ends_is : length s ≤ i → ends choice (take i f) ≡ same choice (take (length s) (drop (i - length s) f))
   ends_is h = ends_run choice f i inside (omega (arith, long)) ∙ ap (λ (n : ℕ). same choice (take n (drop (i - n) f))) long
 
-  pub ends_no : length s ≤ i → matched k s (take (length s) (drop (i - length s) f)) j ≡ Differs → false ≡ ends choice (take i f)
-  ends_no h e = sym (ends_is h ∙ cond_no (same choice (take (length s) (drop (i - length s) f))) (j / size k s) e)
-
-  pub ends_yes : length s ≤ i → (q : ℕ) → matched k s (take (length s) (drop (i - length s) f)) j ≡ Next q → true ≡ ends choice (take i f)
-  ends_yes h q e = sym (ends_is h ∙ cond_yes (same choice (take (length s) (drop (i - length s) f))) q (j / size k s) e)
+  pub ends_told : length s ≤ i → is_some (matched k s (take (length s) (drop (i - length s) f)) j) ≡ ends choice (take i f)
+  ends_told h = cond_some (same choice (take (length s) (drop (i - length s) f))) (j / size k s) ∙ sym (ends_is h)
 
 -- what starting with a choice tells
 module _ (k : Classes) (s w : Str) (j : ℕ) where
-  pub started_no : started k s w j ≡ Differs → starts (choice_at k s j) w ≡ false
+  pub started_no : started k s w j ≡ None → starts (choice_at k s j) w ≡ false
   started_no e = cond_no (starts (choice_at k s j) w) (j / size k s) e
 
-  pub started_yes : (q : ℕ) → started k s w j ≡ Next q → starts (choice_at k s j) w ≡ true
+  pub started_yes : (q : ℕ) → started k s w j ≡ Some q → starts (choice_at k s j) w ≡ true
   started_yes q e = cond_yes (starts (choice_at k s j) w) q (j / size k s) e
 
-  pub started_rest : (q : ℕ) → started k s w j ≡ Next q → j / size k s ≡ q
+  pub started_rest : (q : ℕ) → started k s w j ≡ Some q → j / size k s ≡ q
   started_rest q e = cond_rest (starts (choice_at k s j) w) q (j / size k s) e

@@ -10,33 +10,25 @@ ghost use Rattle.fitting.specs.Fitting.{ends, starts};
 ghost use Rattle.literals.specs.Matching.{matched, started, rule_with, end_of};
 ghost use Rattle.literals.specs.Places.{literal_entry};
 
-use classes::Rest;
-
-// Whether the letters of the frame from `to` on are choice `j` of a run.
-fn match_choice(masks: &[u8], run: &[u8], j: usize, frame: &[u8], to: usize) -> Rest
+// What is left of `j` for the symbols before a run, where the letters of the frame from `to` on are choice `j` of it.
+fn match_choice(masks: &[u8], run: &[u8], j: usize, frame: &[u8], to: usize) -> Option<usize>
     requires { (masks_size ≤ length masks.now) × ((1 ≤ size (classes_in masks.now) run.now) × (to + length run.now ≤ length frame.now)) }
     ensures { result ≡ matched (classes_in masks.now) run.now (take (length run.now) (drop to frame.now)) j }
 {
     let mut q = j;
-    let mut i = run.len();
-    while 0 < i {
-        i -= 1;
-        let rest = classes::symbols::step(masks, run[i], frame[to + i], q);
-        let Rest::Next(left) = rest else {
-            return Rest::Differs;
-        };
-        q = left;
+    for i in (0..run.len()).rev() {
+        q = classes::symbols::step(masks, run[i], frame[to + i], q)?;
     }
-    Rest::Next(q)
+    Some(q)
 }
 
-// Whether the frame starts, from `i` on, with choice `j` of a run.
-fn starts_choice(masks: &[u8], run: &[u8], j: usize, frame: &[u8], i: usize) -> Rest
+// The same, where the frame starts, from `i` on, with choice `j` of a run.
+fn starts_choice(masks: &[u8], run: &[u8], j: usize, frame: &[u8], i: usize) -> Option<usize>
     requires { (masks_size ≤ length masks.now) × ((1 ≤ size (classes_in masks.now) run.now) × (i ≤ length frame.now)) }
     ensures { result ≡ started (classes_in masks.now) run.now (drop i frame.now) j }
 {
     if frame.len() - i < run.len() {
-        return Rest::Differs;
+        return None;
     }
     match_choice(masks, run, j, frame, i)
 }
@@ -49,11 +41,7 @@ fn ends_choice(masks: &[u8], run: &[u8], j: usize, frame: &[u8], i: usize) -> bo
     if i < run.len() {
         return false;
     }
-    let rest = match_choice(masks, run, j, frame, i - run.len());
-    match rest {
-        Rest::Differs => false,
-        Rest::Next(_) => true,
-    }
+    match_choice(masks, run, j, frame, i - run.len()).is_some()
 }
 
 // Where a target ends that the frame has from `i` on, 0 where the frame has other letters there. One letter is a case apart, so that a processor
@@ -95,8 +83,7 @@ fn literal_end(
     if left.len() + right.len() == 0 {
         return end;
     }
-    let rest = starts_choice(masks, right, j, frame, end);
-    let Rest::Next(q) = rest else {
+    let Some(q) = starts_choice(masks, right, j, frame, end) else {
         return 0;
     };
     if !ends_choice(masks, left, q, frame, i) {

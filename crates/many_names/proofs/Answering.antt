@@ -1,5 +1,6 @@
 -- Many names in one call: while names are answered in turn, what stands and what is to come make the same lot.
 -- Assumes nothing.
+use Rattle.std.specs.Prelude.{Result}
 use Prim.Native.Nat.{ℕ, ◌+◌, ◌-◌, ◌*◌, ◌≤◌}
 use mathlib.Core.Path.{◌≡◌, refl, sym, ap, ap₂, ◌∙◌}
 use mathlib.Core.Bool.{true, false}
@@ -14,7 +15,8 @@ use Rattle.rules.proofs.Memory.{over_length, put_tail, tail_is}
 use Rattle.rules.proofs.Cases.{by_bool}
 use Rattle.fitting.specs.Fitting.{Str}
 use Rattle.speech.specs.Speech.{Outcome, speaks, declines, phones_of, numbers_of, Said, told_of, saying, delivered, refused}
-use Rattle.speech.specs.declared.Speech.{Speech}
+use Rattle.speech.specs.declared.Spoken.{Spoken}
+use Rattle.rules.specs.declared.Refusal.{Refusal}
 use Rattle.tables.specs.Walk.{Walked}
 use Rattle.many_names.specs.Names.{names_in, name_at, has_next}
 use Rattle.many_names.specs.Codes.{phones_given, numbers_given}
@@ -192,7 +194,7 @@ delivered-fit (speaks xs steps) phones numbers =
 
 -- ---- one name, as the code answers it
 
-module _ (f : Str → List ℕ → List ℕ → Walked) (fits : Fits f) (names ph nu re : List ℕ) (p : Progress) (n : ℕ) (here : n ≡ get_or names p.at 0) (s : Speech) (steps : ℕ) (zs ys : List ℕ)
+module _ (f : Str → List ℕ → List ℕ → Walked) (fits : Fits f) (names ph nu re : List ℕ) (p : Progress) (n : ℕ) (here : n ≡ get_or names p.at 0) (s : Result Spoken Refusal) (steps : ℕ) (zs ys : List ℕ)
     (e : record { said = saying (told_of s) zs ys; steps = steps } ≡ f (take (p.at + 1 + n - (p.at + 1)) (drop (p.at + 1) names)) (mid_of p.phones (length ph - p.phones) ph) (mid_of p.numbers (length nu - p.numbers) nu)) where
   abbrev given : Walked
   given = record { said = saying (told_of s) zs ys; steps = steps }

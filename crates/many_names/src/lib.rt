@@ -10,7 +10,8 @@ ghost use Rattle.many_names.specs.Names.{names_in, has_next, sound_sheet, max_sh
 ghost use Rattle.many_names.specs.Codes.{spoken_code, phones_or_place, numbers_given, contested_given};
 ghost use Rattle.many_names.specs.Many.{reply_size};
 
-use speech::Speech;
+use rules::Refusal;
+use speech::Spoken;
 
 // ---- the names
 
@@ -70,7 +71,7 @@ pub struct Progress {
 }
 
 // A reply, from `at` on.
-pub fn put_reply(replies: &mut [usize], at: usize, speech: Speech, steps: usize)
+pub fn put_reply(replies: &mut [usize], at: usize, speech: Result<Spoken, Refusal>, steps: usize)
     requires { at + reply_size ≤ length replies.old }
     ensures { replies.new ≡ take at replies.old ++ (spoken_code (told_of speech) ∷ phones_or_place (told_of speech) ∷ numbers_given (told_of speech) ∷ steps ∷ contested_given (told_of speech) ∷ drop (at + reply_size) replies.old) }
 {

@@ -2,20 +2,21 @@
 -- Assumes nothing.
 use mathlib.Core.Path.{◌≡◌, sym, ap, ◌∙◌, subst}
 use Prim.Native.Nat.{ℕ, zero, suc, ◌+◌, ◌-◌, ◌*◌, ◌≤◌, ◌<◌, min}
-use native.Mathlib.Nat.{not-suc-le-zero}
 use native.Mathlib.Numerals.{add-one}
 use native.Mathlib.Omega.{arith}
 use mathlib.Core.List.{List}
-use lib.ListN.{length, get_or, set}
-use lib.Seq.{get_or-set_same, get_or-set_other}
+use lib.ListN.{length, get_or}
 use Rattle.automaton.specs.Automaton.{Rows, key_of, val_of, rows_of, phones_at}
 use Rattle.automaton.specs.Listing.{own}
+use lib.Dec.{ltb}
+use borrow.Author.Tests.{lt-ltb, le-ltb}
+use mir.Val.{bool_byte}
 use Rattle.automaton.specs.Totals.{sum, total}
 use Rattle.automaton.proofs.Tests.{by_same, by_less}
 use Rattle.automaton.proofs.Totals.{total_blank, total_step, own_zero, own_one}
 use Rattle.states.specs.States.{Placing, Split}
 use Rattle.measures.proofs.Cursors.{Cursor, cursor_at, cursor_begin, cursor_end, phones_left, phones_none}
-use Rattle.measures.specs.Measures.{Counts, Looked, Counted, CountAsks}
+use Rattle.measures.specs.Measures.{Looked, CountAsks}
 
 sum_next : (g : ℕ → ℕ) (k : ℕ) → sum g (k + 1) ≡ sum g k + g (k + 1)
 unfolding sum
@@ -27,13 +28,13 @@ pub record Adding (f : Rows) (q k s : ℕ) : Type 0 where
   pub small : s ≤ 1 + 1001 * k
   pub right : min 1001 s ≡ min 1001 (length (own (phones_at f q)) + sum (λ c. total f (f q c)) k)
 
-pub adding_begin : (ws : List ℕ) (n q : ℕ) (counts : List ℕ) (a e to s : ℕ) → CountAsks ws n q counts → Placing ws n q a to → Split ws a to 64 e → Counts e to s → Adding (rows_of ws) q 0 s
+pub adding_begin : (ws : List ℕ) (n q : ℕ) (counts : List ℕ) (a e to s : ℕ) → CountAsks ws n q counts → Placing ws n q a to → Split ws a to 64 e → s ≡ bool_byte (ltb e to) → Adding (rows_of ws) q 0 s
 unfolding sum
 adding_begin ws n q counts a e to s k p u c =
     let f = rows_of ws in
     by_less e to
-    (λ h. let x = c.one h in let b = own_one f q (phones_left ws n q a to e k.sound k.inside p u h) in record { within = omega arith; small = omega arith; right = omega arith })
-    (λ h. let x = c.none h in let b = own_zero f q (phones_none ws n q a to e p u h) in record { within = omega arith; small = omega arith; right = omega arith })
+    (λ h. let x : s ≡ 1 = c ∙ ap bool_byte (lt-ltb e to h) in let b = own_one f q (phones_left ws n q a to e k.sound k.inside p u h) in record { within = omega arith; small = omega arith; right = omega arith })
+    (λ h. let x : s ≡ 0 = c ∙ ap bool_byte (le-ltb e to h) in let b = own_zero f q (phones_none ws n q a to e p u h) in record { within = omega arith; small = omega arith; right = omega arith })
 
 -- nothing stands at the places passed over
 pub adding_skip : (ws : List ℕ) (n q : ℕ) (counts : List ℕ) (k d s : ℕ) → CountAsks ws n q counts → k + d ≤ 63 → ((c : ℕ) → k < c → c ≤ k + d → rows_of ws q c ≡ 0) → Adding (rows_of ws) q k s → Adding (rows_of ws) q (k + d) s
@@ -120,7 +121,7 @@ module _ (ws : List ℕ) (n q : ℕ) (counts : List ℕ) (k : CountAsks ws n q c
         adding = subst (λ (t : ℕ). Adding (rows_of ws) q t (s + r)) z (adding_next ws n q counts (key_of (get_or ws i 0) - 1) s x r k (omega arith) at_key turn_is o);
       }
 
-pub counting-begin : (ws : List ℕ) (n q : ℕ) (counts : List ℕ) (a e to s : ℕ) → CountAsks ws n q counts → Placing ws n q a to → Split ws a to 64 e → Counts e to s → Counting ws q a e a s
+pub counting-begin : (ws : List ℕ) (n q : ℕ) (counts : List ℕ) (a e to s : ℕ) → CountAsks ws n q counts → Placing ws n q a to → Split ws a to 64 e → s ≡ bool_byte (ltb e to) → Counting ws q a e a s
 counting-begin ws n q counts a e to s k p u c = record { upto = 0; cursor = cursor_begin ws n q a to e p u; adding = adding_begin ws n q counts a e to s k p u c }
 
 pub counting_end : (ws : List ℕ) (n q : ℕ) (counts : List ℕ) (a e i s : ℕ) → CountAsks ws n q counts → Counting ws q a e i s → e ≤ i → min 1001 s ≡ min 1001 (total (rows_of ws) q)
@@ -130,31 +131,3 @@ counting_end ws n q counts a e i s k g h =
     let y : g.upto + (63 - g.upto) ≡ 63 = omega arith in
     adding_end ws n q counts 63 s k (omega arith)
     (subst (λ (t : ℕ). Adding (rows_of ws) q t s) y (adding_skip ws n q counts g.upto (63 - g.upto) s k (omega arith) (λ d u v. z d u (omega arith)) g.adding))
-
--- ---- state after state
-
-pub asks_at : (ws : List ℕ) (n : ℕ) (c₀ counts : List ℕ) (q : ℕ) → CountAsks ws n 0 c₀ → q ≤ n → length counts ≡ length c₀ → Counted (rows_of ws) q counts → CountAsks ws n q counts
-asks_at ws n c₀ counts q a h e c =
-    let r = a.room in
-    record { sound = a.sound; states = a.states; laid = a.laid; room = omega arith; inside = h; counted = c }
-
-pub counted_none : (f : Rows) (counts : List ℕ) → Counted f 0 counts
-counted_none f counts x l = absurd (not-suc-le-zero l)
-
-pub counted_next : (f : Rows) (q : ℕ) (counts : List ℕ) (r : ℕ) → Counted f q counts → q < length counts → r ≡ min 1001 (total f q) → Counted f (q + 1) (set counts q r)
-counted_next f q counts r c h e x l =
-    by_same x q
-    (λ i. ap (λ (v : ℕ). get_or (set counts q r) v 0) i ∙ (get_or-set_same counts q r 0 h ∙ (e ∙ ap (λ (v : ℕ). min 1001 (total f v)) (sym i))))
-    (λ ne. get_or-set_other counts q x r 0 ne ∙ c x (omega arith))
-
-pub count_small : (f : Rows) (q r : ℕ) → r ≡ min 1001 (total f q) → r ≤ 1001
-count_small f q r e = omega arith
-
-pub capped_low : (s t : ℕ) → min 1001 s ≡ min 1001 t → s < 1001 → s ≡ min 1001 t
-capped_low s t e h = omega arith
-
-pub capped_high : (s t : ℕ) → min 1001 s ≡ min 1001 t → 1001 ≤ s → 1001 ≡ min 1001 t
-capped_high s t e h = omega arith
-
-pub counted_end : (f : Rows) (q n : ℕ) (counts : List ℕ) → q ≡ n → Counted f q counts → Counted f n counts
-counted_end f q n counts e c x l = c x (omega arith)

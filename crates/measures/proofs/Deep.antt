@@ -2,18 +2,16 @@
 -- Assumes nothing.
 use mathlib.Core.Path.{◌≡◌, refl, sym, ap, ◌∙◌, subst}
 use Prim.Native.Nat.{ℕ, zero, suc, ◌+◌, ◌-◌, ◌≤◌, ◌<◌, min, max}
-use native.Mathlib.Nat.{not-suc-le-zero}
 use native.Mathlib.Omega.{arith}
 use mathlib.Core.List.{List, [], ◌∷◌}
-use lib.ListN.{length, get_or, set}
-use lib.Seq.{get_or-set_same, get_or-set_other}
+use lib.ListN.{length, get_or}
 use Rattle.automaton.specs.Automaton.{Str, Rows, key_of, val_of, rows_of, look, Letters}
 use Rattle.automaton.proofs.Tests.{by_same, by_less}
 use Rattle.automaton.proofs.Endings.{leads}
 use Rattle.automaton.proofs.NameLengths.{blank_says}
 use Rattle.states.specs.States.{Placing, Split}
 use Rattle.measures.proofs.Cursors.{Cursor, cursor_at, cursor_begin, cursor_end}
-use Rattle.measures.specs.Measures.{Longest, Depth, DeepAsks, Short, Larger, Under}
+use Rattle.measures.specs.Measures.{Longest, Depth, DeepAsks, Short, Under}
 
 -- the names that go on with one of the first k letters
 pub record Measuring (f : Rows) (q k v : ℕ) : Type 0 where
@@ -63,14 +61,14 @@ module _ (ws : List ℕ) (n q : ℕ) (depths : List ℕ) (a : DeepAsks ws n q de
   pub deep_look : (k x : ℕ) → k < 63 → x ≡ rows_of ws q (k + 1) → x < length depths
   deep_look k x h e = let y = a.sound.earlier q (k + 1) a.inside (omega arith) in let i = a.inside in let r = a.room in omega arith
 
-  module _ (k v : ℕ) (h : k < 63) (m : Measuring (rows_of ws) q k v) (x r v' : ℕ) (e : x ≡ rows_of ws q (k + 1)) (u : Under depths x r) (l : Larger v r v') where
+  module _ (k v : ℕ) (h : k < 63) (m : Measuring (rows_of ws) q k v) (x r v' : ℕ) (e : x ≡ rows_of ws q (k + 1)) (u : Under depths x r) (l : v' ≡ max v r) where
     f : Rows
     f = rows_of ws
 
     skip : x ≡ 0 → Measuring (rows_of ws) q (k + 1) v'
     skip z =
         let b = u.none z in
-        let d = l.is in
+        let d = l in
         let sm = m.small in
         let cp = m.capped in
         record {
@@ -92,13 +90,13 @@ module _ (ws : List ℕ) (n q : ℕ) (depths : List ℕ) (a : DeepAsks ws n q de
         let y = a.sound.earlier q (k + 1) a.inside (omega arith) in
         let dp = a.measured x (omega arith) in
         let b = u.some ne in
-        let d = l.is in
+        let d = l in
         let g₁ : r ≡ min 65 dp.depth + 1 = b ∙ ap (λ (j : ℕ). j + 1) dp.capped in
         record {
           depth = max m.depth (suc dp.depth);
           within = omega arith;
-          small = small_max v r v' dp.depth m.small g₁ l.is;
-          capped = ap (min 65) l.is ∙ capped_max v m.depth r dp.depth m.capped g₁;
+          small = small_max v r v' dp.depth m.small g₁ l;
+          capped = ap (min 65) l ∙ capped_max v m.depth r dp.depth m.capped g₁;
           most = λ c w p g t s.
               by_same c (k + 1)
               (λ i.
@@ -138,11 +136,8 @@ module _ (ws : List ℕ) (n q : ℕ) (depths : List ℕ) (a : DeepAsks ws n q de
       most_of [] t s = omega arith
       most_of (c ∷ w) t s = let l = t.1 in let b = m.within in m.most c w t.0 (omega arith) t.2 s
 
-  pub depth_low : (k v : ℕ) → 63 ≤ k → Measuring (rows_of ws) q k v → v < 65 → Depth (rows_of ws) q v
-  depth_low k v h m l = let c = m.capped in record { depth = m.depth; longest = long_of k v h m; capped = omega arith }
-
-  pub depth_high : (k v : ℕ) → 63 ≤ k → Measuring (rows_of ws) q k v → 65 ≤ v → Depth (rows_of ws) q 65
-  depth_high k v h m l = let c = m.capped in record { depth = m.depth; longest = long_of k v h m; capped = omega arith }
+  pub depth_capped : (k v r : ℕ) → 63 ≤ k → Measuring (rows_of ws) q k v → r ≡ min v 65 → Depth (rows_of ws) q r
+  depth_capped k v r h m e = let c = m.capped in record { depth = m.depth; longest = long_of k v h m; capped = omega arith }
 
 -- ---- cell after cell
 
@@ -162,7 +157,7 @@ module _ (ws : List ℕ) (n q : ℕ) (depths : List ℕ) (k : DeepAsks ws n q de
       let e : j + d + 1 ≡ j + suc d = omega arith in
       subst (λ (t : ℕ). Measuring (rows_of ws) q t v) e
       (measuring_next ws n q depths k (j + d) v (omega arith) i 0 0 v (sym (z (j + d + 1) (omega arith) (omega arith)))
-      (record { none = λ o. refl; some = λ o. absurd (o refl) }) (record { is = omega arith }))
+      (record { none = λ o. refl; some = λ o. absurd (o refl) }) (omega arith))
 
   module _ (a e i v : ℕ) (g : Deepening ws q a e i v) (h : i < e) (x : ℕ) (xe : x ≡ val_of (get_or ws i 0)) where
     turn_is : x ≡ rows_of ws q (key_of (get_or ws i 0) - 1 + 1)
@@ -175,7 +170,7 @@ module _ (ws : List ℕ) (n q : ℕ) (depths : List ℕ) (k : DeepAsks ws n q de
     pub depth_fits : x < length depths
     depth_fits = let c = cursor_at ws q a e g.upto i g.cursor h in let lo = c.low in let hi = c.high in deep_look ws n q depths k (key_of (get_or ws i 0) - 1) x (omega arith) turn_is
 
-    pub deepening_next : (r v' : ℕ) → Under depths x r → Larger v r v' → Deepening ws q a e (i + 1) v'
+    pub deepening_next : (r v' : ℕ) → Under depths x r → v' ≡ max v r → Deepening ws q a e (i + 1) v'
     deepening_next r v' u l =
         let c = cursor_at ws q a e g.upto i g.cursor h in
         let lo = c.low in
@@ -201,24 +196,6 @@ module _ (ws : List ℕ) (n q : ℕ) (depths : List ℕ) (k : DeepAsks ws n q de
 
 abbrev pub Measured : List ℕ → ℕ → List ℕ → Type 0
 Measured ws q depths = (x : ℕ) → x < q → Depth (rows_of ws) x (get_or depths x 0)
-
-pub deep_at : (ws : List ℕ) (n : ℕ) (d₀ depths : List ℕ) (q : ℕ) → DeepAsks ws n 0 d₀ → q ≤ n → length depths ≡ length d₀ → Measured ws q depths → DeepAsks ws n q depths
-deep_at ws n d₀ depths q a h e c = let r = a.room in record { sound = a.sound; states = a.states; laid = a.laid; room = omega arith; inside = h; measured = c }
-
-pub measured_none : (ws depths : List ℕ) → Measured ws 0 depths
-measured_none ws depths x l = absurd (not-suc-le-zero l)
-
-pub measured_next : (ws : List ℕ) (q : ℕ) (depths : List ℕ) (r : ℕ) → Measured ws q depths → q < length depths → Depth (rows_of ws) q r → Measured ws (q + 1) (set depths q r)
-measured_next ws q depths r c h d x l =
-    by_same x q
-    (λ i. subst (λ (v : ℕ). Depth (rows_of ws) v (get_or (set depths q r) v 0)) (sym i) (subst (λ (v : ℕ). Depth (rows_of ws) q v) (sym (get_or-set_same depths q r 0 h)) d))
-    (λ ne. subst (λ (v : ℕ). Depth (rows_of ws) x v) (sym (get_or-set_other depths q x r 0 ne)) (c x (omega arith)))
-
-pub measured_end : (ws : List ℕ) (q n : ℕ) (depths : List ℕ) → q ≡ n → Measured ws q depths → Measured ws n depths
-measured_end ws q n depths e c x l = c x (omega arith)
-
-pub depth_small : (f : Rows) (q r : ℕ) → Depth f q r → r ≤ 65
-depth_small f q r d = let c = d.capped in omega arith
 
 -- a depth of at most 64 is just what short names are
 pub short_yes : (f : Rows) (n r : ℕ) → Depth f n r → r ≤ 64 → Short f n

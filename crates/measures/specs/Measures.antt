@@ -1,13 +1,8 @@
 -- What counting the names asks and gives.
 -- Assumes nothing.
-use Rattle.std.specs.Prelude.{◌≡◌, ℕ, ◌+◌, ◌≤◌, ◌<◌, min, max, List, [], length, get_or}
+use Rattle.std.specs.Prelude.{◌≡◌, ℕ, ◌+◌, ◌≤◌, ◌<◌, min, List, [], length, get_or}
 use Rattle.automaton.specs.Automaton.{Str, Rows, rows_of, Laid, look, Letters, Sound}
 use Rattle.automaton.specs.Totals.{total}
-
--- 1 where cells are left
-pub record Counts (e to r : ℕ) : Type 0 where
-  pub none : to ≤ e → r ≡ 0
-  pub one : e < to → r ≡ 1
 
 -- the count at x, 0 for the blank state
 pub record Looked (counts : List ℕ) (x r : ℕ) : Type 0 where
@@ -48,9 +43,6 @@ pub record DeepAsks (ws : List ℕ) (n q : ℕ) (depths : List ℕ) : Type 0 whe
 -- a name from the start is at most 64 letters long
 abbrev pub Short : Rows → ℕ → Type 0
 Short f n = (w : Str) → Letters w → (look f n w ≡ [] → ⊥) → length w ≤ 64
-
-pub record Larger (a b r : ℕ) : Type 0 where
-  pub is : r ≡ max a b
 
 -- one more than the depth at x, 0 for the blank state
 pub record Under (depths : List ℕ) (x r : ℕ) : Type 0 where

@@ -4,17 +4,7 @@
 ghost use Rattle.std.specs.Prelude.{◌≡◌, ◌+◌, ◌-◌, ◌<◌, min, length};
 ghost use Rattle.automaton.specs.Automaton.{rows_of};
 ghost use Rattle.automaton.specs.Totals.{total};
-ghost use Rattle.measures.specs.Measures.{Counts, Looked, CountAsks, Depth, DeepAsks, Larger, Under};
-
-// 1 where cells are left.
-fn one_if(e: usize, to: usize) -> usize
-    ensures { Counts e to result }
-{
-    if e < to {
-        return 1;
-    }
-    0
-}
+ghost use Rattle.measures.specs.Measures.{Looked, CountAsks, Depth, DeepAsks, Under};
 
 fn count_at(counts: &[u16], x: usize) -> usize
     requires { x < length counts.now }
@@ -33,19 +23,12 @@ fn count_row(words: &[u32], n: usize, q: usize, counts: &[u16]) -> usize
 {
     let c = states::row_cells(words, n, q);
     let from = c.from;
-    let to = c.to;
-    let e = states::first(words, from, to, automaton::PHONES);
-    let mut s = one_if(e, to);
-    let mut i = from;
-    while i < e {
-        let x = states::val(words[i]);
-        s = s + count_at(counts, x);
-        i += 1;
+    let e = states::first(words, from, c.to, automaton::PHONES);
+    let mut s = usize::from(e < c.to);
+    for &x in &words[from..e] {
+        s += count_at(counts, states::val(x));
     }
-    if s < 1001 {
-        return s;
-    }
-    1001
+    s.min(1001)
 }
 
 // The number of names, 1,001 where it is more.
@@ -53,22 +36,10 @@ pub fn count_names(words: &[u32], n: usize, counts: &mut [u16]) -> usize
     requires { CountAsks words.now n 0 counts.old }
     ensures { result ≡ min 1001 (total (rows_of words.now) n) }
 {
-    let mut q: usize = 0;
-    while q < n {
-        let r = count_row(words, n, q, counts);
-        counts[q] = r as u16;
-        q += 1;
+    for q in 0..n {
+        counts[q] = count_row(words, n, q, counts) as u16;
     }
     count_row(words, n, n, counts)
-}
-
-fn larger(a: usize, b: usize) -> usize
-    ensures { Larger a b result }
-{
-    if a < b {
-        return b;
-    }
-    a
 }
 
 // The depth that a successor x gives: one more than its own, nothing for the blank state.
@@ -89,19 +60,12 @@ fn depth_row(words: &[u32], n: usize, q: usize, depths: &[u16]) -> usize
 {
     let c = states::row_cells(words, n, q);
     let from = c.from;
-    let to = c.to;
-    let e = states::first(words, from, to, automaton::PHONES);
+    let e = states::first(words, from, c.to, automaton::PHONES);
     let mut d: usize = 0;
-    let mut i = from;
-    while i < e {
-        let x = states::val(words[i]);
-        d = larger(d, depth_at(depths, x));
-        i += 1;
+    for &x in &words[from..e] {
+        d = d.max(depth_at(depths, states::val(x)));
     }
-    if d < 65 {
-        return d;
-    }
-    65
+    d.min(65)
 }
 
 // The length of the longest name, 65 where it is more.
@@ -109,11 +73,8 @@ pub fn depth_all(words: &[u32], n: usize, depths: &mut [u16]) -> usize
     requires { DeepAsks words.now n 0 depths.old }
     ensures { Depth (rows_of words.now) n result }
 {
-    let mut q: usize = 0;
-    while q < n {
-        let r = depth_row(words, n, q, depths);
-        depths[q] = r as u16;
-        q += 1;
+    for q in 0..n {
+        depths[q] = depth_row(words, n, q, depths) as u16;
     }
     depth_row(words, n, n, depths)
 }

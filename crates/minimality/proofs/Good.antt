@@ -6,12 +6,18 @@ use native.Mathlib.Omega.{arith}
 use mathlib.Core.Bool.{Bool, true, false}
 use mathlib.Core.List.{List, [], ◌∷◌}
 use lib.Dec.{ltb, eqb}
-use lib.ListN.{length, get_or}
+use lib.ListN.{length, get_or, take, drop}
+use Rattle.std.specs.Ordering.{is_le, nat_cmp}
+use Rattle.std.specs.List.{IsAllAdjacentAnswer}
+use Rattle.std.proofs.Common.{length-take}
+use Rattle.std.proofs.lemmas.List.{get_or-take}
+use Rattle.std.proofs.lemmas.List.Sorted.{non_decreasing_from_is_sorted}
+use Rattle.std.proofs.lemmas.Map.Keys.{le_from_is_le}
 use borrow.Author.Tests.{ltb-true, ltb-false, eqb-true, eqb-false}
 use Rattle.automaton.specs.Automaton.{key_of, val_of, at, part, cells_of, rows_of, Sorted, Laid, Sound, Needed}
 use Rattle.automaton.proofs.Tests.{by_less, by_same, clash}
 use Rattle.states.proofs.Cells.{at_here, at_there, val_small, sorted_none, same-cells}
-use Rattle.states.proofs.Parts.{part_cons, part_none, part_length}
+use Rattle.states.proofs.Parts.{part_slice, part_none, part_length}
 use Rattle.minimality.specs.Judging.{Decides, Rising, Offsets, CellGood, Good, RowsGood, Apart, Listed}
 use Rattle.minimality.proofs.Scan.{AllTo, all_next, decided, refuted}
 
@@ -49,33 +55,10 @@ cell_next q lo x k v e g a d b h =
 
 -- ---- the cells of a row
 
-pub record Going (ws : List ℕ) (q a e lo i : ℕ) : Type 0 where
-  pub most : i ≤ e
+pub record Going (l : List ℕ) (q lo i : ℕ) : Type 0 where
   pub small : lo ≤ 86
-  pub to : Good q lo (part ws i (e - i)) → Good q 1 (part ws a (e - a))
-  pub back : Good q 1 (part ws a (e - a)) → Good q lo (part ws i (e - i))
-
-pub going_begin : (ws : List ℕ) (q a e : ℕ) → a ≤ e → Going ws q a e 1 a
-going_begin ws q a e h = record { most = h; small = omega arith; to = λ g. g; back = λ g. g }
-
-pub going_next : (ws : List ℕ) (q a e lo i k : ℕ) → Going ws q a e lo i → i < e → CellGood q lo (get_or ws i 0) → k ≡ key_of (get_or ws i 0) → Going ws q a e (k + 1) (i + 1)
-going_next ws q a e lo i k s h g o =
-    let c = part_cons ws i e h in
-    let z : suc (key_of (get_or ws i 0)) ≡ k + 1 = omega arith in
-    let hi = g.high in
-    record {
-      most = omega arith;
-      small = omega arith;
-      to = λ x. s.to (subst (Good q lo) (sym c) (g, subst (λ (t : ℕ). Good q t (part ws (i + 1) (e - (i + 1)))) (sym z) x));
-      back = λ x. subst (λ (t : ℕ). Good q t (part ws (i + 1) (e - (i + 1)))) z (subst (Good q lo) c (s.back x)).1;
-    }
-
-pub going_no : (ws : List ℕ) (q a e lo i : ℕ) → Going ws q a e lo i → i < e → (CellGood q lo (get_or ws i 0) → ⊥) → Decides (Good q 1 (part ws a (e - a))) false
-going_no ws q a e lo i s h n = refuted (Good q 1 (part ws a (e - a))) (λ g. n (subst (Good q lo) (part_cons ws i e h) (s.back g)).0)
-
-pub going_yes : (ws : List ℕ) (q a e lo i : ℕ) → Going ws q a e lo i → e ≤ i → Decides (Good q 1 (part ws a (e - a))) true
-going_yes ws q a e lo i s h =
-    record { yes = λ t. s.to (subst (Good q lo) (sym (part_none ws i (e - i) (omega arith))) tt); no = λ t p. clash refl t }
+  pub to : Good q lo (drop i l) → Good q 1 l
+  pub back : Good q 1 l → Good q lo (drop i l)
 
 -- ---- good rows are sorted and sound
 
@@ -222,28 +205,39 @@ offsets_decided ws n e r a b q h d =
 
 -- ---- where the cells lie
 
-abbrev pub Rise : List ℕ → ℕ → Type 0
-Rise ws q = get_or ws q 0 ≤ get_or ws (suc q) 0
-
 next-is : (ws : List ℕ) (q : ℕ) → get_or ws (q + 1) 0 ≡ get_or ws (suc q) 0
 next-is ws q = let z : q + 1 ≡ suc q = omega arith in ap (λ (t : ℕ). get_or ws t 0) z
 
-pub rise-next : (ws : List ℕ) (q : ℕ) → AllTo (Rise ws) q → (get_or ws (q + 1) 0 < get_or ws q 0 → ⊥) → AllTo (Rise ws) (q + 1)
-rise-next ws q a n = let e = next-is ws q in all_next (Rise ws) q a (omega arith)
-
-pub rise_no : (ws : List ℕ) (n q : ℕ) → q ≤ n → get_or ws (q + 1) 0 < get_or ws q 0 → Decides (Rising ws n) false
-rise_no ws n q h l = let e = next-is ws q in refuted (Rising ws n) (λ r. let x = r q h in omega arith)
-
-pub rise_yes : (ws : List ℕ) (n q : ℕ) → AllTo (Rise ws) q → n < q → Decides (Rising ws n) true
-rise_yes ws n q a h = record { yes = λ e x l. a x (omega arith); no = λ e p. clash refl e }
+-- what `is_sorted` answers for the first n + 2 words
+pub rising_of : (ws : List ℕ) (n : ℕ) (r : Bool) → n + 1 < length ws → IsAllAdjacentAnswer (λ x y b. is_le (nat_cmp x y) ≡ b) (take (n + 2) ws) r → Decides (Rising ws n) r
+rising_of ws n true h a =
+    let t = length-take (n + 2) ws in
+    record {
+      yes = λ e q l.
+          let x = get_or-take (n + 2) ws q 0 (omega arith) in
+          let y = get_or-take (n + 2) ws (q + 1) 0 (omega arith) in
+          let z = next-is ws q in
+          let g : get_or (take (n + 2) ws) q 0 ≤ get_or (take (n + 2) ws) (q + 1) 0 = le_from_is_le _ _ (a q 0 (omega arith)) in
+          omega arith;
+      no = λ e. clash refl e;
+    }
+rising_of ws n false h a =
+    let t = length-take (n + 2) ws in
+    let m = non_decreasing_from_is_sorted (take (n + 2) ws) false a in
+    let l = m.1 in
+    let x = get_or-take (n + 2) ws m.0 0 (omega arith) in
+    let y = get_or-take (n + 2) ws (m.0 + 1) 0 (omega arith) in
+    let z = next-is ws m.0 in
+    let g = m.2 0 in
+    refuted (Rising ws n) (λ p. let u = p m.0 (omega arith) in omega arith)
 
 -- the rows one after another
 abbrev pub RowGood : List ℕ → ℕ → Type 0
 RowGood ws q = Good q 1 (cells_of ws q)
 
-pub row_is : (ws : List ℕ) (q a e : ℕ) → a ≡ get_or ws q 0 → e ≡ get_or ws (q + 1) 0 → cells_of ws q ≡ part ws a (e - a)
+pub row_is : (ws : List ℕ) (q a e : ℕ) → (a ≤ e) × (e ≤ length ws) → a ≡ get_or ws q 0 → e ≡ get_or ws (q + 1) 0 → cells_of ws q ≡ take (e - a) (drop a ws)
 unfolding cells_of
-row_is ws q a e x y = ap₂ (λ (u v : ℕ). part ws u (v - u)) (sym x) (sym (y ∙ next-is ws q))
+row_is ws q a e h x y = ap₂ (λ (u v : ℕ). part ws u (v - u)) (sym x) (sym (y ∙ next-is ws q)) ∙ sym (part_slice ws a (e - a) (omega arith))
 
 climbs : (ws : List ℕ) (n : ℕ) → Offsets ws n → (p d : ℕ) → p + d ≤ suc n → get_or ws p 0 ≤ get_or ws (p + d) 0
 climbs ws n o p zero h = let z : p ≡ p + 0 = omega arith in let y : get_or ws p 0 ≡ get_or ws (p + 0) 0 = ap (λ (t : ℕ). get_or ws t 0) z in omega arith
@@ -264,11 +258,13 @@ row_fits ws n q a e o h x y =
     let g : get_or ws (suc q + (n - q)) 0 ≡ get_or ws (suc n) 0 = ap (λ (t : ℕ). get_or ws t 0) w in
     (omega arith, omega arith)
 
-pub rows_next : (ws : List ℕ) (q a e : ℕ) → AllTo (RowGood ws) q → a ≡ get_or ws q 0 → e ≡ get_or ws (q + 1) 0 → Good q 1 (part ws a (e - a)) → AllTo (RowGood ws) (q + 1)
-rows_next ws q a e al x y g = all_next (RowGood ws) q al (subst (Good q 1) (sym (row_is ws q a e x y)) g)
+pub rows_next : (ws : List ℕ) (q a e : ℕ) → (a ≤ e) × (e ≤ length ws) → AllTo (RowGood ws) q → a ≡ get_or ws q 0 → e ≡ get_or ws (q + 1) 0
+    → Good q 1 (take (e - a) (drop a ws)) → AllTo (RowGood ws) (q + 1)
+rows_next ws q a e h al x y g = all_next (RowGood ws) q al (subst (Good q 1) (sym (row_is ws q a e h x y)) g)
 
-pub rows_no : (ws : List ℕ) (n q a e : ℕ) → q ≤ n → a ≡ get_or ws q 0 → e ≡ get_or ws (q + 1) 0 → (Good q 1 (part ws a (e - a)) → ⊥) → Decides (RowsGood ws n) false
-rows_no ws n q a e h x y ne = refuted (RowsGood ws n) (λ r. ne (subst (Good q 1) (row_is ws q a e x y) (r q h)))
+pub rows_no : (ws : List ℕ) (n q a e : ℕ) → (a ≤ e) × (e ≤ length ws) → q ≤ n → a ≡ get_or ws q 0 → e ≡ get_or ws (q + 1) 0
+    → (Good q 1 (take (e - a) (drop a ws)) → ⊥) → Decides (RowsGood ws n) false
+rows_no ws n q a e f h x y ne = refuted (RowsGood ws n) (λ r. ne (subst (Good q 1) (row_is ws q a e f x y) (r q h)))
 
 pub rows_yes : (ws : List ℕ) (n q : ℕ) → AllTo (RowGood ws) q → n < q → Decides (RowsGood ws n) true
 rows_yes ws n q a h = record { yes = λ e x l. a x (omega arith); no = λ e p. clash refl e }

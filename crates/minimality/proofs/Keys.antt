@@ -6,39 +6,27 @@ use native.Mathlib.Nat.{not-suc-le-zero}
 use native.Mathlib.Omega.{arith}
 use mathlib.Core.Bool.{true, false}
 use mathlib.Core.List.{List, [], ◌∷◌}
-use lib.ListN.{length, get_or, set}
+use lib.ListN.{length, get_or, set, take, drop}
 use lib.Seq.{get_or-set_same, get_or-set_other}
-use Rattle.automaton.specs.Automaton.{part, cells_of, rows_of, Laid, Alike}
+use Rattle.automaton.specs.Automaton.{cells_of, rows_of, Laid, Alike}
 use Rattle.automaton.proofs.Tests.{by_less, by_same, clash}
 use Rattle.states.specs.States.{Written, Placing}
 use Rattle.states.proofs.Rows.{begins_rise}
 use Rattle.states.proofs.Cells.{same-cells}
-use Rattle.states.proofs.Parts.{part_cons, part_none}
-use Rattle.minimality.specs.Judging.{Decides, Apart}
+use Rattle.states.proofs.Parts.{part_slice}
+use Rattle.minimality.specs.Judging.{Decides}
 use Rattle.minimality.proofs.Scan.{AllTo, all_next, refuted}
 use Rattle.minimality.specs.Chains.{hash, key_of, Fresh, LastWith, Linked, Headed}
 use Rattle.compaction.specs.Compaction.{zero_of}
 
 -- the rest, from h, has the key of the whole
-pub record Hashing (ws : List ℕ) (a e h i : ℕ) : Type 0 where
-  pub most : i ≤ e
+pub record Hashing (l : List ℕ) (h i : ℕ) : Type 0 where
   pub small : h < 4093
-  pub rest : key_of (part ws a (e - a)) ≡ hash h (part ws i (e - i))
+  pub rest : key_of l ≡ hash h (drop i l)
 
-pub hash_begin : (ws : List ℕ) (a e : ℕ) → a ≤ e → Hashing ws a e 0 a
+pub hash_begin : (l : List ℕ) → Hashing l 0 0
 unfolding key_of
-hash_begin ws a e h = record { most = h; small = omega arith; rest = refl }
-
-pub hash_next : (ws : List ℕ) (a e h i x : ℕ) → Hashing ws a e h i → i < e → x ≡ get_or ws i 0 → Hashing ws a e ((h * 31 + x) % 4093) (i + 1)
-hash_next ws a e h i x s l g =
-    record {
-      most = omega arith;
-      small = omega arith;
-      rest = s.rest ∙ (ap (hash h) (part_cons ws i e l) ∙ ap (λ (t : ℕ). hash ((h * 31 + t) % 4093) (part ws (i + 1) (e - (i + 1)))) (sym g));
-    }
-
-pub hash_end : (ws : List ℕ) (a e h i : ℕ) → Hashing ws a e h i → e ≤ i → h ≡ key_of (part ws a (e - a))
-hash_end ws a e h i s l = let m = s.most in sym (s.rest ∙ ap (hash h) (part_none ws i (e - i) (omega arith)))
+hash_begin l = record { small = omega arith; rest = refl }
 
 hash_below : (h : ℕ) (l : List ℕ) → h < 4093 → hash h l < 4093
 hash_below h [] b = b
@@ -146,9 +134,6 @@ module _ (ws : List ℕ) (n t : ℕ) (heads links : List ℕ) (c : Chaining ws n
             (λ ne. subst (λ (v : ℕ). LastWith ws i (key_of (cells_of ws i)) v) (sym (keep i ne)) (c.linked i (omega arith)));
       }
 
-pub chain_no : (ws : List ℕ) (n t : ℕ) → t ≤ n → (Fresh ws t → ⊥) → Decides (Apart (rows_of ws) n) false
-chain_no ws n t l x = refuted (Apart (rows_of ws) n) (λ p. x (λ j h a. let e = p j t (omega arith) l a in omega arith))
-
 pub laid_upto : (ws : List ℕ) (n m : ℕ) → Laid ws n → m ≤ n → Laid ws m
 laid_upto ws n m l h =
     let e = begins_rise ws n (suc m) (suc n) l (omega arith) (omega arith) in
@@ -156,5 +141,8 @@ laid_upto ws n m l h =
     let f = l.few in
     record { few = omega arith; start = l.start; ends = λ q g. l.ends q (omega arith); inside = omega arith; sorted = λ q g. l.sorted q (omega arith) }
 
-pub key-of : (ws : List ℕ) (n q a e r : ℕ) → Placing ws n q a e → r ≡ key_of (part ws a (e - a)) → r ≡ key_of (cells_of ws q)
-key-of ws n q a e r p h = h ∙ ap key_of (sym p.cells)
+pub key-of : (ws : List ℕ) (n q a e r : ℕ) → Placing ws n q a e → r ≡ key_of (take (e - a) (drop a ws)) → r ≡ key_of (cells_of ws q)
+key-of ws n q a e r p h =
+    let o = p.order in
+    let w = p.within in
+    h ∙ ap key_of (part_slice ws a (e - a) (omega arith) ∙ sym p.cells)

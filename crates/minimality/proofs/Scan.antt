@@ -6,7 +6,12 @@ use native.Mathlib.Nat.{not-suc-le-zero}
 use native.Mathlib.Omega.{arith}
 use mathlib.Core.Bool.{Bool, true, false, not}
 use mathlib.Core.List.{List}
-use lib.ListN.{get_or}
+use lib.ListN.{length, get_or, take}
+use lib.Dec.{eqb}
+use borrow.Author.Tests.{eqb-true, eqb-false}
+use Rattle.std.specs.List.{IsAnyAnswer}
+use Rattle.std.proofs.Common.{length-take}
+use Rattle.std.proofs.lemmas.List.{get_or-take}
 use Rattle.automaton.specs.Automaton.{rows_of, Sound, Needed}
 use Rattle.automaton.proofs.Tests.{by_less, by_same, clash}
 use Rattle.compaction.specs.Compaction.{Spread}
@@ -16,17 +21,8 @@ use Rattle.minimality.specs.Chains.{Fresh}
 abbrev pub AllTo : (ℕ → Type 0) → ℕ → Type 0
 AllTo P k = (j : ℕ) → j < k → P j
 
-pub all_begin : (P : ℕ → Type 0) → AllTo P 0
-all_begin P j l = absurd (not-suc-le-zero l)
-
 pub all_next : (P : ℕ → Type 0) (k : ℕ) → AllTo P k → P k → AllTo P (k + 1)
 all_next P k a p j l = by_same j k (λ e. subst P (sym e) p) (λ ne. a j (omega arith))
-
-pub all_yes : (P : ℕ → Type 0) (k b : ℕ) → AllTo P k → b ≤ k → Decides (AllTo P b) true
-all_yes P k b a h = record { yes = λ e j l. a j (omega arith); no = λ e p. clash refl e }
-
-pub all_no : (P : ℕ → Type 0) (k b : ℕ) → k < b → (P k → ⊥) → Decides (AllTo P b) false
-all_no P k b l ne = record { yes = λ e. clash e refl; no = λ e p. ne (p k l) }
 
 pub decided : (P Q : Type 0) (r : Bool) → (P → Q) → (Q → P) → Decides P r → Decides Q r
 decided P Q r f g d = record { yes = λ e. f (d.yes e); no = λ e q. d.no e (g q) }
@@ -47,6 +43,25 @@ holds P false d e = clash refl e
 
 pub up_to : (P : ℕ → Type 0) (n : ℕ) (r : Bool) → Decides (AllTo P (n + 1)) r → Decides ((q : ℕ) → q ≤ n → P q) r
 up_to P n r d = decided (AllTo P (n + 1)) ((q : ℕ) → q ≤ n → P q) r (λ a q l. a q (omega arith)) (λ a q l. a q (omega arith)) d
+
+-- what `contains` answers when 0 is looked for in the first n + 1 numbers
+pub none_zero : (m : List ℕ) (n : ℕ) (r : Bool) → n + 1 ≤ length m → IsAnyAnswer (λ y b. eqb y 0 ≡ b) (take (n + 1) m) r
+    → Decides ((x : ℕ) → x ≤ n → 0 < get_or m x 0) (not r)
+none_zero m n true h a =
+    let t = length-take (n + 1) m in
+    let l = a.1 in
+    let x = get_or-take (n + 1) m a.0 0 (omega arith) in
+    let z = eqb-true _ _ (a.2 0) in
+    record { yes = λ e. clash e refl; no = λ e p. let u = p a.0 (omega arith) in absurd (omega arith) }
+none_zero m n false h a =
+    let t = length-take (n + 1) m in
+    record {
+      yes = λ e x l.
+          let y = get_or-take (n + 1) m x 0 (omega arith) in
+          let z = eqb-false _ _ (a x 0 (omega arith) (omega arith)) in
+          omega arith;
+      no = λ e. clash refl e;
+    }
 
 pub apart_yes : (ws : List ℕ) (n k : ℕ) → AllTo (Fresh ws) k → n < k → Decides (Apart (rows_of ws) n) true
 apart_yes ws n k a h =

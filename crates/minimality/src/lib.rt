@@ -2,7 +2,7 @@
 #![tactic(auto)]
 
 ghost use Rattle.std.specs.Prelude.{◌≡◌, ℕ, ◌+◌, ◌-◌, ◌*◌, ◌<◌, ◌≤◌, length, get_or};
-ghost use Rattle.automaton.specs.Automaton.{part, cells_of, rows_of, Needed};
+ghost use Rattle.automaton.specs.Automaton.{cells_of, rows_of, Needed};
 ghost use Rattle.states.specs.States.{AsksState};
 ghost use Rattle.compaction.specs.Compaction.{SweepAsks};
 ghost use Rattle.minimality.specs.Judging.{Decides, CellGood, Good, Rising, Offsets, RowsGood, Apart, Listed, ListAsks};
@@ -13,14 +13,7 @@ fn rising(words: &[u32], n: usize) -> bool
     requires { n + 1 < length words.now }
     ensures { Decides (Rising words.now n) result }
 {
-    let mut q: usize = 0;
-    while q <= n {
-        if words[q + 1] < words[q] {
-            return false;
-        }
-        q += 1;
-    }
-    true
+    words[..n + 2].is_sorted()
 }
 
 // The cells lie in the words, one state's after another's, and the blank state has none.
@@ -64,20 +57,16 @@ fn cell_good(q: usize, lo: usize, x: u32) -> bool
     k == lo
 }
 
-// The cells a to e may be those of row q.
-fn row_good(words: &[u32], q: usize, a: usize, e: usize) -> bool
-    requires { (a ≤ e) × (e ≤ length words.now) }
-    ensures { Decides (Good q 1 (part words.now a (e - a))) result }
+// The cells may be those of row q.
+fn row_good(q: usize, cells: &[u32]) -> bool
+    ensures { Decides (Good q 1 cells.now) result }
 {
     let mut lo: usize = 1;
-    let mut i = a;
-    while i < e {
-        let x = words[i];
+    for &x in cells {
         if !cell_good(q, lo, x) {
             return false;
         }
         lo = states::key(x) + 1;
-        i += 1;
     }
     true
 }
@@ -86,28 +75,23 @@ fn rows_good(words: &[u32], n: usize) -> bool
     requires { (n < 4180) × (4200 ≤ length words.now) × Offsets words.now n }
     ensures { Decides (RowsGood words.now n) result }
 {
-    let mut q: usize = 0;
-    while q <= n {
+    for q in 0..=n {
         let a = numbers::wide32(words[q]);
         let e = numbers::wide32(words[q + 1]);
-        if !row_good(words, q, a, e) {
+        if !row_good(q, &words[a..e]) {
             return false;
         }
-        q += 1;
     }
     true
 }
 
-// The key of the cells a to e.
-fn key(words: &[u32], a: usize, e: usize) -> usize
-    requires { (a ≤ e) × (e ≤ length words.now) }
-    ensures { result ≡ key_of (part words.now a (e - a)) }
+// The key of the cells of a row.
+fn key(cells: &[u32]) -> usize
+    ensures { result ≡ key_of cells.now }
 {
     let mut h: usize = 0;
-    let mut i = a;
-    while i < e {
-        h = (h * 31 + numbers::wide32(words[i])) % 4093;
-        i += 1;
+    for &x in cells {
+        h = (h * 31 + numbers::wide32(x)) % 4093;
     }
     h
 }
@@ -118,9 +102,7 @@ fn row_key(words: &[u32], n: usize, q: usize) -> usize
     ensures { result ≡ key_of (cells_of words.now q) }
 {
     let s = states::row_cells(words, n, q);
-    let from = s.from;
-    let to = s.to;
-    key(words, from, to)
+    key(&words[s.from..s.to])
 }
 
 // No row of the chain that starts at `from` holds what row t does.
@@ -144,8 +126,7 @@ fn apart(words: &[u32], heads: &mut [u16], links: &mut [u16], n: usize) -> bool
     ensures { Decides (Apart (rows_of words.now) n) result }
 {
     compaction::clear(heads, 4093);
-    let mut t: usize = 0;
-    while t <= n {
+    for t in 0..=n {
         let h = row_key(words, n, t);
         let from = heads[h];
         if !walk(words, links, t, numbers::wide16(from)) {
@@ -153,7 +134,6 @@ fn apart(words: &[u32], heads: &mut [u16], links: &mut [u16], n: usize) -> bool
         }
         links[t] = from;
         heads[h] = (t + 1) as u16;
-        t += 1;
     }
     true
 }
@@ -163,14 +143,7 @@ fn all_marked(marks: &[u16], n: usize) -> bool
     requires { n + 1 ≤ length marks.now }
     ensures { Decides ((x : ℕ) → x ≤ n → 0 < get_or marks.now x 0) result }
 {
-    let mut x: usize = 0;
-    while x <= n {
-        if marks[x] == 0 {
-            return false;
-        }
-        x += 1;
-    }
-    true
+    !marks[..=n].contains(&0)
 }
 
 // Every state but the start n is a successor of one.

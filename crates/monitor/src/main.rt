@@ -3,114 +3,42 @@
 
 mod input_lines;
 
-ghost use Rattle.std.specs.Prelude.{◌≤◌, length};
-ghost use Rattle.rules_hex.specs.Counts.{IsPrefixLen};
-ghost use Rattle.command_parts.specs.Memory.{Held};
+ghost use Rattle.std.specs.Prelude.{◌≤◌};
+ghost use Rattle.file_format.specs.Layout.{longest_file};
 
-use input_lines::{MAX_LINE, Next};
-use list_commands::Reply;
+use input_lines::{Input, MAX_LINE};
+use std::io;
 use std::io::Read;
 use std::rt::Files;
 
-// A command: how many bytes it has, and how many rules.hex where it asks for them.
-#[derive(Clone, Copy)]
-struct Command {
-    len: usize,
-    file: usize,
-}
-
-// The bytes of rules.hex where the command asks for them.
-fn fetch(rt: &impl Files, command: &[u8], file: &mut [u8]) -> usize
-    ensures { IsPrefixLen result file.new }
-{
-    if commands::asks_for_file(command) {
-        return rules_hex::read(rt, file);
-    }
-    0
-}
-
-// The command in a line's text, and what it asks for.
-fn command_in(rt: &impl Files, text: &[u8], frame: &mut [u8], file: &mut [u8]) -> Command
-    ensures { IsPrefixLen result.len frame.new × IsPrefixLen result.file file.new }
-{
-    let len = commands::command_in(text, &mut *frame);
-    let size = fetch(rt, &frame[..len], file);
-    Command { len, file: size }
-}
-
-// The answer to a command, and how many units of the list are lent from then on.
-fn answer(
-    command: &[u8],
-    file: &[u8],
-    image: &mut [u8],
-    list: &mut [u32],
+// The memory that the commands work on. Of the list, `lent` units are lent.
+#[derive(Drop)]
+struct Memory {
+    image: [u8; image::SIZE],
+    list: [u32; exceptions::SIZE],
     lent: usize,
-    text: &mut [u8],
-    words: &mut [u16],
-    sets: &mut [u64],
-    phones: &mut [u8],
-    numbers: &mut [u16],
-    contested: &mut u8,
-    out: &mut [u8],
-) -> Reply
-    requires { (lent ≤ length list.old) × Held (length image.old) (length phones.old) (length numbers.old) (length out.old) }
-    ensures { (result.len ≤ length out.new) × (result.lent ≤ length list.new) }
-{
-    if list_commands::is_list_command(command) {
-        return list_commands::answer(command, list, lent, text, out);
-    }
-    let len = commands::answer(
-        command,
-        file,
-        image,
-        &list[..lent],
-        words,
-        sets,
-        phones,
-        numbers,
-        contested,
-        out,
-    );
-    Reply { len, lent }
+    text: [u8; 130000],
+    words: [u16; tables::WORDS],
+    sets: [u64; tables::SETS],
+    phones: [u8; 256],
+    numbers: [u16; 64],
+    contested: u8,
+    out: [u8; commands::LONGEST_FILE],
+    ghost within: { lent ≤ 35886 },
 }
 
-// Each line is answered in turn, until the input ends or an answer cannot be written; all units of the list are lent at first. As in
-// `input_lines::next_line`, the turns are counted down.
-fn converse(
-    rt: &(impl Files + Print),
-    from: &mut impl Read,
-    piece: &mut [u8],
-    line: &mut [u8],
-    frame: &mut [u8],
-    file: &mut [u8],
-    image: &mut [u8],
-    list: &mut [u32],
-    text: &mut [u8],
-    words: &mut [u16],
-    sets: &mut [u64],
-    phones: &mut [u8],
-    numbers: &mut [u16],
-    contested: &mut u8,
-    out: &mut [u8],
-)
-    requires { Held (length image.old) (length phones.old) (length numbers.old) (length out.old) }
-{
-    let mut input = input_lines::empty(false);
-    let mut lent = list.len();
-    let mut turns = u64::MAX;
-    while turns > 0 {
-        let read = input_lines::next_line(from, input, piece, line);
-        let next = read.next;
-        if let Next::End = next {
-            return;
-        }
-        let end = input_lines::text_len(next);
-        let command = command_in(rt, &line[..end], frame, file);
-        let len = command.len;
-        let size = command.file;
-        let reply = answer(
-            &frame[..len],
-            &file[..size],
+impl Memory {
+    // The answer to a command; `file` holds the bytes of rules.hex where the command asks for them.
+    fn answer(&mut self, command: &[u8], file: &[u8]) -> &[u8] {
+        let n = self.answer_len(command, file);
+        &self.out[..n]
+    }
+
+    // The answer is written to `out`, and has this length.
+    fn answer_len(&mut self, command: &[u8], file: &[u8]) -> usize
+        ensures { result ≤ longest_file }
+    {
+        let Memory {
             image,
             list,
             lent,
@@ -121,47 +49,71 @@ fn converse(
             numbers,
             contested,
             out,
-        );
-        let n = reply.len;
-        if rt.write_all(&out[..n]).is_err() {
-            return;
+        } = self;
+        if list_commands::is_list_command(command) {
+            let reply = list_commands::answer(command, list, *lent, text, out);
+            *lent = reply.lent;
+            return reply.len;
         }
-        input = read.input;
-        lent = reply.lent;
-        turns -= 1;
+        commands::answer(
+            command,
+            file,
+            image,
+            &list[..*lent],
+            words,
+            sets,
+            phones,
+            numbers,
+            contested,
+            out,
+        )
     }
 }
 
+// The bytes of rules.hex where a command asks for them.
+fn fetch<'m>(rt: &impl Files, command: &[u8], memory: &'m mut [u8]) -> &'m [u8] {
+    if !commands::asks_for_file(command) {
+        return &[];
+    }
+    let n = rules_hex::read(rt, memory);
+    &memory[..n]
+}
+
+// Each line is answered in turn, until the input ends or an answer cannot be written. As in `Input::read_line`, the turns are counted.
+fn converse(
+    rt: &(impl Files + Print),
+    from: &mut impl Read,
+    input: &mut Input,
+    memory: &mut Memory,
+) -> io::Result<()> {
+    let mut frame = [0; MAX_LINE / 2];
+    let mut file = [0; file_format::MAX_INPUT + 1];
+    for _ in 0..u64::MAX {
+        let Some(text) = input.next_line(from) else {
+            break;
+        };
+        let n = commands::command_in(text, &mut frame);
+        let command = &frame[..n];
+        let file = fetch(rt, command, &mut file);
+        rt.write_all(memory.answer(command, file))?;
+    }
+    Ok(())
+}
+
 fn main(rt: HostRuntime) {
-    let mut piece = [0u8; 4096];
-    let mut line = [0u8; MAX_LINE + 1];
-    let mut frame = [0u8; MAX_LINE / 2];
-    let mut file = [0u8; file_format::MAX_INPUT + 1];
-    let mut image = [0u8; image::SIZE];
-    let mut list = [0u32; exceptions::SIZE];
-    exceptions::clear(&mut list);
-    let mut text = [238u8; 130000];
-    let mut words = [65535u16; tables::WORDS];
-    let mut sets = [18446744073709551615u64; tables::SETS];
-    let mut phones = [238u8; 256];
-    let mut numbers = [61166u16; 64];
-    let mut contested = 0u8;
-    let mut out = [0u8; commands::LONGEST_FILE];
-    converse(
-        &rt,
-        &mut rt.reader(),
-        &mut piece,
-        &mut line,
-        &mut frame,
-        &mut file,
-        &mut image,
-        &mut list,
-        &mut text,
-        &mut words,
-        &mut sets,
-        &mut phones,
-        &mut numbers,
-        &mut contested,
-        &mut out,
-    );
+    let mut memory = Memory {
+        image: [0; image::SIZE],
+        list: [0; exceptions::SIZE],
+        lent: exceptions::SIZE,
+        text: [238; 130000],
+        words: [65535; tables::WORDS],
+        sets: [18446744073709551615; tables::SETS],
+        phones: [238; 256],
+        numbers: [61166; 64],
+        contested: 0,
+        out: [0; commands::LONGEST_FILE],
+    };
+    let _ = exceptions::clear(&mut memory.list); // the memory is long enough: it is accepted
+    // An answer that cannot be written ends the conversation: there is nowhere else to say so.
+    let _ = converse(&rt, &mut rt.reader(), &mut Input::new(), &mut memory);
 }

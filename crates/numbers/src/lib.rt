@@ -45,18 +45,12 @@ pub fn wide64(x: u8) -> u64
     x as u64
 }
 
-fn wide8(x: u8) -> u16
-    ensures { (result ≡ x) × (result < 256) }
-{
-    x as u16
-}
-
 // Two bytes.
 pub fn two_at(s: &[u8], at: usize) -> u16
     requires { at + 1 < length s.now }
     ensures { result ≡ two at s.now }
 {
-    256 * wide8(s[at]) + wide8(s[at + 1])
+    u16::from_be_bytes([s[at], s[at + 1]])
 }
 
 // Four bytes.
@@ -64,11 +58,7 @@ pub fn four_at(s: &[u8], at: usize) -> u64
     requires { at + 4 ≤ length s.now }
     ensures { (result ≡ four at s.now) × (result < 4294967296) }
 {
-    let a = wide64(s[at]);
-    let b = wide64(s[at + 1]);
-    let c = wide64(s[at + 2]);
-    let d = wide64(s[at + 3]);
-    256 * (256 * (256 * a + b) + c) + d
+    u32::from_be_bytes([s[at], s[at + 1], s[at + 2], s[at + 3]]) as u64
 }
 
 // Eight bytes.

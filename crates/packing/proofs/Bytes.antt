@@ -1,11 +1,13 @@
 -- Packed phones come back.
 -- Assumes nothing.
 use mathlib.Core.Path.{◌≡◌, refl, sym, ap, ap₂, ◌∙◌, subst}
-use Prim.Native.Nat.{ℕ, zero, suc, ◌+◌, ◌*◌, ◌/◌, ◌%◌, ◌≤◌, ◌<◌}
+use Prim.Native.Nat.{ℕ, zero, suc, ◌+◌, ◌-◌, ◌*◌, ◌/◌, ◌%◌, ◌≤◌, ◌<◌}
 use native.Mathlib.Omega.{arith}
 use native.Mathlib.Nat.{not-suc-le-zero}
-use mathlib.Core.List.{List, [], ◌∷◌}
-use lib.ListN.{length, get_or, set, take, get_or-eq_default}
+use mathlib.Core.List.{List, [], ◌∷◌, ◌++◌}
+use Rattle.std.proofs.Common.{length-take, length-drop, length-append}
+use Rattle.std.proofs.lemmas.List.{get_or-append_right, get_or-drop}
+use lib.ListN.{length, get_or, set, take, drop, get_or-append, get_or-eq_default}
 use Rattle.automaton.specs.Automaton.{Str, unless_zero, up_to}
 use Rattle.automaton.specs.Changes.{Phones}
 use Rattle.automaton.proofs.Tests.{by_less, by_same, by_nat}
@@ -88,11 +90,6 @@ module _ (p : Str) (t : Bytes p) where
 
 -- ---- the groups as they are written
 
-pub pack_next : (v : ℕ → ℕ) (k : ℕ) (m₀ m : List ℕ) (y : ℕ) → Written v 0 k m₀ m → k < length m₀ → y ≡ v k → Written v 0 (k + 1) m₀ (set m k y)
-pack_next v k m₀ m y w h e =
-    let z : 0 + k ≡ k = omega arith in
-    subst (λ (x : ℕ). Written v 0 (k + 1) m₀ (set m x y)) z (written_next v 0 k m₀ m y w (omega arith) e)
-
 take_table : (v : ℕ → ℕ) (n : ℕ) (m : List ℕ) → n ≤ length m → ((j : ℕ) → j < n → get_or m j 0 ≡ v j) → take n m ≡ table v n
 take_table v zero m h a = refl
 take_table v (suc n) [] h a = absurd (not-suc-le-zero h)
@@ -111,12 +108,24 @@ pub group_is : (p : Str) (k a b c : ℕ) → a ≡ get_or p (3 * k) 0 → b ≡ 
 unfolding group_at
 group_is p k a b c x y z = omega arith
 
-pub pack_begin : (v : ℕ → ℕ) (m : List ℕ) → Written v 0 0 m m
-pack_begin v m = record { done = λ j l. absurd (not-suc-le-zero l); before = λ x l. refl; after = λ x l. refl; long = refl }
-
-pub pack_end : (p : Str) (k n : ℕ) (m₀ m : List ℕ) → n ≡ (length p + 2) / 3 → k ≡ n → Written (group_at p) 0 k m₀ m → (n ≡ count p) × Written (group_at p) 0 n m₀ m
+-- the first groups written, and the others kept
+pub pack_end : (p : Str) (k n : ℕ) (m g : List ℕ) → n ≡ (length p + 2) / 3 → k ≡ n → n ≤ length m → Written (group_at p) 0 k (take n m) g
+    → (n ≡ count p) × Written (group_at p) 0 n m (g ++ drop n m)
 unfolding count
-pack_end p k n m₀ m e g w = (e, subst (λ (t : ℕ). Written (group_at p) 0 t m₀ m) g w)
+pack_end p k n m g e q h w =
+    let l = w.long in
+    let t = length-take n m in
+    let o : length g ≡ n = omega arith in (
+      e,
+      record {
+        done = λ j s. get_or-append g (drop n m) 0 (0 + j) (omega arith) ∙ w.done j (omega arith);
+        before = λ x s. absurd (not-suc-le-zero s);
+        after = λ x s.
+            let z : n + (x - n) ≡ x = omega arith in
+            get_or-append_right g (drop n m) n x 0 o (omega arith) ∙ (get_or-drop n m (x - n) 0 ∙ ap (λ (i : ℕ). get_or m i 0) z);
+        long = length-append g (drop n m) ∙ (let d = length-drop n m in omega arith);
+      },
+    )
 
 pub pack_within : (p : Str) (k : ℕ) (m₀ m : List ℕ) → length p ≤ 64 → 22 ≤ length m₀ → (k ≡ count p) × Written (group_at p) 0 k m₀ m → k ≤ length m
 pack_within p k m₀ m h r w = let f = count-few p h in let l = w.1.long in let e = w.0 in omega arith

@@ -9,11 +9,7 @@ ghost use Rattle.packing.specs.Packing.{group_at, count};
 fn phone_at(phones: &[u8], k: usize) -> usize
     ensures { (result ≡ get_or phones.now k 0) × (result < 256) }
 {
-    if k < phones.len() {
-        numbers::wide(phones[k])
-    } else {
-        0
-    }
+    phones.get(k).map_or(0, |&x| numbers::wide(x))
 }
 
 // Three phones from 3 k on.
@@ -33,10 +29,8 @@ pub fn pack(phones: &[u8], groups: &mut [u32]) -> usize
     ensures { (result ≡ count phones.now) × Written (group_at phones.now) 0 result groups.old groups.new }
 {
     let n = (phones.len() + 2) / 3;
-    let mut k: usize = 0;
-    while k < n {
-        groups[k] = group(phones, k);
-        k += 1;
+    for (k, g) in groups[..n].iter_mut().enumerate() {
+        *g = group(phones, k);
     }
     n
 }

@@ -7,6 +7,7 @@ use mathlib.Core.List.{List, [], ◌∷◌, reverse}
 use lib.Dec.{ltb}
 use lib.ListN.{length, take, drop}
 use lib.Seq.{take-append_seam}
+use Rattle.std.specs.Prelude.{Option, is_some, unwrap_or}
 use Rattle.fitting.specs.Fitting.{Str, frame}
 use Rattle.speech.specs.Places.{frame_size}
 use Rattle.tables.specs.Tables.{Table}
@@ -16,9 +17,8 @@ use Rattle.tables.proofs.Walk.{pass_uncounted}
 use Rattle.tables.proofs.Words.{all_below_ext}
 use Rattle.tables.proofs.Steps.{pass_after_none}
 use Rattle.passes.specs.Passes.{left_on, right_on, Passed, left_rows_of, right_rows_of, Both}
-use Rattle.passes.specs.declared.Pass.{Pass}
 
-module _ (ws : List ℕ) (l r : ℕ) (f : List ℕ) (n steps : ℕ) (left right : List ℕ) (one : Pass)
+module _ (ws : List ℕ) (l r : ℕ) (f : List ℕ) (n steps : ℕ) (left right : List ℕ) (one : Option ℕ)
     (a : Passed (left_on (left_rows_of ws l) steps f) l (suc n) (suc n) (steps + frame_size) left one) where
   abbrev tl : Table
   tl = left_rows_of ws l
@@ -33,14 +33,14 @@ module _ (ws : List ℕ) (l r : ℕ) (f : List ℕ) (n steps : ℕ) (left right 
   right_state : (k i : ℕ) → (right_on tr k f i).state ≡ (right_at tl tr f n i).state
   right_state k i = pass_uncounted tr 0 k 0 (reverse (drop i f))
 
-  lefts_below : one.usable ≡ all_below (λ i. ltb (left_at tl tr f n i).state l) (suc n)
+  lefts_below : is_some one ≡ all_below (λ i. ltb (left_at tl tr f n i).state l) (suc n)
   lefts_below = a.usable ∙ all_below_ext _ _ (λ i. ap (λ (q : ℕ). ltb q l) (left_state i)) (suc n)
 
   -- with the left pass, usable is what the right pass makes it
   abbrev right_below : Bool
   right_below = all_below (λ i. ltb (right_at tl tr f n i).state r) (suc n)
 
-  pub both_bad : one.usable ≡ false → Both ws l r f n steps left right one
+  pub both_bad : is_some one ≡ false → Both ws l r f n steps left right one
   both_bad u =
       record {
         usable = u ∙ sym (ap (λ (b : Bool). b && right_below) (sym lefts_below ∙ u));
@@ -51,14 +51,14 @@ module _ (ws : List ℕ) (l r : ℕ) (f : List ℕ) (n steps : ℕ) (left right 
         looked = λ y. clash y u;
       }
 
-  pub both_good : one.usable ≡ true → (two : Pass) → Passed (right_on tr one.steps f) r (suc n) 1 (one.steps + frame_size) right two → Both ws l r f n steps left right two
+  pub both_good : is_some one ≡ true → (two : Option ℕ) → Passed (right_on tr (unwrap_or one 0) f) r (suc n) 1 (unwrap_or one 0 + frame_size) right two → Both ws l r f n steps left right two
   both_good e two b =
       record {
         usable =
-            b.usable ∙ (all_below_ext _ _ (λ i. ap (λ (q : ℕ). ltb q r) (right_state one.steps i)) (suc n)
+            b.usable ∙ (all_below_ext _ _ (λ i. ap (λ (q : ℕ). ltb q r) (right_state (unwrap_or one 0) i)) (suc n)
             ∙ sym (ap (λ (t : Bool). t && right_below) (sym lefts_below ∙ e)));
         lefts = λ q k low high. a.all e k low high ∙ left_state k;
-        rights = λ q k low high. b.all q k low high ∙ right_state one.steps k;
+        rights = λ q k low high. b.all q k low high ∙ right_state (unwrap_or one 0) k;
         left-small = λ q. a.small e;
         right-small = λ q. b.small q;
         looked = λ q. b.looked q ∙ ap (λ (k : ℕ). (right_on tr k f 1).steps) (a.looked e);

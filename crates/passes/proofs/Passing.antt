@@ -12,13 +12,13 @@ use lib.Dec.{ltb}
 use borrow.Author.Tests.{lt-ltb, le-ltb}
 use lib.ListN.{length, get_or, take, drop, set, length-set}
 use lib.Seq.{get_or-set_same, get_or-set_other, take-suc, drop-cons, drop-length}
+use Rattle.std.specs.Prelude.{Some, None, is_some}
 use Rattle.tables.specs.Tables.{Table}
 use Rattle.tables.specs.Words.{row_size}
 use Rattle.tables.specs.Walk.{Step as State, step, pass, from, all_below}
 use Rattle.tables.proofs.Walk.{pass_append}
 use Rattle.passes.specs.Passes.{Stepped, rows_at, left_on, right_on, Passed}
 use Rattle.passes.specs.declared.Step.{Step}
-use Rattle.passes.specs.declared.Pass.{Pass}
 
 -- ---- a test at every position from 1 to n
 
@@ -97,30 +97,30 @@ module _ (at : ℕ → State) (count : ℕ) where
       low k m n (no y) z = let d : k ≢ j = λ q. y (omega arith) in subst (λ (q : ℕ). q < count) (sym (other k d)) (p.small k (old k m n d).0 (old k m n d).1)
 
   -- it is not, and the tables are unusable
-  pub stop : (n last most : ℕ) (j : ℕ) (q : ℕ) → q ≡ (at j).state → 1 ≤ j → j ≤ n → count ≤ q → (states : List ℕ) (r : Pass) → r.usable ≡ false → Passed at count n last most states r
-  stop n last most j q e a b h states r u =
+  pub stop : (n last most : ℕ) (j : ℕ) (q : ℕ) → q ≡ (at j).state → 1 ≤ j → j ≤ n → count ≤ q → (states : List ℕ) → Passed at count n last most states None
+  stop n last most j q e a b h states =
       record {
-        usable = u ∙ sym (not_below (λ i. ltb (at i).state count) j n a b (ap (λ (x : ℕ). ltb x count) (sym e) ∙ le-ltb q count h));
+        usable = sym (not_below (λ i. ltb (at i).state count) j n a b (ap (λ (x : ℕ). ltb x count) (sym e) ∙ le-ltb q count h));
         all = λ y. absurd (never y);
         small = λ y. absurd (never y);
         looked = λ y. absurd (never y);
         few = λ y. absurd (never y);
       }
     where
-      never : r.usable ≡ true → ⊥
+      never : is_some {T = ℕ} None ≡ true → ⊥
       never y = let z : ◌≡◌ {A = ℕ} 0 1 = cc in omega arith
 
   pub finished : {lo hi size : ℕ} {states : List ℕ} {s : Step} {i : ℕ} (n last most : ℕ) → Passing at count lo hi size states s i → lo ≤ 1 → n ≤ hi → i ≡ last → s.steps ≤ most
-      → (r : Pass) → r.usable ≡ true → r.steps ≡ s.steps → Passed at count n last most states r
-  finished n last most p l h q m r u g =
+      → Passed at count n last most states (Some s.steps)
+  finished {lo} {hi} {size} {states} {s} {i} n last most p l h q m =
       record {
         usable =
-            u ∙ sym (all-below (λ i. ltb (at i).state count) n
+            sym (all-below (λ i. ltb (at i).state count) n
             (λ k a b. lt-ltb (at k).state count (subst (λ (q : ℕ). q < count) (p.all k (omega arith) (omega arith)) (p.small k (omega arith) (omega arith)))));
         all = λ y k a b. p.all k (omega arith) (omega arith);
         small = λ y k a b. p.small k (omega arith) (omega arith);
-        looked = λ y. g ∙ p.looked ∙ ap (λ (x : ℕ). (at x).steps) q;
-        few = λ y. omega (arith, g, m);
+        looked = λ y. p.looked ∙ ap (λ (x : ℕ). (at x).steps) q;
+        few = λ y. m;
       }
 
 -- ---- the two passes

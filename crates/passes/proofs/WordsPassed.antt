@@ -8,6 +8,7 @@ use mathlib.Core.Bool.{Bool, true, false, ◌&&◌}
 use mathlib.Core.List.{List, [], ◌∷◌, ◌++◌}
 use lib.ListN.{length, get_or, take, drop, set, length-set, get_or-append}
 use lib.Seq.{get_or-set_same, get_or-set_other, get_or-append-add, get_or-take, get_or-drop, length-take-le}
+use Rattle.std.specs.Prelude.{Option, Some, None, is_some, unwrap_or}
 use Rattle.rules.proofs.Cases.{and_l}
 use Rattle.rules.specs.Names.{SoundName}
 use Rattle.exceptions.specs.Judging.{says_of}
@@ -22,7 +23,6 @@ use Rattle.tables.proofs.Truth.{clash}
 use Rattle.tables.proofs.Steps.{count-after}
 use Rattle.tables.specs.Words.{row_size}
 use Rattle.passes.specs.Passes.{Symbols, left_rows_of, right_rows_of, Both, Memory, memory, Sized, passable, KeptTo, WordPassed, Known, AllPassed}
-use Rattle.passes.specs.declared.Pass.{Pass}
 use Rattle.passes.proofs.Both.{count-is}
 
 -- ---- one word
@@ -59,7 +59,7 @@ module _ (ws : List ℕ) (l r : ℕ) (fit : Bool) (list : List ℕ) (w : Str) (b
   same_kept = record { found = found_kept; left = λ j h. refl; right = λ j h. refl }
 
   -- said from the list
-  pub word-listed : 0 < part → WordPassed ws l r fit list w b k (memory found left right) same (record { usable = true; steps = k })
+  pub word-listed : 0 < part → WordPassed ws l r fit list w b k (memory found left right) same (Some k)
   word-listed h = record {
     sized = same_sized;
     kept = same_kept;
@@ -72,7 +72,7 @@ module _ (ws : List ℕ) (l r : ℕ) (fit : Bool) (list : List ℕ) (w : Str) (b
 
   module _ (none : part ≡ 0) where
     -- the lengths do not fit
-    pub word-unfit : fit ≡ false → WordPassed ws l r fit list w b k (memory found left right) same (record { usable = false; steps = 0 })
+    pub word-unfit : fit ≡ false → WordPassed ws l r fit list w b k (memory found left right) same None
     word-unfit e = record {
       sized = same_sized;
       kept = same_kept;
@@ -85,7 +85,7 @@ module _ (ws : List ℕ) (l r : ℕ) (fit : Bool) (list : List ℕ) (w : Str) (b
 
     -- both passes over its frame, with the states laid from b on
     pub word-passes : fit ≡ true → (f : Str) → f ≡ frame w → (left₂ right₂ left' right' : List ℕ) → left' ≡ take b left ++ left₂ → right' ≡ take b right ++ right₂
-        → length left' ≡ length left → length right' ≡ length right → (p : Pass) → Both ws l r f (length f - 2) k left₂ right₂ p
+        → length left' ≡ length left → length right' ≡ length right → (p : Option ℕ) → Both ws l r f (length f - 2) k left₂ right₂ p
         → WordPassed ws l r fit list w b k (memory found left right) (memory found' left' right') p
     word-passes e f is left₂ right₂ left' right' x y a c p q =
         let n : length (frame w) - 2 ≡ length w = omega (arith, frame_long w) in
@@ -187,14 +187,14 @@ module _ (ws : List ℕ) (l r : ℕ) (fit : Bool) (list : List ℕ) (name : Str)
       first : words_from name b ≡ word b w ∷ words_from name e
       first = words_step name b h ∙ ap (λ (x : ℕ). word b w ∷ words_from name x) (sym is)
 
-      module _ (m' : Memory) (p : Pass) (o : WordPassed ws l r fit list w b steps m m' p) where
+      module _ (m' : Memory) (p : Option ℕ) (o : WordPassed ws l r fit list w b steps m m' p) where
         absent : get_or m'.found b 0 ≡ 0 → unlisted (says_of list) (words_from name b) ≡ word b w ∷ unlisted (says_of list) (words_from name e)
         absent z = ap (unlisted (says_of list)) first ∙ unlisted-in (says_of list) (word b w) (words_from name e) (o.part.none z)
 
         present : 0 < get_or m'.found b 0 → unlisted (says_of list) (words_from name b) ≡ unlisted (says_of list) (words_from name e)
         present z = ap (unlisted (says_of list)) first ∙ unlisted-out (says_of list) (word b w) (words_from name e) (o.part.some z)
 
-        module _ (good : p.usable ≡ true) where
+        module _ (good : is_some p ≡ true) where
           word_good : get_or m'.found b 0 ≡ 0 → passable ws l r fit w ≡ true
           word_good z = sym (o.usable z) ∙ good
 
@@ -204,7 +204,7 @@ module _ (ws : List ℕ) (l r : ℕ) (fit : Bool) (list : List ℕ) (name : Str)
               ap (all_words (passable ws l r fit)) (absent z) ∙ ap (λ (t : Bool). t && passing (words_from name e)) (word_good z)
           on_usable (no y) = ap (all_words (passable ws l r fit)) (present (omega arith))
 
-          on_steps : Dec (get_or m'.found b 0 ≤ 0) → counted steps (words_from name b) ≡ counted p.steps (words_from name e)
+          on_steps : Dec (get_or m'.found b 0 ≤ 0) → counted steps (words_from name b) ≡ counted (unwrap_or p 0) (words_from name e)
           on_steps (yes y) =
               let z : get_or m'.found b 0 ≡ 0 = omega arith in
               ap (carried (left_rows_of ws l) (right_rows_of ws l r) false [] steps) (absent z) ∙ ap (λ (k : ℕ). counted k (words_from name e)) (sym (o.steps z good))
@@ -212,7 +212,7 @@ module _ (ws : List ℕ) (l r : ℕ) (fit : Bool) (list : List ℕ) (name : Str)
               let z : 0 < get_or m'.found b 0 = omega arith in
               ap (carried (left_rows_of ws l) (right_rows_of ws l r) false [] steps) (present z) ∙ ap (λ (k : ℕ). counted k (words_from name e)) (sym (o.listed z).1)
 
-          pass_few : Dec (get_or m'.found b 0 ≤ 0) → p.steps ≤ steps + (2 * length w + 2)
+          pass_few : Dec (get_or m'.found b 0 ≤ 0) → unwrap_or p 0 ≤ steps + (2 * length w + 2)
           pass_few (yes y) = let z : get_or m'.found b 0 ≡ 0 = omega arith in omega (arith, o.steps z good, count-after (left_rows_of ws l) (right_rows_of ws l r) steps w)
           pass_few (no y) = omega (arith, (o.listed (omega arith)).1)
 
@@ -227,7 +227,7 @@ module _ (ws : List ℕ) (l r : ℕ) (fit : Bool) (list : List ℕ) (name : Str)
               go (yes y) (yes z) = at (omega arith)
               go (yes y) (no z) = absurd (no_start name b j h (omega arith) (omega arith) sound t)
 
-          pub passed-next : PassedTo m' p.steps e
+          pub passed-next : PassedTo m' (unwrap_or p 0) e
           passed-next = record {
             sized = o.sized;
             started = λ u. subst (Starts name) (sym is) (starts_next name b h (rw (sym is) u));
@@ -242,7 +242,7 @@ module _ (ws : List ℕ) (l r : ℕ) (fit : Bool) (list : List ℕ) (name : Str)
           }
 
         -- a pass of the word leads to a state out of range
-        pub passed-bad : p.usable ≡ false → AllPassed ws l r fit list name m' p
+        pub passed-bad : is_some p ≡ false → AllPassed ws l r fit list name m' p
         passed-bad bad = record {
           sized = o.sized;
           usable = bad ∙ sym (s.usable ∙ off (dec_le (get_or m'.found b 0) 0));
@@ -257,7 +257,7 @@ module _ (ws : List ℕ) (l r : ℕ) (fit : Bool) (list : List ℕ) (name : Str)
             off (no y) = clash (o.listed (omega arith)).0 bad
 
     -- all words have passed
-    pub passed-end : length name < b → AllPassed ws l r fit list name m (record { usable = true; steps = steps })
+    pub passed-end : length name < b → AllPassed ws l r fit list name m (Some steps)
     passed-end h = record {
       sized = s.sized;
       usable = sym (s.usable ∙ ap passing (words_past name b h));

@@ -1,6 +1,6 @@
 -- What a step and a pass of a walk give, over any frame f.
 -- Assumes nothing.
-use Rattle.std.specs.Prelude.{ℕ, suc, ◌+◌, ◌*◌, ◌≤◌, ◌<◌, ◌≡◌, Bool, true, false, ◌&&◌, List, [], reverse, ltb, length, get_or, take, drop}
+use Rattle.std.specs.Prelude.{ℕ, suc, ◌+◌, ◌*◌, ◌≤◌, ◌<◌, ◌≡◌, Bool, true, false, ◌&&◌, List, [], reverse, ltb, length, get_or, take, drop, Option, is_some, unwrap_or}
 use Rattle.rules.specs.Limits.{max_names}
 use Rattle.exceptions.specs.Judging.{says_of}
 use Rattle.fitting.specs.Fitting.{Str, frame}
@@ -10,7 +10,6 @@ use Rattle.tables.specs.Tables.{Table}
 use Rattle.tables.specs.Words.{head_words, row_size, right_rows, needed_words, table_at}
 use Rattle.tables.specs.Walk.{Step as State, from, pass, all_below, left_at, right_at, walk_usable, all_words, count_after, carried}
 use Rattle.passes.specs.declared.Step.{Step}
-use Rattle.passes.specs.declared.Pass.{Pass}
 
 -- more entries than any call looks up: for each name of a sheet, four times the longest frame
 abbrev pub max_steps : ℕ
@@ -38,12 +37,12 @@ right_on t k f i = pass t (from k) (reverse (drop i f))
 
 -- What a pass gives that stands at `at i` at position i, for positions 1 to n, and ends at position `last` with at most `most` steps; the
 -- states are left in lent memory.
-pub record Passed (at : ℕ → State) (count n last most : ℕ) (states : List ℕ) (r : Pass) : Type 0 where
-  pub usable : r.usable ≡ all_below (λ i. ltb (at i).state count) n
-  pub all : r.usable ≡ true → (k : ℕ) → 1 ≤ k → k ≤ n → get_or states k 0 ≡ (at k).state
-  pub small : r.usable ≡ true → (k : ℕ) → 1 ≤ k → k ≤ n → get_or states k 0 < count
-  pub looked : r.usable ≡ true → r.steps ≡ (at last).steps
-  pub few : r.usable ≡ true → r.steps ≤ most
+pub record Passed (at : ℕ → State) (count n last most : ℕ) (states : List ℕ) (r : Option ℕ) : Type 0 where
+  pub usable : is_some r ≡ all_below (λ i. ltb (at i).state count) n
+  pub all : is_some r ≡ true → (k : ℕ) → 1 ≤ k → k ≤ n → get_or states k 0 ≡ (at k).state
+  pub small : is_some r ≡ true → (k : ℕ) → 1 ≤ k → k ≤ n → get_or states k 0 < count
+  pub looked : is_some r ≡ true → unwrap_or r 0 ≡ (at last).steps
+  pub few : is_some r ≡ true → unwrap_or r 0 ≤ most
 
 -- the rows of the left table, and those of the right table, of l and r states
 abbrev pub left_rows_of : List ℕ → ℕ → Table
@@ -53,13 +52,13 @@ abbrev pub right_rows_of : List ℕ → ℕ → ℕ → Table
 right_rows_of ws l r = rows_at ws (right_rows l) r
 
 -- what the two passes over a frame of n letters give, whose count goes on from `steps`: whether no state is out of range, and if so the states and the count
-pub record Both (ws : List ℕ) (l r : ℕ) (f : List ℕ) (n steps : ℕ) (left right : List ℕ) (p : Pass) : Type 0 where
-  pub usable : p.usable ≡ walk_usable (left_rows_of ws l) (right_rows_of ws l r) f n
-  pub lefts : p.usable ≡ true → (k : ℕ) → 1 ≤ k → k ≤ suc n → get_or left k 0 ≡ (left_at (left_rows_of ws l) (right_rows_of ws l r) f n k).state
-  pub rights : p.usable ≡ true → (k : ℕ) → 1 ≤ k → k ≤ suc n → get_or right k 0 ≡ (right_at (left_rows_of ws l) (right_rows_of ws l r) f n k).state
-  pub left-small : p.usable ≡ true → (k : ℕ) → 1 ≤ k → k ≤ suc n → get_or left k 0 < l
-  pub right-small : p.usable ≡ true → (k : ℕ) → 1 ≤ k → k ≤ suc n → get_or right k 0 < r
-  pub looked : p.usable ≡ true → p.steps ≡ (right_on (right_rows_of ws l r) (left_on (left_rows_of ws l) steps f (suc n)).steps f 1).steps
+pub record Both (ws : List ℕ) (l r : ℕ) (f : List ℕ) (n steps : ℕ) (left right : List ℕ) (p : Option ℕ) : Type 0 where
+  pub usable : is_some p ≡ walk_usable (left_rows_of ws l) (right_rows_of ws l r) f n
+  pub lefts : is_some p ≡ true → (k : ℕ) → 1 ≤ k → k ≤ suc n → get_or left k 0 ≡ (left_at (left_rows_of ws l) (right_rows_of ws l r) f n k).state
+  pub rights : is_some p ≡ true → (k : ℕ) → 1 ≤ k → k ≤ suc n → get_or right k 0 ≡ (right_at (left_rows_of ws l) (right_rows_of ws l r) f n k).state
+  pub left-small : is_some p ≡ true → (k : ℕ) → 1 ≤ k → k ≤ suc n → get_or left k 0 < l
+  pub right-small : is_some p ≡ true → (k : ℕ) → 1 ≤ k → k ≤ suc n → get_or right k 0 < r
+  pub looked : is_some p ≡ true → unwrap_or p 0 ≡ (right_on (right_rows_of ws l r) (left_on (left_rows_of ws l) steps f (suc n)).steps f 1).steps
 
 -- ---- the words of a name
 
@@ -106,15 +105,15 @@ pub record KeptTo (b : ℕ) (m m' : Memory) : Type 0 where
   pub right : (j : ℕ) → j < b → get_or m'.right j 0 ≡ get_or m.right j 0
 
 -- what the passes of the word after b bytes give, whose count goes on from k
-pub record WordPassed (ws : List ℕ) (l r : ℕ) (fit : Bool) (list : List ℕ) (w : Str) (b k : ℕ) (m m' : Memory) (p : Pass) : Type 0 where
+pub record WordPassed (ws : List ℕ) (l r : ℕ) (fit : Bool) (list : List ℕ) (w : Str) (b k : ℕ) (m m' : Memory) (p : Option ℕ) : Type 0 where
   pub sized : Sized m'
   pub kept : KeptTo b m m'
   pub part : FoundFor list w (get_or m'.found b 0)
   -- a listed word takes no step
-  pub listed : 0 < get_or m'.found b 0 → (p.usable ≡ true) × (p.steps ≡ k)
-  pub usable : get_or m'.found b 0 ≡ 0 → p.usable ≡ passable ws l r fit w
-  pub steps : get_or m'.found b 0 ≡ 0 → p.usable ≡ true → p.steps ≡ count_on ws l r k w
-  pub states : get_or m'.found b 0 ≡ 0 → p.usable ≡ true → Remembered ws l r w b m'
+  pub listed : 0 < get_or m'.found b 0 → (is_some p ≡ true) × (unwrap_or p 0 ≡ k)
+  pub usable : get_or m'.found b 0 ≡ 0 → is_some p ≡ passable ws l r fit w
+  pub steps : get_or m'.found b 0 ≡ 0 → is_some p ≡ true → unwrap_or p 0 ≡ count_on ws l r k w
+  pub states : get_or m'.found b 0 ≡ 0 → is_some p ≡ true → Remembered ws l r w b m'
 
 -- what is known of the word w after b bytes when all passes are done: its part, or that the tables are fit, and its states
 pub record Known (ws : List ℕ) (l r : ℕ) (fit : Bool) (list : List ℕ) (w : Str) (b : ℕ) (m : Memory) : Type 0 where
@@ -123,8 +122,8 @@ pub record Known (ws : List ℕ) (l r : ℕ) (fit : Bool) (list : List ℕ) (w :
   pub states : get_or m.found b 0 ≡ 0 → Remembered ws l r w b m
 
 -- what the passes of all words give
-pub record AllPassed (ws : List ℕ) (l r : ℕ) (fit : Bool) (list : List ℕ) (name : Str) (m : Memory) (p : Pass) : Type 0 where
+pub record AllPassed (ws : List ℕ) (l r : ℕ) (fit : Bool) (list : List ℕ) (name : Str) (m : Memory) (p : Option ℕ) : Type 0 where
   pub sized : Sized m
-  pub usable : p.usable ≡ all_words (passable ws l r fit) (unlisted (says_of list) (words_in name))
-  pub steps : p.usable ≡ true → p.steps ≡ carried (left_rows_of ws l) (right_rows_of ws l r) false [] 0 (unlisted (says_of list) (words_in name))
-  pub known : p.usable ≡ true → (b : ℕ) → b ≤ length name → Starts name b → Known ws l r fit list (word_at name b) b m
+  pub usable : is_some p ≡ all_words (passable ws l r fit) (unlisted (says_of list) (words_in name))
+  pub steps : is_some p ≡ true → unwrap_or p 0 ≡ carried (left_rows_of ws l) (right_rows_of ws l r) false [] 0 (unlisted (says_of list) (words_in name))
+  pub known : is_some p ≡ true → (b : ℕ) → b ≤ length name → Starts name b → Known ws l r fit list (word_at name b) b m

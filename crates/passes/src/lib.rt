@@ -27,14 +27,8 @@ pub fn look_up(words: &[u16], rows: usize, s: Step, c: u8) -> Step
     }
 }
 
-// Whether every state of a pass is below the state count, and how many entries it looked up.
-#[derive(Clone, Copy)]
-pub struct Pass {
-    pub usable: bool,
-    pub steps: usize,
-}
-
-// The left pass reads all positions but the last; at i stands the state after position i - 1. Its count goes on from `steps`.
+// The left pass reads all positions but the last; at i stands the state after position i - 1. The count of entries looked up goes on from `steps`; there
+// is none where a state is not below the state count.
 fn left_pass(
     words: &[u16],
     rows: usize,
@@ -42,33 +36,23 @@ fn left_pass(
     frame: &[u8],
     steps: usize,
     states: &mut [u16],
-) -> Pass
+) -> Option<usize>
     requires { (rows + row_size * count ≤ length words.now) × (0 < count) × (2 ≤ length frame.now) × (length frame.now ≤ frame_size) × (steps + frame_size ≤ max_steps) × Symbols frame.now × (length frame.now ≤ length states.old) }
     ensures { Passed (left_on (rows_at words.now rows count) steps frame.now) count (length frame.now - 1) (length frame.now - 1) (steps + frame_size) states.new result }
 {
     let mut at = Step { state: 0, steps };
-    let end = frame.len() - 1;
-    let mut i: usize = 0;
-    while i < end {
+    for i in 0..frame.len() - 1 {
         at = look_up(words, rows, at, frame[i]);
         let state = at.state;
         if count <= numbers::wide16(state) { // 16 in the left pass
-            return Pass {
-                usable: false,
-                steps: 0,
-            };
+            return None;
         }
-        i += 1;
-        states[i] = state;
+        states[i + 1] = state;
     }
-    let steps = at.steps;
-    Pass {
-        usable: true,
-        steps,
-    }
+    Some(at.steps)
 }
 
-// The right pass reads from the last position down to 1; at i stands the state after position i. Its count goes on from `steps`.
+// The right pass reads from the last position down to 1; at i stands the state after position i. Its count goes on from `steps` in the same way.
 pub fn right_pass(
     words: &[u16],
     rows: usize,
@@ -76,29 +60,20 @@ pub fn right_pass(
     frame: &[u8],
     steps: usize,
     states: &mut [u16],
-) -> Pass
+) -> Option<usize>
     requires { (rows + row_size * count ≤ length words.now) × (0 < count) × (2 ≤ length frame.now) × (length frame.now ≤ frame_size) × (steps + frame_size ≤ max_steps) × Symbols frame.now × (length frame.now ≤ length states.old) }
     ensures { Passed (right_on (rows_at words.now rows count) steps frame.now) count (length frame.now - 1) 1 (steps + frame_size) states.new result }
 {
     let mut at = Step { state: 0, steps };
-    let mut i = frame.len();
-    while 1 < i {
-        i -= 1;
+    for i in (1..frame.len()).rev() {
         at = look_up(words, rows, at, frame[i]);
         let state = at.state;
         if count <= numbers::wide16(state) { // 16 in the right pass
-            return Pass {
-                usable: false,
-                steps: 0,
-            };
+            return None;
         }
         states[i] = state;
     }
-    let steps = at.steps;
-    Pass {
-        usable: true,
-        steps,
-    }
+    Some(at.steps)
 }
 
 // The left pass, whose count goes on from `steps`, then the right pass, whose count goes on from the left's.
@@ -110,20 +85,17 @@ fn run_passes(
     steps: usize,
     left: &mut [u16],
     right: &mut [u16],
-) -> Pass
+) -> Option<usize>
     requires { (0 < left_states) × (0 < right_states) × (needed_words left_states right_states ≤ length words.now) × (2 ≤ length frame.now) × (length frame.now ≤ frame_size) × (steps + 2 * frame_size ≤ max_steps) × Symbols frame.now × (length frame.now ≤ length left.old) × (length frame.now ≤ length right.old) }
     ensures { Both words.now left_states right_states frame.now (length frame.now - 2) steps left.new right.new result }
 {
-    let first = left_pass(words, tables::HEAD, left_states, frame, steps, left);
-    if !first.usable {
-        return first;
-    }
+    let steps = left_pass(words, tables::HEAD, left_states, frame, steps, left)?;
     right_pass(
         words,
         tables::HEAD + tables::ROW * left_states,
         right_states,
         frame,
-        first.steps,
+        steps,
         right,
     )
 }
@@ -144,23 +116,17 @@ fn run_word(
     found: &mut [u16],
     left: &mut [u16],
     right: &mut [u16],
-) -> Pass
+) -> Option<usize>
     requires { (fit ≡ true → Rows (length words.now) left_states right_states) × Unsaid list.now name.now × (frame.now ≡ frame_of name.now) × WordOf name.now from end × (steps + 2 * frame_size ≤ max_steps) × Sized (memory found.old left.old right.old) }
     ensures { WordPassed words.now left_states right_states fit list.now (word_at name.now from) from steps (memory found.old left.old right.old) (memory found.new left.new right.new) result }
 {
     let part = reading::words::find_word(list, name, from, end);
     found[from] = part;
     if part != 0 {
-        return Pass {
-            usable: true,
-            steps,
-        };
+        return Some(steps);
     }
     if !fit {
-        return Pass {
-            usable: false,
-            steps: 0,
-        };
+        return None;
     }
     run_passes(
         words,
@@ -185,7 +151,7 @@ pub fn run_words(
     found: &mut [u16],
     left: &mut [u16],
     right: &mut [u16],
-) -> Pass
+) -> Option<usize>
     requires { (fit ≡ true → Rows (length words.now) left_states right_states) × Unsaid list.now name.now × (frame.now ≡ frame_of name.now) × Sized (memory found.old left.old right.old) }
     ensures { AllPassed words.now left_states right_states fit list.now name.now (memory found.new left.new right.new) result }
 {
@@ -193,7 +159,7 @@ pub fn run_words(
     let mut from = 0;
     while from <= name.len() {
         let end = reading::words::word_end(name, from);
-        let pass = run_word(
+        steps = run_word(
             words,
             left_states,
             right_states,
@@ -207,15 +173,8 @@ pub fn run_words(
             &mut *found,
             &mut *left,
             &mut *right,
-        );
-        if !pass.usable {
-            return pass;
-        }
-        steps = pass.steps;
+        )?;
         from = end;
     }
-    Pass {
-        usable: true,
-        steps,
-    }
+    Some(steps)
 }

@@ -1,3 +1,4 @@
 pub mod Symbols
 pub mod Reversing
+pub mod Backwards
 pub mod Laying

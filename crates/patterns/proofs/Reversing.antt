@@ -27,8 +27,8 @@ module _ (k : Classes) (s : Str) (ok : 1 ≤ size k s) (j : ℕ) (xs : List ℕ)
       let e : length s ≡ length s - 0 = omega arith in
       record { reached = omega arith; left = quotient_begin k s j ∙ ap (λ (n : ℕ). j / size k (drop n s)) e; wrote = W.begin xs a _ }
 
-  module _ (room : a + length s ≤ length xs) (ys : List ℕ) (q n : ℕ) (r : Reversing k s j xs a ys q n) (h : n < length s) where
-    -- the symbol of the next letter
+  module _ (room : a + length s ≤ length xs) (ys : List ℕ) (q n : ℕ) (r : Reversing k s j xs a ys q n) (h : n < length s) (c : ℕ) (is : c ≡ get_or s (length s - 1 - n) 0) where
+    -- the place of the next letter's symbol c
     abbrev i : ℕ
     i = length s - 1 - n
 
@@ -41,8 +41,8 @@ module _ (k : Classes) (s : Str) (ok : 1 ≤ size k s) (j : ℕ) (xs : List ℕ)
     left_here : q ≡ j / size k (drop (suc i) s)
     left_here = r.left ∙ ap (λ (m : ℕ). j / size k (drop m s)) (sym at)
 
-    pub symbol_some : 1 ≤ length (letters k (get_or s i 0))
-    symbol_some = size_at k s i ok (omega arith)
+    pub symbol_some : 1 ≤ length (letters k c)
+    symbol_some = rw is (size_at k s i ok (omega arith))
 
     letter_is : get_or (letters k (get_or s i 0)) (q % length (letters k (get_or s i 0))) 0 ≡ get_or (reverse (choice_at k s j)) n 0
     letter_is =
@@ -50,10 +50,10 @@ module _ (k : Classes) (s : Str) (ok : 1 ≤ size k s) (j : ℕ) (xs : List ℕ)
         ∙ (ap (λ (m : ℕ). get_or (choice_at k s j) (m - 1 - n) 0) (choice_long k s j ok)
         ∙ (choice_symbol k s j i ok (omega arith) ∙ ap (λ (m : ℕ). get_or (letters k (get_or s i 0)) (m % length (letters k (get_or s i 0))) 0) (sym left_here))))
 
-    pub next : (v : ℕ) → v ≡ get_or (letters k (get_or s i 0)) (q % length (letters k (get_or s i 0))) 0 → (p : ℕ) → p ≡ q / length (letters k (get_or s i 0))
+    pub next : (v : ℕ) → v ≡ get_or (letters k c) (q % length (letters k c)) 0 → (p : ℕ) → p ≡ q / length (letters k c)
         → Reversing k s j xs a (set ys (a + n) v) p (n + 1)
     next v e p f = record {
       reached = omega arith;
-      left = f ∙ (quotient_next k s j q i (omega arith) left_here ∙ ap (λ (m : ℕ). j / size k (drop m s)) before);
-      wrote = W.next xs a n _ ys v r.wrote (omega arith) (e ∙ letter_is);
+      left = f ∙ (ap (λ (d : ℕ). q / length (letters k d)) is ∙ quotient_next k s j q i (omega arith) left_here ∙ ap (λ (m : ℕ). j / size k (drop m s)) before);
+      wrote = W.next xs a n _ ys v r.wrote (omega arith) (e ∙ (ap (λ (d : ℕ). get_or (letters k d) (q % length (letters k d)) 0) is ∙ letter_is));
     }

@@ -16,11 +16,8 @@ fn put_reversed(pats: &mut [u8], at: usize, s: &[u8])
     requires { at + length s.now ≤ length pats.old }
     ensures { Wrote pats.old at (length s.now) (λ k. get_or (reverse s.now) k 0) pats.new }
 {
-    let n = s.len();
-    let mut k: usize = 0;
-    while k < n {
-        pats[at + k] = s[n - 1 - k];
-        k += 1;
+    for (k, &symbol) in s.iter().rev().enumerate() {
+        pats[at + k] = symbol;
     }
 }
 
@@ -29,14 +26,10 @@ fn put_choice_reversed(pats: &mut [u8], at: usize, masks: &[u8], run: &[u8], j: 
     requires { (masks_size ≤ length masks.now) × (1 ≤ size (classes_in masks.now) run.now) × (at + length run.now ≤ length pats.old) }
     ensures { Wrote pats.old at (length run.now) (λ k. get_or (reverse (choice_at (classes_in masks.now) run.now j)) k 0) pats.new }
 {
-    let n = run.len();
     let mut q = j;
-    let mut k: usize = 0;
-    while k < n {
-        let symbol = run[n - 1 - k];
+    for (k, &symbol) in run.iter().rev().enumerate() {
         pats[at + k] = classes::symbols::letter_round(masks, symbol, q);
         q = classes::symbols::rest_after(masks, symbol, q);
-        k += 1;
     }
 }
 
@@ -91,10 +84,8 @@ pub fn lay_side(image: &[u8], n: usize, right: bool, pats: &mut [u8], lens: &mut
     requires { (valid image.now ≡ true) × (n ≡ total_of image.now) × Scratch pats.old lens.old }
     ensures { Laid image.now right pats.new lens.new }
 {
-    let mut i: usize = 0;
-    while i < n {
+    for i in 0..n {
         let len = put_pattern(pats, rules::MAX_PATTERN * i, image, i, right);
         lens[i] = len as u8;
-        i += 1;
     }
 }

@@ -38,13 +38,10 @@ fn groups_good(words: &[u32], a: usize, n: usize) -> bool
     requires { a + n ≤ length words.now }
     ensures { Decides (GroupsGood words.now a n) result }
 {
-    let mut k: usize = 0;
-    while k < n {
-        let v = states::val(words[a + k]);
-        if !group_good(n, k, v) {
+    for (k, &x) in words[a..a + n].iter().enumerate() {
+        if !group_good(n, k, states::val(x)) {
             return false;
         }
-        k += 1;
     }
     true
 }
@@ -55,9 +52,7 @@ fn row_packed(words: &[u32], n: usize, q: usize) -> bool
     ensures { Decides (Packed (rows_of words.now) q) result }
 {
     let s = phone_groups::cells(words, n, q);
-    let from = s.from;
-    let to = s.to;
-    groups_good(words, from, to - from)
+    groups_good(words, s.from, s.to - s.from)
 }
 
 // The phones of every state are packed.
@@ -65,12 +60,10 @@ pub fn rows_packed(words: &[u32], n: usize) -> bool
     requires { StateAsks words.now n n }
     ensures { Decides (AllPacked (rows_of words.now) n) result }
 {
-    let mut q: usize = 0;
-    while q <= n {
+    for q in 0..=n {
         if !row_packed(words, n, q) {
             return false;
         }
-        q += 1;
     }
     true
 }

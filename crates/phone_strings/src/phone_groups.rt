@@ -19,10 +19,8 @@ pub fn cells(words: &[u32], n: usize, q: usize) -> states::Span
     ensures { PhoneCells words.now q result.from result.to }
 {
     let s = states::row_cells(words, n, q);
-    let from = s.from;
-    let to = s.to;
-    let i = states::first(words, from, to, automaton::PHONES);
-    states::Span { from: i, to: to }
+    let from = states::first(words, s.from, s.to, automaton::PHONES);
+    states::Span { from, to: s.to }
 }
 
 // How many bytes of the last group are phones.
@@ -77,11 +75,8 @@ fn put_groups(words: &[u32], from: usize, whole: usize, out: &mut [u8], at: usiz
     requires { (whole ≤ 22) × (from + whole ≤ length words.now) × (at + 3 * whole ≤ length out.old) }
     ensures { Written (byte_from words.now from) at (3 * whole) out.old out.new }
 {
-    let mut k: usize = 0;
-    while k < whole {
-        let v = states::val(words[from + k]);
-        put_group(v, 3, out, at + 3 * k);
-        k += 1;
+    for (k, &x) in words[from..from + whole].iter().enumerate() {
+        put_group(states::val(x), 3, out, at + 3 * k);
     }
 }
 

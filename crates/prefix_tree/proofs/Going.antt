@@ -4,7 +4,7 @@ use mathlib.Core.Path.{◌≡◌, refl, sym, ap, ◌∙◌, subst}
 use Prim.Native.Nat.{ℕ, ◌+◌, ◌-◌, ◌*◌, ◌≤◌, ◌<◌}
 use native.Mathlib.Omega.{arith}
 use native.Mathlib.Decide.{dec_le}
-use mathlib.Core.Bool.{true, false}
+use Rattle.std.specs.Prelude.{Some, None}
 use mathlib.Core.List.{List}
 use lib.Dec.{ltb}
 use lib.ListN.{length, get_or, take, set, length-set}
@@ -19,7 +19,7 @@ use Rattle.tables.proofs.Truth.{clash}
 use Rattle.passes.proofs.Passing.{all-below, not_below}
 use Rattle.passes.specs.Passes.{max_steps, Symbols, rows_at, left_on}
 use Rattle.prefix_tree.specs.Tree.{node_size, Room, state_of, Tree}
-use Rattle.prefix_tree.specs.Sharing.{Holds, entry_of, Descended, left_string, SharedPass}
+use Rattle.prefix_tree.specs.Sharing.{Holds, entry_of, standing, Descended, left_string, SharedPass}
 use Rattle.prefix_tree.specs.declared.SharedStep.{SharedStep}
 use Rattle.prefix_tree.proofs.Holding as H
 
@@ -29,7 +29,6 @@ pub record Sharing (tab : Table) (ws : List Str) (f t left : List ℕ) (p : Shar
   pub all : (k : ℕ) → 1 ≤ k → k ≤ i → get_or left k 0 ≡ (left_on tab 0 f k).state
 
 pub record Going (words : List ℕ) (rows count : ℕ) (f t₀ : List ℕ) (n₀ steps₀ : ℕ) (left₀ t left : List ℕ) (p : SharedStep) (i : ℕ) : Type 0 where
-  pub usable : p.usable ≡ true
   pub reached : i ≤ length f - 1
   pub sized : length t ≡ length t₀
   pub left-sized : length left ≡ length left₀
@@ -42,10 +41,9 @@ pub record Going (words : List ℕ) (rows count : ℕ) (f t₀ : List ℕ) (n₀
   pub shares : (ws : List Str) → Holds (rows_at words rows count) ws t₀ n₀ → Sharing (rows_at words rows count) ws f t left p i
 
 pub go-begin : (words : List ℕ) (rows count : ℕ) (f t : List ℕ) (n steps : ℕ) (left : List ℕ) → Tree t n count
-    → Going words rows count f t n steps left t left (record { usable = true; node = 0; nodes = n; steps = steps }) 0
+    → Going words rows count f t n steps left t left (standing 0 n steps) 0
 go-begin words rows count f t n steps left tr =
     record {
-      usable = refl;
       reached = omega arith;
       sized = refl;
       left-sized = refl;
@@ -69,20 +67,22 @@ module _ {words : List ℕ} {rows count : ℕ} {f t₀ : List ℕ} {n₀ steps�
   same_pass : (k : ℕ) → k ≤ length f - 1 → (pass tab (from 0) (take k (left_string f))).state ≡ (left_on tab 0 f k).state
   same_pass k h = ap (λ (w : Str). (pass tab (from 0) w).state) (take-take k (length f - 1) f h)
 
-  pub go-end : 2 ≤ length f → length f - 1 ≤ i → SharedPass tab f t₀ n₀ steps₀ left₀ t left p
+  pub go-end : 2 ≤ length f → length f - 1 ≤ i → SharedPass tab f t₀ n₀ steps₀ left₀ t left (Some (record { nodes = p.nodes; steps = p.steps }))
   go-end some h =
       record {
         sized = g.sized;
         left-sized = g.left-sized;
-        tree = λ _. g.tree;
-        steps-are = λ _. g.steps-are;
-        few = λ _. omega (arith, g.few, g.reached, some);
-        more = λ _. g.more;
-        small = λ _ k a b. g.small k a (omega arith);
+        grown = record {
+          tree = g.tree;
+          steps-are = g.steps-are;
+          few = omega (arith, g.few, g.reached, some);
+          more = g.more;
+          small = λ k a b. g.small k a (omega arith);
+        };
         shares = λ ws o. record {
-          usable = g.usable ∙ sym (all-below (λ j. ltb (left_on tab 0 f j).state count) (length f - 1) (λ k a b. lt-ltb (left_on tab 0 f k).state count
+          usable = sym (all-below (λ j. ltb (left_on tab 0 f j).state count) (length f - 1) (λ k a b. lt-ltb (left_on tab 0 f k).state count
               (subst (λ (s : ℕ). s < count) ((g.shares ws o).all k a (omega arith)) (g.small k a (omega arith)))));
-          holds = λ _. H.hold-end tab ws (left_string f) t p.node p.nodes i (g.shares ws o).holding (omega (arith, string_length));
+          holds = H.hold-end tab ws (left_string f) t p.node p.nodes i (g.shares ws o).holding (omega (arith, string_length));
           all = λ _ k a b. (g.shares ws o).all k a (omega arith);
         };
       }
@@ -92,73 +92,67 @@ module _ {words : List ℕ} {rows count : ℕ} {f t₀ : List ℕ} {n₀ steps�
     may-descend =
         (symbols i (omega arith), g.tree, g.node, record { few = omega (arith, g.few, room.few); words = omega (arith, g.few, g.sized, room.words) }, omega (arith, g.few, g.steps-are))
 
-    module _ {r : SharedStep} {t' : List ℕ} (d : Descended words rows count t p (get_or f i 0) r t') where
-      symbol_is : get_or f i 0 ≡ get_or (left_string f) i 0
-      symbol_is = sym (get_or-take (length f - 1) f i 0 h)
+    symbol_is : get_or f i 0 ≡ get_or (left_string f) i 0
+    symbol_is = sym (get_or-take (length f - 1) f i 0 h)
 
-      pub go-bad : r.usable ≡ false → SharedPass tab f t₀ n₀ steps₀ left₀ t' left r
-      go-bad u =
-          let o = H.out_of_range words rows count t p (get_or f i 0) r t' g.tree g.node may-descend.3 d u in
+    pub go-bad : {t' : List ℕ} → Descended words rows count t p (get_or f i 0) None t' → SharedPass tab f t₀ n₀ steps₀ left₀ t' left None
+    go-bad {t'} d =
+        let o = H.out_of_range words rows count t p (get_or f i 0) g.tree g.node may-descend.3 t' d in
+        record {
+          sized = ap length o.1 ∙ g.sized;
+          left-sized = g.left-sized;
+          grown = tt;
+          shares = λ ws w. record {
+            usable = sym (not_below (λ j. ltb (left_on tab 0 f j).state count) (i + 1) (length f - 1) (omega arith) (omega arith)
+                (le-ltb (left_on tab 0 f (i + 1)).state count (subst (λ (s : ℕ). count ≤ s) (entry_at ws w) o.0)));
+            holds = tt;
+            all = λ y. clash y refl;
+          };
+        }
+      where
+        entry_at : (ws : List Str) → Holds tab ws t₀ n₀ → entry_of words rows t p.node (get_or f i 0) ≡ (left_on tab 0 f (i + 1)).state
+        entry_at ws w =
+            H.entry-is words rows count t p (get_or f i 0) g.tree g.node may-descend.3 ws (left_string f) i (g.shares ws w).holding (omega (arith, string_length)) symbol_is
+            ∙ same_pass (i + 1) (omega arith)
+
+    module _ {r : SharedStep} {t' : List ℕ} (d : Descended words rows count t p (get_or f i 0) (Some r) t') where
+      moved : H.Moved words rows count t p (get_or f i 0) g.tree g.node may-descend.3 r t' d
+      moved = (H.moved-step words rows count t p (get_or f i 0) g.tree g.node may-descend.3 r t' d).0
+
+      pub node_in : (node_size * r.node + 3 < length t') × (r.node < r.nodes) × (length t' ≡ length t₀)
+      node_in = (omega (arith, moved.node, moved.tree.room), moved.node, moved.sized ∙ g.sized)
+
+      pub go-next : length f ≤ length left₀ → {v : ℕ} → v ≡ state_of t' r.node → Going words rows count f t₀ n₀ steps₀ left₀ t' (set left (i + 1) v) r (i + 1)
+      go-next wide {v} e =
           record {
-            sized = ap length o.1 ∙ g.sized;
-            left-sized = g.left-sized;
-            tree = λ y. clash y u;
-            steps-are = λ y. clash y u;
-            few = λ y. clash y u;
-            more = λ y. clash y u;
-            small = λ y. clash y u;
-            shares = λ ws w. record {
-              usable = u ∙ sym (not_below (λ j. ltb (left_on tab 0 f j).state count) (i + 1) (length f - 1) (omega arith) (omega arith)
-                  (le-ltb (left_on tab 0 f (i + 1)).state count (subst (λ (s : ℕ). count ≤ s) (entry_at ws w) o.0)));
-              holds = λ y. clash y u;
-              all = λ y. clash y u;
-            };
+            reached = omega arith;
+            sized = moved.sized ∙ g.sized;
+            left-sized = length-set left (i + 1) v ∙ g.left-sized;
+            tree = moved.tree;
+            node = moved.node;
+            steps-are = omega (arith, moved.steps-are, g.steps-are);
+            few = omega (arith, moved.few, g.few);
+            more = omega (arith, moved.more, g.more);
+            small = λ k a b. low k a b (dec_le k i);
+            shares = λ ws o. record { holding = next ws o; all = λ k a b. one ws o k a b (dec_le k i) };
           }
         where
-          entry_at : (ws : List Str) → Holds tab ws t₀ n₀ → entry_of words rows t p.node (get_or f i 0) ≡ (left_on tab 0 f (i + 1)).state
-          entry_at ws w =
-              H.entry-is words rows count t p (get_or f i 0) r t' g.tree g.node may-descend.3 d ws (left_string f) i (g.shares ws w).holding (omega (arith, string_length)) symbol_is may-descend.0
-              ∙ same_pass (i + 1) (omega arith)
+          next : (ws : List Str) → Holds tab ws t₀ n₀ → H.Holding tab ws (left_string f) t' r.node r.nodes (i + 1)
+          next ws o =
+              H.hold-next words rows count t p (get_or f i 0) g.tree g.node may-descend.3 r t' d ws (left_string f) i (g.shares ws o).holding (omega (arith, string_length)) symbol_is may-descend.0
 
-      module _ (u : r.usable ≡ true) where
-        moved : H.Moved words rows count t p (get_or f i 0) r t' g.tree g.node may-descend.3 d
-        moved = (H.moved-step words rows count t p (get_or f i 0) r t' g.tree g.node may-descend.3 d u).0
+          here : (k : ℕ) → k ≡ i + 1 → get_or (set left (i + 1) v) k 0 ≡ v
+          here k q = ap (λ (m : ℕ). get_or (set left (i + 1) v) m 0) q ∙ get_or-set_same left (i + 1) v 0 (omega (arith, g.left-sized))
 
-        pub node_in : (node_size * r.node + 3 < length t') × (r.node < r.nodes) × (length t' ≡ length t₀)
-        node_in = (omega (arith, moved.node, moved.tree.room), moved.node, moved.sized ∙ g.sized)
+          before : (k : ℕ) → k ≤ i → get_or (set left (i + 1) v) k 0 ≡ get_or left k 0
+          before k b = get_or-set_other left (i + 1) k v 0 (omega arith)
 
-        pub go-next : length f ≤ length left₀ → {v : ℕ} → v ≡ state_of t' r.node → Going words rows count f t₀ n₀ steps₀ left₀ t' (set left (i + 1) v) r (i + 1)
-        go-next wide {v} e =
-            record {
-              usable = u;
-              reached = omega arith;
-              sized = moved.sized ∙ g.sized;
-              left-sized = length-set left (i + 1) v ∙ g.left-sized;
-              tree = moved.tree;
-              node = moved.node;
-              steps-are = omega (arith, moved.steps-are, g.steps-are);
-              few = omega (arith, moved.few, g.few);
-              more = omega (arith, moved.more, g.more);
-              small = λ k a b. low k a b (dec_le k i);
-              shares = λ ws o. record { holding = next ws o; all = λ k a b. one ws o k a b (dec_le k i) };
-            }
-          where
-            next : (ws : List Str) → Holds tab ws t₀ n₀ → H.Holding tab ws (left_string f) t' r.node r.nodes (i + 1)
-            next ws o =
-                H.hold-next words rows count t p (get_or f i 0) r t' g.tree g.node may-descend.3 d ws (left_string f) i (g.shares ws o).holding (omega (arith, string_length)) symbol_is may-descend.0 u
+          low : (k : ℕ) → 1 ≤ k → k ≤ i + 1 → Dec (k ≤ i) → get_or (set left (i + 1) v) k 0 < count
+          low k a b (yes y) = subst (λ (s : ℕ). s < count) (sym (before k y)) (g.small k a y)
+          low k a b (no y) = subst (λ (s : ℕ). s < count) (sym (here k (omega arith) ∙ e)) (moved.tree.small r.node moved.node)
 
-            here : (k : ℕ) → k ≡ i + 1 → get_or (set left (i + 1) v) k 0 ≡ v
-            here k q = ap (λ (m : ℕ). get_or (set left (i + 1) v) m 0) q ∙ get_or-set_same left (i + 1) v 0 (omega (arith, g.left-sized))
-
-            before : (k : ℕ) → k ≤ i → get_or (set left (i + 1) v) k 0 ≡ get_or left k 0
-            before k b = get_or-set_other left (i + 1) k v 0 (omega arith)
-
-            low : (k : ℕ) → 1 ≤ k → k ≤ i + 1 → Dec (k ≤ i) → get_or (set left (i + 1) v) k 0 < count
-            low k a b (yes y) = subst (λ (s : ℕ). s < count) (sym (before k y)) (g.small k a y)
-            low k a b (no y) = subst (λ (s : ℕ). s < count) (sym (here k (omega arith) ∙ e)) (moved.tree.small r.node moved.node)
-
-            one : (ws : List Str) → Holds tab ws t₀ n₀ → (k : ℕ) → 1 ≤ k → k ≤ i + 1 → Dec (k ≤ i) → get_or (set left (i + 1) v) k 0 ≡ (left_on tab 0 f k).state
-            one ws o k a b (yes y) = before k y ∙ (g.shares ws o).all k a y
-            one ws o k a b (no y) =
-                let q : k ≡ i + 1 = omega arith in
-                here k q ∙ e ∙ H.hold-state tab ws (left_string f) t' r.node r.nodes (i + 1) (next ws o) ∙ same_pass (i + 1) (omega arith) ∙ ap (λ (m : ℕ). (left_on tab 0 f m).state) (sym q)
+          one : (ws : List Str) → Holds tab ws t₀ n₀ → (k : ℕ) → 1 ≤ k → k ≤ i + 1 → Dec (k ≤ i) → get_or (set left (i + 1) v) k 0 ≡ (left_on tab 0 f k).state
+          one ws o k a b (yes y) = before k y ∙ (g.shares ws o).all k a y
+          one ws o k a b (no y) =
+              let q : k ≡ i + 1 = omega arith in
+              here k q ∙ e ∙ H.hold-state tab ws (left_string f) t' r.node r.nodes (i + 1) (next ws o) ∙ same_pass (i + 1) (omega arith) ∙ ap (λ (m : ℕ). (left_on tab 0 f m).state) (sym q)

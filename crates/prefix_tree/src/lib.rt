@@ -15,12 +15,17 @@ use passes::Step;
 // Words of a node: its latest child, the sibling before it, the symbol that leads to it, its left state.
 pub const NODE: usize = 4;
 
-// Where the left pass of a word stands: whether no state was out of range, its node, how many nodes there are, and how many entries have been looked
-// up.
+// Where the left pass of a word stands: its node, how many nodes there are, and how many entries have been looked up.
 #[derive(Clone, Copy)]
-pub struct SharedStep {
-    pub usable: bool,
-    pub node: usize,
+struct SharedStep {
+    node: usize,
+    nodes: usize,
+    steps: usize,
+}
+
+// How many nodes there are after a pass, and how many entries have been looked up.
+#[derive(Clone, Copy)]
+pub struct Counts {
     pub nodes: usize,
     pub steps: usize,
 }
@@ -56,7 +61,7 @@ fn attach(tree: &mut [u16], q: usize, n: usize, c: u16, state: u16)
     tree[from] = n as u16;
 }
 
-// From a node to its child under `c`, which is made where it is not there.
+// From a node to its child under `c`, which is made where it is not there and its state is in range.
 fn descend(
     words: &[u16],
     rows: usize,
@@ -64,7 +69,7 @@ fn descend(
     tree: &mut [u16],
     p: SharedStep,
     c: u8,
-) -> SharedStep
+) -> Option<SharedStep>
     requires { (rows + row_size * count ≤ length words.now) × (c < row_size) × Tree tree.old p.nodes count × (p.node < p.nodes) × Room tree.old (p.nodes + 1) × (p.steps < max_steps) }
     ensures { Descended words.now rows count tree.old p c result tree.new }
 {
@@ -73,12 +78,7 @@ fn descend(
     let first = numbers::wide16(tree[NODE * q]);
     let child = find(tree, first, c as u16);
     if child != 0 {
-        return SharedStep {
-            usable: true,
-            node: child,
-            nodes: n,
-            steps: p.steps,
-        };
+        return Some(SharedStep { node: child, ..p });
     }
     let state = tree[NODE * q + 3];
     let next = passes::look_up(
@@ -92,24 +92,18 @@ fn descend(
     );
     let entry = next.state;
     if count <= numbers::wide16(entry) { // 16 in the left pass
-        return SharedStep {
-            usable: false,
-            node: 0,
-            nodes: n,
-            steps: 0,
-        };
+        return None;
     }
     attach(tree, q, n, c as u16, entry);
-    SharedStep {
-        usable: true,
+    Some(SharedStep {
         node: n,
         nodes: n + 1,
         steps: next.steps,
-    }
+    })
 }
 
 // The left pass over a frame reads all positions but the last; at i stands the state after position i - 1. The tree has `nodes` nodes before it,
-// and the count goes on from `steps`.
+// and the count goes on from `steps`; there are none after it where a state is out of range.
 pub fn shared_pass(
     words: &[u16],
     rows: usize,
@@ -119,26 +113,21 @@ pub fn shared_pass(
     nodes: usize,
     steps: usize,
     left: &mut [u16],
-) -> SharedStep
+) -> Option<Counts>
     requires { (rows + row_size * count ≤ length words.now) × (2 ≤ length frame.now) × (length frame.now ≤ frame_size) × Symbols frame.now × (length frame.now ≤ length left.old) × Tree tree.old nodes count × Room tree.old (nodes + (length frame.now - 1)) × (steps + frame_size ≤ max_steps) }
     ensures { SharedPass (rows_at words.now rows count) frame.now tree.old nodes steps left.old tree.new left.new result }
 {
     let mut p = SharedStep {
-        usable: true,
         node: 0,
         nodes,
         steps,
     };
-    let end = frame.len() - 1;
-    let mut i: usize = 0;
-    while i < end {
-        p = descend(words, rows, count, &mut *tree, p, frame[i]);
-        if !p.usable {
-            return p;
-        }
-        i += 1;
-        let at = NODE * p.node + 3;
-        left[i] = tree[at];
+    for i in 0..frame.len() - 1 {
+        p = descend(words, rows, count, &mut *tree, p, frame[i])?;
+        left[i + 1] = tree[NODE * p.node + 3];
     }
-    p
+    Some(Counts {
+        nodes: p.nodes,
+        steps: p.steps,
+    })
 }

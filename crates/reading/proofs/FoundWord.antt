@@ -10,8 +10,7 @@ use Rattle.rules.specs.Names.{SoundName}
 use Rattle.exceptions.specs.Layout.{words_of, phones_ending}
 use Rattle.exceptions.specs.Judging.{KnownList, says_of, StateOf}
 use Rattle.exceptions.specs.Calls.{EndsInList}
-use Rattle.exceptions.specs.declared.Ending.{Ending}
-use Rattle.exceptions.specs.declared.Ending.TheVariants.{State, Absent}
+use Rattle.std.specs.Prelude.{Option, Some, None}
 use Rattle.exceptions.proofs.Decided.{list_facts}
 use Rattle.fitting.specs.Fitting.{Str}
 use Rattle.speech.specs.Words.{word_at, end_at}
@@ -32,15 +31,15 @@ module _ (list : List ℕ) (name : Str) (b e : ℕ) (asked : Unsaid list name ×
   pub word_asks : KnownList list × SoundName (take (e - 1 - b) (drop b name))
   word_asks = (asked.0.known, subst SoundName (sym (word_cut name b e asked.2)) (word_sound name b asked.0.sound))
 
-  module _ (r : Ending) (found : EndsInList list (take (e - 1 - b) (drop b name)) r) where
+  module _ (r : Option ℕ) (found : EndsInList list (take (e - 1 - b) (drop b name)) r) where
     ended : EndsInList list (word_at name b) r
     ended = subst (λ (w : Str). EndsInList list w r) (word_cut name b e asked.2) found
 
-    pub found_absent : r ≡ Absent → FoundFor list (word_at name b) 0
+    pub found_absent : r ≡ None → FoundFor list (word_at name b) 0
     found_absent h = found_none list (word_at name b) (subst (EndsInList list (word_at name b)) h ended)
 
-    module _ (q : ℕ) (h : r ≡ State q) where
-      ends : EndsInList list (word_at name b) (State q)
+    module _ (q : ℕ) (h : r ≡ Some q) where
+      ends : EndsInList list (word_at name b) (Some q)
       ends = subst (EndsInList list (word_at name b)) h ended
 
       pub found_most : q ≤ max_states

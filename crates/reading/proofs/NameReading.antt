@@ -1,20 +1,19 @@
 -- The words of a name read one after another, as a loop goes through them with the parts found so far in hand. How a word's letters are read is any.
 -- Assumes nothing.
+use Rattle.std.specs.Prelude.{Err, Ok, Result}
 use Prim.Native.Nat.{ℕ, suc, ◌≤◌, ◌<◌}
 use mathlib.Core.Path.{◌≡◌, refl, sym, ap, ◌∙◌, subst}
 use mathlib.Core.List.{List, [], ◌∷◌, ◌++◌, append_assoc, append-nil}
 use native.Mathlib.Omega.{arith}
 use mathlib.Core.Logic.{◌⊎◌, ⊎_elim}
-use denote.Enum.Declared.{tag_of}
 use lib.ListN.{length, take}
 use Rattle.rules.specs.Names.{SoundName}
 use Rattle.fitting.specs.Fitting.{Str}
 use Rattle.fitting.specs.Reading.{Piece, Reading, finished, uncovered, bad_tables, after}
 use Rattle.speech.specs.Words.{Word, word, words_in, read_word, followed, read_words, word_at, end_at, Starts, WordOf, words_from}
 use Rattle.speech.specs.Places.{EndsBy, parts_at, frame_size, parts_reading, PartsSoFar, ReadOn}
-use Rattle.speech.specs.declared.Reached.{Reached}
-use Rattle.speech.specs.declared.Reached.TheVariants.{Rules, Uncovered, BadTables}
-use Rattle.speech.specs.contracts.Reached.{the_type}
+use Rattle.speech.specs.declared.Unread.{Unread}
+use Rattle.speech.specs.declared.Unread.TheVariants.{Uncovered, BadTables}
 use Rattle.reading.proofs.Loop.{after_none}
 use Rattle.reading.proofs.NameWords.{words_begin, words_step, words_past, end_most, starts_first, starts_next}
 
@@ -41,12 +40,6 @@ stopped_bad : (xs : List Piece) (r t : Reading) → bad_tables ≡ after xs r �
 stopped_bad xs (finished zs) t e = let z : ◌≡◌ {A = ℕ} 0 1 = cc in absurd (omega arith)
 stopped_bad xs (uncovered j) t e = e
 stopped_bad xs bad_tables t e = e
-
--- what is told by its tag is no reading to the end
-pub not_rules_by : (x : Reached) → ((tag_of the_type x ≡ 1) ⊎ (tag_of the_type x ≡ 2)) → (k : ℕ) → x ≡ Rules k → ⊥
-not_rules_by x t k e =
-    let z : tag_of the_type x ≡ 0 = ap (tag_of the_type) e in
-    ⊎_elim (λ w. omega arith) (λ w. omega arith) t
 
 -- ---- the loop over the words
 
@@ -81,8 +74,8 @@ module _ (image list : List ℕ) (m : Str → Str) (read : Str → Reading) (nam
       here : read_words m read (words_from name b) ≡ followed (read_word m read (word b (word_at name b))) (read_words m read (words_from name e))
       here = ap (read_words m read) (words_step name b h ∙ ap (λ (x : ℕ). word b (word_at name b) ∷ words_from name x) (sym is))
 
-      module _ (ps' : List ℕ) (r : Reached) (o : ReadOn image list (parts_at image list (take count ps)) (read_word m read (word b (word_at name b))) e ps' r) where
-        pub words_read_next : (k : ℕ) → r ≡ Rules k → WordsRead ps' k e
+      module _ (ps' : List ℕ) (r : Result ℕ Unread) (o : ReadOn image list (parts_at image list (take count ps)) (read_word m read (word b (word_at name b))) e ps' r) where
+        pub words_read_next : (k : ℕ) → r ≡ Ok k → WordsRead ps' k e
         words_read_next k q = record {
           so_far = record {
             sized = o.parted.sized;
@@ -98,25 +91,25 @@ module _ (image list : List ℕ) (m : Str → Str) (read : Str → Reading) (nam
         }
 
         -- reading ended in the word
-        pub words_read_stop : SoundName name → ((k : ℕ) → r ≡ Rules k → ⊥) → ReadOn image list [] whole_reading frame_size ps' r
+        pub words_read_stop : SoundName name → ((k : ℕ) → r ≡ Ok k → ⊥) → ReadOn image list [] whole_reading frame_size ps' r
         words_read_stop sound never = record {
           parted = record { sized = o.parted.sized; few = ends r refl; within = o.parted.within };
           says = by r refl ∙ (sym (ap (after (parts_at image list (take count ps))) here) ∙ (sym s.whole ∙ sym (after_none whole_reading)));
         }
           where
-            ends : (x : Reached) → r ≡ x → EndsBy frame_size x
-            ends (Rules k) q = absurd (never k q)
-            ends (Uncovered i) q = let u : i ≤ e = subst (EndsBy e) q o.parted.few in omega (arith, end_near, sound.short)
-            ends BadTables q = tt
+            ends : (x : Result ℕ Unread) → r ≡ x → EndsBy frame_size x
+            ends (Ok k) q = absurd (never k q)
+            ends (Err (Uncovered i)) q = let u : i ≤ e = subst (EndsBy e) q o.parted.few in omega (arith, end_near, sound.short)
+            ends (Err BadTables) q = tt
 
-            by : (x : Reached) → r ≡ x
+            by : (x : Result ℕ Unread) → r ≡ x
                 → parts_reading image list ps' x ≡ after (parts_at image list (take count ps)) (followed (read_word m read (word b (word_at name b))) (read_words m read (words_from name e)))
-            by (Rules k) q = absurd (never k q)
-            by (Uncovered i) q = stopped_at (parts_at image list (take count ps)) (read_word m read (word b (word_at name b))) (read_words m read (words_from name e)) i (ap (parts_reading image list ps') (sym q) ∙ o.says)
-            by BadTables q = stopped_bad (parts_at image list (take count ps)) (read_word m read (word b (word_at name b))) (read_words m read (words_from name e)) (ap (parts_reading image list ps') (sym q) ∙ o.says)
+            by (Ok k) q = absurd (never k q)
+            by (Err (Uncovered i)) q = stopped_at (parts_at image list (take count ps)) (read_word m read (word b (word_at name b))) (read_words m read (words_from name e)) i (ap (parts_reading image list ps') (sym q) ∙ o.says)
+            by (Err BadTables) q = stopped_bad (parts_at image list (take count ps)) (read_word m read (word b (word_at name b))) (read_words m read (words_from name e)) (ap (parts_reading image list ps') (sym q) ∙ o.says)
 
     -- all words are read
-    pub words_read_end : SoundName name → length name < b → ReadOn image list [] whole_reading frame_size ps (Rules count)
+    pub words_read_end : SoundName name → length name < b → ReadOn image list [] whole_reading frame_size ps (Ok count)
     words_read_end sound h = record {
       parted = record {
         sized = s.so_far.sized;

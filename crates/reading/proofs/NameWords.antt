@@ -215,11 +215,11 @@ lay_on name xs f i v h room e q =
     ∙ ap (λ (l : Str). over (0 ∷ map boundary_or l) xs) (sym (take-suc name i 0 h) ∙ ap (λ (k : ℕ). take k name) (sym (add-one i)))
 
 pub lay_end : (name : Str) (xs f : List ℕ) (i : ℕ) → i ≡ length name → length name + 2 ≤ length xs → f ≡ over (0 ∷ map boundary_or (take i name)) (set xs 0 0)
-    → set f (i + 1) 0 ≡ over (frame_of name) xs
+    → set f (length name + 1) 0 ≡ over (frame_of name) xs
 lay_end name xs f i n room e =
-    let l : length (0 ∷ map boundary_or name) ≡ i + 1 = omega (arith, length-map name boundary_or) in
-    ap (λ (v : List ℕ). set v (i + 1) 0) (e ∙ ap (λ (v : Str). over (0 ∷ map boundary_or v) (set xs 0 0)) (take_all i name (omega arith)))
-    ∙ (over_snoc (0 ∷ map boundary_or name) (set xs 0 0) (i + 1) 0 l (omega (arith, length-set xs 0 0))
+    let l : length (0 ∷ map boundary_or name) ≡ length name + 1 = omega (arith, length-map name boundary_or) in
+    ap (λ (v : List ℕ). set v (length name + 1) 0) (e ∙ ap (λ (v : Str). over (0 ∷ map boundary_or v) (set xs 0 0)) (take_all i name (omega arith)))
+    ∙ (over_snoc (0 ∷ map boundary_or name) (set xs 0 0) (length name + 1) 0 l (omega (arith, length-set xs 0 0))
     ∙ ap (λ (v : List ℕ). frame_of name ++ v) (drop-set-lt (length (frame_of name)) xs 0 0 (omega (arith, frame_length name))))
 
 inner_at : (s : Str) (i : ℕ) → i < length s → get_or (map boundary_or s ++ (0 ∷ [])) i 1 ≡ boundary_or (get_or s i 0)

@@ -1,5 +1,6 @@
 -- One word more of a name, after the parts found so far: said from the list, or read from its frame, a part of the name's.
 -- Assumes nothing.
+use Rattle.std.specs.Prelude.{Err, Ok, Result}
 use Prim.Native.Nat.{ℕ, suc, ◌+◌, ◌-◌, ◌≤◌, ◌<◌}
 use mathlib.Core.Path.{◌≡◌, refl, sym, ap, ap₂, ◌∙◌, subst}
 use mathlib.Core.List.{List, [], ◌∷◌, ◌++◌, map-append}
@@ -22,8 +23,8 @@ use Rattle.fitting.specs.Fitting.{Str, frame}
 use Rattle.fitting.specs.Reading.{Piece, listed, Reading, finished, after}
 use Rattle.speech.specs.Words.{word, in_name, phones_or, read_word, frame_of, word_at, WordOf}
 use Rattle.speech.specs.Places.{place_in, pieces_at, piece_at, Within, reading_of, EndsBy, Placed, part_at, parts_at, PartIn, PartsIn, frame_size, FoundFor, PartsSoFar, ReadOn, ended_in}
-use Rattle.speech.specs.declared.Reached.{Reached}
-use Rattle.speech.specs.declared.Reached.TheVariants.{Rules, Uncovered, BadTables}
+use Rattle.speech.specs.declared.Unread.{Unread}
+use Rattle.speech.specs.declared.Unread.TheVariants.{Uncovered, BadTables}
 use Rattle.reading.proofs.Plain.{not_rules, not_rules_16}
 use Rattle.reading.proofs.NameWords.{word_long, word_frame, frame_length}
 use Rattle.reading.proofs.FoundWord.{state_most}
@@ -44,10 +45,10 @@ module _ (name f : Str) (is : f ≡ frame_of name) (b e : ℕ) (w : WordOf name 
   pub part_bound : SoundName name → b + length (word_at name b) ≤ max_name
   part_bound s = omega (arith, word_long name b w.inside, s.short)
 
-pub ends_most : (n k : ℕ) (r : Reached) → EndsBy n r → n ≤ k → EndsBy k r
-ends_most n k (Rules j) h l = omega arith
-ends_most n k (Uncovered i) h l = omega arith
-ends_most n k BadTables h l = tt
+pub ends_most : (n k : ℕ) (r : Result ℕ Unread) → EndsBy n r → n ≤ k → EndsBy k r
+ends_most n k (Ok j) h l = omega arith
+ends_most n k (Err (Uncovered i)) h l = omega arith
+ends_most n k (Err BadTables) h l = tt
 
 -- ---- one word more
 
@@ -100,7 +101,7 @@ module _ (image list ps : List ℕ) (count b : ℕ) (s : PartsSoFar image list p
   module _ (w : Str) (e : ℕ) (is : e ≡ suc (b + length w)) (read : Str → Reading) where
     -- said from the list
     pub listed_part : (p : ℕ) → 0 < p → FoundFor list w p
-        → ReadOn image list (parts_at image list (take count ps)) (read_word (says_of list) read (word b w)) e (set ps count p) (Rules (count + 1))
+        → ReadOn image list (parts_at image list (take count ps)) (read_word (says_of list) read (word b w)) e (set ps count p) (Ok (count + 1))
     listed_part p h f =
         let q = found_place list w p f h in
         let i : PartIn image list p = record { rule = λ u. absurd (omega (arith, (f.state h).0)); state = λ u. subst (λ (x : ℕ). StateOf list (x - max_rules)) (sym q) (f.state h).1 } in
@@ -117,7 +118,7 @@ module _ (image list ps : List ℕ) (count b : ℕ) (s : PartsSoFar image list p
         }
 
     -- read by rules, whose parts were laid after the others
-    module _ (ok : valid image ≡ true) (ps₂ ps' : List ℕ) (laid : ps' ≡ take count ps ++ ps₂) (long : length ps' ≡ length ps) (r : Reached) (placed : Placed image (length w) ps₂ r)
+    module _ (ok : valid image ≡ true) (ps₂ ps' : List ℕ) (laid : ps' ≡ take count ps ++ ps₂) (long : length ps' ≡ length ps) (r : Result ℕ Unread) (placed : Placed image (length w) ps₂ r)
         (absent : says_of list w ≡ []) (said : reading_of image ps₂ r ≡ read w) where
       word_is : read_word (says_of list) read (word b w) ≡ in_name b (reading_of image ps₂ r)
       word_is = ap₂ (λ (p : Str) (x : Reading). phones_or p (in_name b x)) absent (sym said)
@@ -143,32 +144,32 @@ module _ (image list ps : List ℕ) (count b : ℕ) (s : PartsSoFar image list p
                   subst (PartIn image list) (sym (ap (λ (x : ℕ). get_or (take count ps ++ take k ps₂) x 0) (sym z) ∙ get_or-append-add (take count ps) (take k ps₂) (j - length (take count ps)) 0))
                   (rule-in image list ok _ (u (j - length (take count ps)) (omega arith)))
 
-      pub read_part : (x : Reached) → x ≡ ended_in count b r → ReadOn image list (parts_at image list (take count ps)) (read_word (says_of list) read (word b w)) e ps' x
-      read_part x q = subst (λ (y : Reached). ReadOn image list (parts_at image list (take count ps)) (read_word (says_of list) read (word b w)) e ps' y) (sym q) (by r refl)
+      pub read_part : (x : Result ℕ Unread) → x ≡ ended_in count b r → ReadOn image list (parts_at image list (take count ps)) (read_word (says_of list) read (word b w)) e ps' x
+      read_part x q = subst (λ (y : Result ℕ Unread). ReadOn image list (parts_at image list (take count ps)) (read_word (says_of list) read (word b w)) e ps' y) (sym q) (by r refl)
         where
           sized : length ps' ≡ frame_size
           sized = long ∙ s.sized
 
-          by : (y : Reached) → r ≡ y → ReadOn image list (parts_at image list (take count ps)) (read_word (says_of list) read (word b w)) e ps' (ended_in count b r)
-          by (Rules k) z =
+          by : (y : Result ℕ Unread) → r ≡ y → ReadOn image list (parts_at image list (take count ps)) (read_word (says_of list) read (word b w)) e ps' (ended_in count b r)
+          by (Ok k) z =
               let u = placed.within k z in
               let f : k ≤ length w = subst (EndsBy (length w)) z placed.few in
-              subst (λ (y : Reached). ReadOn image list (parts_at image list (take count ps)) (read_word (says_of list) read (word b w)) e ps' (ended_in count b y)) (sym z)
+              subst (λ (y : Result ℕ Unread). ReadOn image list (parts_at image list (take count ps)) (read_word (says_of list) read (word b w)) e ps' (ended_in count b y)) (sym z)
               (record {
                 parted = record { sized = sized; few = omega (arith, s.few); within = λ j y. let t : count + k ≡ j = cc in rw (sym t) (within_both k u) };
                 says = ap finished (ap (parts_at image list) (joined k) ∙ (map-append (part_at image list) (take count ps) (take k ps₂) ∙ ap (λ (l : List Piece). parts_at image list (take count ps) ++ l) (rule_parts image list ok (take k ps₂) u)))
-                    ∙ sym (ap (after (parts_at image list (take count ps))) (word_is ∙ ap (λ (y : Reached). in_name b (reading_of image ps₂ y)) z));
+                    ∙ sym (ap (after (parts_at image list (take count ps))) (word_is ∙ ap (λ (y : Result ℕ Unread). in_name b (reading_of image ps₂ y)) z));
               })
-          by (Uncovered i) z =
+          by (Err (Uncovered i)) z =
               let f : i ≤ length w = subst (EndsBy (length w)) z placed.few in
-              subst (λ (y : Reached). ReadOn image list (parts_at image list (take count ps)) (read_word (says_of list) read (word b w)) e ps' (ended_in count b y)) (sym z)
+              subst (λ (y : Result ℕ Unread). ReadOn image list (parts_at image list (take count ps)) (read_word (says_of list) read (word b w)) e ps' (ended_in count b y)) (sym z)
               (record {
                 parted = record { sized = sized; few = omega arith; within = λ j y. absurd (not_rules y) };
-                says = sym (ap (after (parts_at image list (take count ps))) (word_is ∙ ap (λ (y : Reached). in_name b (reading_of image ps₂ y)) z));
+                says = sym (ap (after (parts_at image list (take count ps))) (word_is ∙ ap (λ (y : Result ℕ Unread). in_name b (reading_of image ps₂ y)) z));
               })
-          by BadTables z =
-              subst (λ (y : Reached). ReadOn image list (parts_at image list (take count ps)) (read_word (says_of list) read (word b w)) e ps' (ended_in count b y)) (sym z)
+          by (Err BadTables) z =
+              subst (λ (y : Result ℕ Unread). ReadOn image list (parts_at image list (take count ps)) (read_word (says_of list) read (word b w)) e ps' (ended_in count b y)) (sym z)
               (record {
                 parted = record { sized = sized; few = tt; within = λ j y. absurd (not_rules_16 y) };
-                says = sym (ap (after (parts_at image list (take count ps))) (word_is ∙ ap (λ (y : Reached). in_name b (reading_of image ps₂ y)) z));
+                says = sym (ap (after (parts_at image list (take count ps))) (word_is ∙ ap (λ (y : Result ℕ Unread). in_name b (reading_of image ps₂ y)) z));
               })

@@ -13,9 +13,8 @@ ghost use Rattle.speech.specs.Words.{word, read_word, frame_of, word_at, WordOf}
 ghost use Rattle.speech.specs.Speech.{told_of, saying, answered, listed_or, delivered, plain_words, plain_said};
 ghost use Rattle.speech.specs.Places.{ReadBy, Unsaid, frame_size, parts_at, PartsSoFar, ReadOn};
 
-use fitting::Fit;
-use rules::{Answer, Refusal};
-use speech::{Listed, Reached, Speech};
+use rules::Refusal;
+use speech::{Spoken, Unread};
 
 // Symbols of the longest frame: a boundary before the name and one after it.
 pub const MAX_FRAME: usize = rules::MAX_NAME + 2;
@@ -24,7 +23,7 @@ pub const MAX_FRAME: usize = rules::MAX_NAME + 2;
 pub const NO_LIST: [u32; 1] = [0];
 
 // The parts of the rules applied to a framed word, in order, from its first letter on.
-fn read_letters(image: &[u8], frame: &[u8], parts: &mut [u32]) -> Reached
+fn read_letters(image: &[u8], frame: &[u8], parts: &mut [u32]) -> Result<usize, Unread>
     requires { (valid image.now ≡ true) × ((2 ≤ length frame.now) × ((length frame.now ≤ frame_size) × (length frame.now - 2 ≤ length parts.old))) }
     ensures { ReadBy image.now (first_fit (classes_of image.now) (entries_of image.now) frame.now) (length frame.now - 2) parts.new result }
 {
@@ -33,15 +32,14 @@ fn read_letters(image: &[u8], frame: &[u8], parts: &mut [u32]) -> Reached
     let mut k = 0;
     let mut i = 1;
     while i <= n {
-        let fit = fitting::first_fit(image, count, frame, i);
-        let Fit::Rule(place, fitting) = fit else {
-            return Reached::Uncovered(i);
+        let Some(fit) = fitting::first_fit(image, count, frame, i) else {
+            return Err(Unread::Uncovered(i));
         };
-        parts[k] = speech::part_of(place, fitting);
+        parts[k] = speech::part_of(fit.place, fit.fitting);
         k += 1;
-        i += fitting::target_len_at(image, place);
+        i += fitting::target_len_at(image, fit.place);
     }
-    Reached::Rules(k)
+    Ok(k)
 }
 
 // One word more, after `count` parts: the part that the list gives for it, or the rules applied to its letters.
@@ -54,21 +52,27 @@ fn read_word(
     end: usize,
     parts: &mut [u32],
     count: usize,
-) -> Reached
+) -> Result<usize, Unread>
     requires { (valid image.now ≡ true) × Unsaid list.now name.now × (frame.now ≡ frame_of name.now) × WordOf name.now from end × PartsSoFar image.now list.now parts.old count from }
     ensures { ReadOn image.now list.now (parts_at image.now list.now (take count parts.old)) (read_word (says_of list.now) (plain (classes_of image.now) (entries_of image.now)) (word from (word_at name.now from))) end parts.new result }
 {
     let part = words::find_word(list, name, from, end);
     if part != 0 {
         parts[count] = part as u32;
-        return Reached::Rules(count + 1);
+        return Ok(count + 1);
     }
     let read = read_letters(image, &frame[from..end + 1], &mut parts[count..]);
     words::in_name(read, count, from)
 }
 
 // The words of a name that is not on the list, in turn.
-fn read_words(image: &[u8], list: &[u32], name: &[u8], frame: &[u8], parts: &mut [u32]) -> Reached
+fn read_words(
+    image: &[u8],
+    list: &[u32],
+    name: &[u8],
+    frame: &[u8],
+    parts: &mut [u32],
+) -> Result<usize, Unread>
     requires { (valid image.now ≡ true) × Unsaid list.now name.now × (frame.now ≡ frame_of name.now) × (length parts.old ≡ frame_size) }
     ensures { ReadOn image.now list.now [] (plain_words (classes_of image.now) (entries_of image.now) name.now (says_of list.now)) frame_size parts.new result }
 {
@@ -76,14 +80,10 @@ fn read_words(image: &[u8], list: &[u32], name: &[u8], frame: &[u8], parts: &mut
     let mut from = 0;
     while from <= name.len() {
         let end = words::word_end(name, from);
-        let read = read_word(image, list, name, frame, from, end, &mut *parts, count);
-        let Reached::Rules(k) = read else {
-            return read;
-        };
-        count = k;
+        count = read_word(image, list, name, frame, from, end, &mut *parts, count)?;
         from = end;
     }
-    Reached::Rules(count)
+    Ok(count)
 }
 
 // The plain reading of a sound name that is not on the list.
@@ -93,7 +93,7 @@ fn read_sound(
     name: &[u8],
     phones: &mut [u8],
     numbers: &mut [u16],
-) -> Speech
+) -> Result<Spoken, Refusal>
     requires { (valid image.now ≡ true) × Unsaid list.now name.now }
     ensures { saying (told_of result) phones.new numbers.new ≡ delivered (answered (plain_words (classes_of image.now) (entries_of image.now) name.now (says_of list.now)) 0) phones.old numbers.old }
 {
@@ -106,15 +106,17 @@ fn read_sound(
 }
 
 // The plain reading of a name, for a caller that knows the image to be a ruleset and has no list.
-pub fn read_valid(image: &[u8], name: &[u8], phones: &mut [u8], numbers: &mut [u16]) -> Speech
+pub fn read_valid(
+    image: &[u8],
+    name: &[u8],
+    phones: &mut [u8],
+    numbers: &mut [u16],
+) -> Result<Spoken, Refusal>
     requires { valid image.now ≡ true }
     ensures { saying (told_of result) phones.new numbers.new ≡ plain_said image.now no_list name.now phones.old numbers.old }
 {
-    let judged = rules::judge_name(name);
-    match judged {
-        Answer::Refused(x) => Speech::Refused(x),
-        Answer::Accepted => read_sound(image, &NO_LIST, name, phones, numbers),
-    }
+    rules::judge_name(name)?;
+    read_sound(image, &NO_LIST, name, phones, numbers)
 }
 
 // The plain reading of a sound name that may be on the list.
@@ -124,14 +126,14 @@ fn read_listed(
     name: &[u8],
     phones: &mut [u8],
     numbers: &mut [u16],
-) -> Speech
+) -> Result<Spoken, Refusal>
     requires { (valid image.now ≡ true) × ((is_list list.now ≡ true) × SoundName name.now) }
     ensures { saying (told_of result) phones.new numbers.new ≡ delivered (listed_or (phones_for (words_of list.now)) name.now (answered (plain_words (classes_of image.now) (entries_of image.now) name.now (phones_for (words_of list.now))) 0)) phones.old numbers.old }
 {
     let found = speech::say_listed(list, name, &mut *phones);
     match found {
-        Listed::Said(speech) => speech,
-        Listed::Unlisted => read_sound(image, list, name, phones, numbers),
+        Some(said) => said,
+        None => read_sound(image, list, name, phones, numbers),
     }
 }
 
@@ -142,15 +144,12 @@ fn read_known(
     name: &[u8],
     phones: &mut [u8],
     numbers: &mut [u16],
-) -> Speech
+) -> Result<Spoken, Refusal>
     requires { (valid image.now ≡ true) × (is_list list.now ≡ true) }
     ensures { saying (told_of result) phones.new numbers.new ≡ plain_said image.now (listing_of list.now) name.now phones.old numbers.old }
 {
-    let judged = rules::judge_name(name);
-    match judged {
-        Answer::Refused(x) => Speech::Refused(x),
-        Answer::Accepted => read_listed(image, list, name, phones, numbers),
-    }
+    rules::judge_name(name)?;
+    read_listed(image, list, name, phones, numbers)
 }
 
 // The plain reading of a name: its phones, from the list or by the rules, and the numbers of the rules applied, in lent memory.
@@ -160,14 +159,14 @@ pub fn read_name(
     name: &[u8],
     phones: &mut [u8],
     numbers: &mut [u16],
-) -> Speech
+) -> Result<Spoken, Refusal>
     ensures { saying (told_of result) phones.new numbers.new ≡ plain_said image.now (listing_of list.now) name.now phones.old numbers.old }
 {
     if !image::is_ruleset(image) {
-        return Speech::Refused(Refusal::NotRuleset(0));
+        return Err(Refusal::NotRuleset(0));
     }
     if !exceptions::is_list(list) {
-        return Speech::Refused(Refusal::BadList(0));
+        return Err(Refusal::BadList(0));
     }
     read_known(image, list, name, phones, numbers)
 }

@@ -4,17 +4,13 @@ ghost use Rattle.rules.specs.Memory.{over};
 ghost use Rattle.speech.specs.Words.{boundary_or, frame_of, word_at, end_at};
 ghost use Rattle.speech.specs.Places.{Unsaid, FoundFor, EndsBy, ended_in};
 
-use exceptions::Ending;
-use speech::Reached;
+use speech::Unread;
 
 // # in place of a separator.
 fn boundary_or(c: u8) -> u8
     ensures { result ≡ boundary_or c }
 {
-    if c == rules::SEPARATOR {
-        return 0;
-    }
-    c
+    if c == rules::SEPARATOR { 0 } else { c }
 }
 
 // The words of a name are laid at the start of `f`, with # before the first, after the last, and between two.
@@ -23,12 +19,10 @@ pub fn lay_frame(name: &[u8], f: &mut [u8])
     ensures { f.new ≡ over (frame_of name.now) f.old }
 {
     f[0] = 0;
-    let mut i = 0;
-    while i < name.len() {
-        f[i + 1] = boundary_or(name[i]);
-        i += 1;
+    for (i, &c) in name.iter().enumerate() {
+        f[i + 1] = boundary_or(c);
     }
-    f[i + 1] = 0;
+    f[name.len() + 1] = 0;
 }
 
 // The position of the # after the word that follows the first `from` bytes.
@@ -36,14 +30,12 @@ pub fn word_end(name: &[u8], from: usize) -> usize
     requires { from ≤ length name.now }
     ensures { result ≡ end_at name.now from }
 {
-    let mut i = from;
-    while i < name.len() {
+    for i in from..name.len() {
         if name[i] == rules::SEPARATOR {
             return i + 1;
         }
-        i += 1;
     }
-    i + 1
+    name.len() + 1
 }
 
 // The part that the list gives for a word of a name that is not on it, 0 where it gives none. The only word of a name is the name.
@@ -56,20 +48,20 @@ pub fn find_word(list: &[u32], name: &[u8], from: usize, end: usize) -> u16
         return 0;
     }
     let found = exceptions::end_state(list, &name[from..to]);
-    let Ending::State(q) = found else {
+    let Some(q) = found else {
         return 0;
     };
     (rules::MAX_RULES + q) as u16
 }
 
 // How reading ended in a word that follows the first `from` bytes, as it ended in the name, of which `count` parts were known before.
-pub fn in_name(reached: Reached, count: usize, from: usize) -> Reached
+pub fn in_name(reached: Result<usize, Unread>, count: usize, from: usize) -> Result<usize, Unread>
     requires { (count ≤ 1000) × (from ≤ 1000) × EndsBy 1000 reached }
     ensures { result ≡ ended_in count from reached }
 {
     match reached {
-        Reached::Rules(k) => Reached::Rules(count + k),
-        Reached::Uncovered(i) => Reached::Uncovered(from + i),
-        Reached::BadTables => Reached::BadTables,
+        Ok(k) => Ok(count + k),
+        Err(Unread::Uncovered(i)) => Err(Unread::Uncovered(from + i)),
+        Err(Unread::BadTables) => Err(Unread::BadTables),
     }
 }

@@ -9,7 +9,7 @@ ghost use Rattle.exceptions.specs.Judging.{is_list};
 ghost use Rattle.readout.specs.Texts.{Wrote};
 ghost use Rattle.readout.specs.ReadOut.{list_text, reading, read_out};
 
-use rules::{Refusal, Written};
+use rules::Refusal;
 
 // The text of a list, at the front of the lent bytes where it has room. Gives its length.
 fn write_text(list: &[u32], out: &mut [u8]) -> usize
@@ -32,16 +32,16 @@ fn text_length(list: &[u32]) -> usize
 }
 
 // The read-out of a lent list, at the front of lent bytes. Refusals 17 and 15, the place of which is the length needed, leave them as they were.
-pub fn read_out(list: &[u32], out: &mut [u8]) -> Written
+pub fn read_out(list: &[u32], out: &mut [u8]) -> Result<usize, Refusal>
     ensures { reading (report_of result) out.new ≡ read_out list.now out.old }
 {
     if !exceptions::is_list(list) {
-        return Written::Refused(Refusal::BadList(0));
+        return Err(Refusal::BadList(0));
     }
     let needed = text_length(list);
     if out.len() < needed {
-        return Written::Refused(Refusal::FileRoom(needed));
+        return Err(Refusal::FileRoom(needed));
     }
     write_text(list, out);
-    Written::Bytes(needed)
+    Ok(needed)
 }

@@ -14,11 +14,7 @@ fn write_letters(path: &[u8], depth: usize, out: &mut [u8], at: usize)
     requires { (depth ≤ length path.now) × (at + depth ≤ length out.old) }
     ensures { Written (copy_of path.now 0) at depth out.old out.new }
 {
-    let mut k: usize = 0;
-    while k < depth {
-        out[at + k] = path[k];
-        k += 1;
-    }
+    out[at..at + depth].copy_from_slice(&path[..depth]);
 }
 
 // Writes what stands before the phones of an entry.
@@ -106,16 +102,12 @@ fn write_under(
 {
     let s = states::row_cells(words, n, q);
     let from = s.from;
-    let last = s.to;
-    let end = states::first(words, from, last, automaton::PHONES);
+    let end = states::first(words, from, s.to, automaton::PHONES);
     let mut to = at;
-    let mut i = from;
-    while i < end {
-        let cell = words[i];
+    for &cell in &words[from..end] {
         path[depth] = letter(cell);
         let next = states::val(cell);
         to = write_from(words, n, next, path, depth + 1, left - 1, out, to);
-        i += 1;
     }
     to
 }

@@ -6,7 +6,7 @@ use mathlib.Core.List.{List, [], ◌∷◌, ◌++◌, append_assoc}
 use native.Mathlib.Omega.{arith}
 use native.Mathlib.Numerals.{add-one}
 use lib.ListN.{length, get_or, take, drop, set, replicate, length-append}
-use lib.Seq.{paste, paste-suc, length-paste, length_paste_head, get_or-drop, get_or-append-add, take_all}
+use lib.Seq.{paste, paste-suc, length_paste_head, get_or-drop, get_or-append-add}
 use Rattle.rules.specs.Memory.{over, over_at}
 use Rattle.rules.specs.Shape.{first}
 use Rattle.rules.specs.declared.Rule.{Rule}
@@ -23,29 +23,17 @@ paste_past d at t n k hd ht h =
     ∙ (get_or-append-add (take at d ++ take n t) (drop (at + n) d) (k - (at + n)) 0
     ∙ (get_or-drop (at + n) d (k - (at + n)) 0 ∙ ap (λ (i : ℕ). get_or d i 0) f))
 
--- a copy leaves the length
-pub same_by : (d s : List ℕ) (at : ℕ) (t : List ℕ) (n : ℕ) → s ≡ paste d at t n → at + n ≤ length d → n ≤ length t → length s ≡ length d
-same_by d s at t n e h u = ap length e ∙ length-paste d at t n h u
-
--- a turn of a loop that stores the bytes of t
+-- a byte more of t is stored
 pub put_step : (d s : List ℕ) (at : ℕ) (t : List ℕ) (i : ℕ) → at + i < length d → i < length t → s ≡ paste d at t i
     → set s (at + i) (get_or t i 0) ≡ paste d at t (i + 1)
 put_step d s at t i h u e =
     ap (λ (q : List ℕ). set q (at + i) (get_or t i 0)) e ∙ (paste-suc d at t i 0 h u ∙ ap (paste d at t) (sym (add-one i)))
 
--- as many bytes of s as d has places
-module _ (d s z : List ℕ) where
-  pub filled_part : z ≡ paste d 0 (take (length d) s) (length (take (length d) s)) → z ≡ over (take (length d) s) d
-  filled_part e = e ∙ over_pasted 0 (take (length d) s) d
-
-  pub filled_whole : length s ≤ length d → z ≡ paste d 0 s (length s) → z ≡ over (take (length d) s) d
-  filled_whole h e = e ∙ (over_pasted 0 s d ∙ ap (λ (t : List ℕ). over t d) (sym (take_all (length d) s h)))
-
 zeros : (m : ℕ) → replicate {A = ℕ} m 0 ≡ first m [] 0
 zeros zero = refl
 zeros (suc m) = ap (λ (l : List ℕ). 0 ∷ l) (zeros m)
 
--- the same in m places that held zeros
+-- as many bytes of w as there is room for, in m places that held zeros
 pub first_over : (m : ℕ) (w : List ℕ) → over (take m w) (replicate m 0) ≡ first m w 0
 first_over zero w = refl
 first_over (suc m) [] = zeros (suc m)

@@ -34,23 +34,15 @@ pub fn put(s: &mut [u8], at: usize, b: &[u8])
     requires { at + length b.now ≤ length s.old }
     ensures { s.new ≡ paste s.old at b.now (length b.now) }
 {
-    let mut i = 0;
-    while i < b.len() {
-        s[at + i] = b[i];
-        i += 1;
-    }
+    s[at..at + b.len()].copy_from_slice(b);
 }
 
 // As many bytes of `s` as `room` has places, at its front.
 fn fill(room: &mut [u8], s: &[u8])
     ensures { room.new ≡ over (take (length room.old) s.now) room.old }
 {
-    let n = room.len();
-    if n < s.len() {
-        put(room, 0, &s[..n]);
-    } else {
-        put(room, 0, s);
-    }
+    let n = room.len().min(s.len());
+    put(room, 0, &s[..n]);
 }
 
 // The rule with these lengths and fields: of a field as many bytes as its array has places, 0 past them.
@@ -140,11 +132,11 @@ fn put_four(s: &mut [u8], at: usize, a: &[u8], b: &[u8], c: &[u8], d: &[u8])
     requires { at + (length a.now + (length b.now + (length c.now + length d.now))) ≤ length s.old }
     ensures { s.new ≡ over_at at (a.now ++ (b.now ++ (c.now ++ d.now))) s.old }
 {
-    put(&mut *s, at, a);
+    put(s, at, a);
     let after_a = at + a.len();
-    put(&mut *s, after_a, b);
+    put(s, after_a, b);
     let after_b = after_a + b.len();
-    put(&mut *s, after_b, c);
+    put(s, after_b, c);
     put(s, after_b + c.len(), d);
 }
 
@@ -163,7 +155,7 @@ pub fn put_rule(s: &mut [u8], at: usize, rule: Rule)
     let target = rule.target;
     let right = rule.right;
     let phones = rule.phones;
-    put(&mut *s, at, &lengths);
+    put(s, at, &lengths);
     put_four(s, at + LEFT, &left, &target, &right, &phones);
 }
 

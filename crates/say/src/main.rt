@@ -2,12 +2,12 @@
 // made by `transcript`; here bytes are read and written.
 #![tactic(auto)]
 
-ghost use Rattle.std.specs.Prelude.{◌≡◌, true, ◌<◌, length};
-ghost use Rattle.rules.specs.Refusals.{reply_of, accepted};
+ghost use Rattle.std.specs.Prelude.{◌≡◌, true, ◌<◌, ◌≤◌, length, IfOk};
 ghost use Rattle.image.specs.Image.{valid};
 
 use file_format::MAX_INPUT;
-use rules::{Answer, Refusal};
+use rules::Refusal;
+use std::io;
 use std::rt::Files;
 
 // A refusal's line. One that cannot be written is lost: there is nowhere else to say so.
@@ -17,7 +17,7 @@ fn print_refusal(rt: &impl Print, x: Refusal) {
     let _ = rt.write_all(&out);
 }
 
-// The answer to the line at a place is printed. Where the next line starts; the text's end if no more can be printed.
+// The answer to the line at a place is printed. Where the next line starts.
 fn say_line<'a>(
     rt: &impl Print,
     image: &[u8],
@@ -25,59 +25,56 @@ fn say_line<'a>(
     sets: &'a [u64],
     text: &[u8],
     at: usize,
-) -> usize
+) -> io::Result<usize>
     requires { (valid image.now ≡ true) × (at < length text.now) }
-    ensures { at < result }
+    ensures { IfOk result (λ next. at < next) }
 {
     let mut out = [0u8; answer_lines::LONGEST_LINE];
     let answered = transcript::answer_name(image, words, sets, text, at, &mut out);
-    let len = answered.len;
-    if rt.write_all(&out[..len]).is_err() {
-        return text.len();
-    }
-    answered.next
+    rt.write_all(&out[..answered.len])?;
+    Ok(answered.next)
 }
 
-// Each line in turn.
-fn say_lines<'a>(rt: &impl Print, image: &[u8], words: &'a [u16], sets: &'a [u64], text: &[u8])
+// Each line in turn, until no more can be printed.
+fn say_lines<'a>(
+    rt: &impl Print,
+    image: &[u8],
+    words: &'a [u16],
+    sets: &'a [u64],
+    text: &[u8],
+) -> io::Result<()>
     requires { valid image.now ≡ true }
 {
     let mut at = 0;
     while at < text.len() {
-        at = say_line(rt, image, words, sets, text, at);
+        at = say_line(rt, image, words, sets, text, at)?;
     }
+    Ok(())
 }
 
-// Whether a call was accepted; if not, its refusal is printed.
-fn judge(rt: &impl Print, answer: Answer) -> bool
-    ensures { result ≡ true → reply_of answer ≡ accepted }
+// The bytes of one of the two inputs, of which so many were read.
+fn whole(buf: &[u8], n: usize) -> Result<&[u8], Refusal>
+    requires { n ≤ length buf.now }
 {
-    if let Answer::Refused(x) = answer {
-        print_refusal(rt, x);
-        return false;
+    if MAX_INPUT < n {
+        return Err(Refusal::BadLine(MAX_INPUT));
     }
-    true
+    Ok(&buf[..n])
 }
 
 // The rule file is read, then its tables are built.
 fn load(
-    rt: &(impl Files + Print),
+    rt: &impl Files,
     buf: &mut [u8],
     image: &mut [u8],
     words: &mut [u16],
     sets: &mut [u64],
-) -> bool
-    ensures { result ≡ true → valid image.new ≡ true }
+) -> Result<(), Refusal>
+    ensures { IfOk result (λ _. valid image.new ≡ true) }
 {
     let n = rules_hex::read(rt, &mut *buf);
-    if MAX_INPUT < n {
-        print_refusal(rt, Refusal::BadLine(MAX_INPUT));
-        return false;
-    }
-    if !judge(rt, file::read_file(&buf[..n], &mut *image)) {
-        return false;
-    }
-    judge(rt, build::build(image, words, sets))
+    file::read_file(whole(buf, n)?, &mut *image)?;
+    build::build(image, words, sets)
 }
 
 // The names on standard input.
@@ -87,15 +84,13 @@ fn say_all<'a>(
     image: &[u8],
     words: &'a [u16],
     sets: &'a [u64],
-)
+) -> Result<(), Refusal>
     requires { valid image.now ≡ true }
 {
     let n = rules_hex::read_full(&mut rt.reader(), &mut *buf);
-    if MAX_INPUT < n {
-        print_refusal(rt, Refusal::BadLine(MAX_INPUT));
-        return;
-    }
-    say_lines(rt, image, words, sets, &buf[..n]);
+    // What cannot be printed is lost.
+    let _ = say_lines(rt, image, words, sets, whole(buf, n)?);
+    Ok(())
 }
 
 // Both inputs go through one buffer, of a byte more than either may have.
@@ -105,10 +100,9 @@ fn run<'a>(
     image: &mut [u8],
     words: &'a mut [u16],
     sets: &'a mut [u64],
-) {
-    if load(rt, &mut *buf, &mut *image, &mut *words, &mut *sets) {
-        say_all(rt, buf, image, words, sets);
-    }
+) -> Result<(), Refusal> {
+    load(rt, &mut *buf, &mut *image, &mut *words, &mut *sets)?;
+    say_all(rt, buf, image, words, sets)
 }
 
 fn main(rt: HostRuntime) {
@@ -116,5 +110,7 @@ fn main(rt: HostRuntime) {
     let mut image = [0u8; image::SIZE];
     let mut words = [0u16; 32768];
     let mut sets = [0u64; 4096];
-    run(&rt, &mut buf, &mut image, &mut words, &mut sets);
+    if let Err(x) = run(&rt, &mut buf, &mut image, &mut words, &mut sets) {
+        print_refusal(&rt, x);
+    }
 }

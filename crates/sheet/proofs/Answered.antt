@@ -1,5 +1,6 @@
 -- A sheet judged and answered, as its definition has it.
 -- Assumes nothing.
+use Rattle.std.specs.Prelude.{Result, Ok, Err}
 use mathlib.Core.Path.{◌≡◌, refl, sym, ap, ◌∙◌}
 use Prim.Native.Nat.{ℕ, ◌<◌}
 use mathlib.Core.Bool.{Bool, true, cond, ◌||◌, or-false}
@@ -7,7 +8,6 @@ use mathlib.Core.List.{List, [], ◌∷◌}
 use lib.Dec.{eqb}
 use borrow.Author.Tests.{eqb-true}
 use Rattle.rules.specs.Refusals.{Reply, accepted, declined, unless, reply_of}
-use Rattle.rules.specs.declared.Answer.TheVariants.{Accepted, Refused}
 use Rattle.rules.specs.declared.Refusal.{Refusal}
 use Rattle.rules.specs.declared.Refusal.TheVariants.{BadTables, StaleTables}
 use Rattle.rules.proofs.Cases.{by_bool}
@@ -49,14 +49,14 @@ of_names f [] = refl
 of_names f (n ∷ names) = of_either (sheet_refusal (f n)) (first_refusal f names) (of_name (f n)) (of_names f names)
 
 -- its number tells it
-told : (n : ℕ) → of_tables (declined n 0) ≡ true → reply_of (Refused (tables_refusal n)) ≡ declined n 0
+told : (n : ℕ) → of_tables (declined n 0) ≡ true → reply_of (Err (tables_refusal n)) ≡ declined n 0
 told n h =
     by_bool (eqb n 22) (λ b. said b ∙ ap (λ (k : ℕ). declined k 0) (sym (eqb-true n 22 b)))
     (λ b.
     said b ∙ ap (λ (k : ℕ). declined k 0) (sym (eqb-true n 16 (sym (or-false (eqb n 16)) ∙ (ap (λ (t : Bool). eqb n 16 || t) (sym b) ∙ h)))))
   where
-    said : {b : Bool} → eqb n 22 ≡ b → reply_of (Refused (tables_refusal n)) ≡ reply_of (Refused (cond b (StaleTables 0) (BadTables 0)))
-    said e = ap (λ (t : Bool). reply_of (Refused (cond t (StaleTables 0) (BadTables 0)))) e
+    said : {b : Bool} → eqb n 22 ≡ b → reply_of (Err (tables_refusal n)) ≡ reply_of (Err (cond b (StaleTables 0) (BadTables 0)))
+    said e = ap (λ (t : Bool). reply_of (Err (cond t (StaleTables 0) (BadTables 0)))) e
 
 -- ---- the names judged, then answered
 
@@ -83,7 +83,7 @@ module _ (words sets : List ℕ) (l r : ℕ) (fit : Bool) (image list sheet : Li
       let first = j.refused h in
       let number = told p.refusal (ap of_tables (sym first) ∙ of_names f (names_in k sheet)) in
       ap (λ (y : SheetAnswer). sheet_said y replies phones numbers) q
-      ∙ (ap (λ (y : Reply). record { reply = y; steps = 0; names = 0; replies = replies; phones = phones; numbers = numbers }) (ap (λ (y : Refusal). reply_of (Refused y)) e ∙ number)
+      ∙ (ap (λ (y : Reply). record { reply = y; steps = 0; names = 0; replies = replies; phones = phones; numbers = numbers }) (ap (λ (y : Refusal). reply_of (Err y)) e ∙ number)
       ∙ judged_as (declined p.refusal 0) first)
 
   pub all-kept : p.refusal ≡ 0 → SomeKeptBy image list sheet ends' starts' kept' k
@@ -91,8 +91,8 @@ module _ (words sets : List ℕ) (l r : ℕ) (fit : Bool) (image list sheet : Li
 
   pub sheet-answered : p.refusal ≡ 0 → (phones' numbers' replies' : List ℕ) (n : ℕ)
       → AnsweredAll image list sheet ends' starts' kept' k phones numbers replies phones' numbers' replies' n
-      → sheet_said (record { answer = Accepted; steps = p.steps; names = n }) replies' phones' numbers' ≡ all
+      → sheet_said (record { answer = Ok tt; steps = p.steps; names = n }) replies' phones' numbers' ≡ all
   sheet-answered z phones' numbers' replies' n a =
       let b = a f (j.held z) in
       let count = j.steps-are z ∙ sym (sheet_steps c (says_of list) (names_in k sheet)) in
-      (λ i. sheet_said (record { answer = Accepted; steps = count i; names = b.count-is i }) (b.replies-are i) (b.phones-are i) (b.numbers-are i)) ∙ judged_as accepted (j.goes z)
+      (λ i. sheet_said (record { answer = Ok tt; steps = count i; names = b.count-is i }) (b.replies-are i) (b.phones-are i) (b.numbers-are i)) ∙ judged_as accepted (j.goes z)

@@ -1,5 +1,6 @@
 -- The whole call: what each refusal is, and that the memory worked in is as it was.
 -- Assumes nothing.
+use Rattle.std.specs.Prelude.{Result, Ok, Err}
 use mathlib.Core.Path.{◌≡◌, sym, ap, ap₂, ◌∙◌}
 use Prim.Native.Nat.{ℕ, ◌+◌, ◌*◌, ◌≤◌, ◌<◌}
 use native.Mathlib.Omega.{arith}
@@ -12,7 +13,6 @@ use borrow.Author.Tests.{le-leb, lt-leb, leb-true}
 use Rattle.rules.specs.Limits.{max_name, max_names}
 use Rattle.rules.proofs.Cases.{by_bool}
 use Rattle.rules.specs.Refusals.{refusal_number, refusal_place}
-use Rattle.rules.specs.declared.Answer.TheVariants.{Refused}
 use Rattle.rules.specs.declared.Refusal.{Refusal}
 use Rattle.rules.specs.declared.Refusal.TheVariants.{NotRuleset, WordsRoom, SetsRoom, FileRoom, BadList, BadSheet}
 use Rattle.exceptions.specs.Judging.{is_list, Listing, listing_of}
@@ -34,7 +34,7 @@ use Rattle.sheet.proofs.Zeros.{zeros-room, zeros-all}
 
 -- the answer that refuses a sheet
 abbrev pub refusing : Refusal → SheetAnswer
-refusing x = record { answer = Refused x; steps = 0; names = 0 }
+refusing x = record { answer = Err x; steps = 0; names = 0 }
 
 module _ (replies phones numbers : List ℕ) where
   pub refused_as : (x : Refusal) (r : SheetAnswer) → r ≡ refusing x → sheet_said r replies phones numbers ≡ refused_sheet (refusal_number x) (refusal_place x) replies phones numbers

@@ -12,7 +12,3 @@ zeros n s = leb n (length s) && all_zero (take n s)
 
 pub record AllZero (s : List ℕ) : Type 0 where
   pub each : (k : ℕ) → get_or s k 0 ≡ 0
-
-pub record Cleared (s s' : List ℕ) : Type 0 where
-  pub sized : length s' ≡ length s
-  pub zero-now : AllZero s'

@@ -14,21 +14,21 @@ ghost use Rattle.sheet.specs.Zeros.{AllZero};
 ghost use Rattle.sheet.specs.Sheet.{sheet_said, tables_refusal, Ready, names_through, with_memory, spoken_sheet};
 
 use compiled::Compiled;
-use rules::{Answer, Refusal};
+use rules::Refusal;
 
 // The answer to a sheet, the one count of entries looked up, and how many names were answered.
 #[derive(Clone, Copy)]
 pub struct SheetAnswer {
-    pub answer: Answer,
+    pub answer: Result<(), Refusal>,
     pub steps: usize,
     pub names: usize,
 }
 
 // A refusal of the sheet.
 fn refused(x: Refusal) -> SheetAnswer
-    ensures { result ≡ record { answer = Answer.Refused x; steps = 0; names = 0 } }
+    ensures { result ≡ record { answer = Err x; steps = 0; names = 0 } }
 {
-    let answer = Answer::Refused(x);
+    let answer = Err(x);
     SheetAnswer {
         answer,
         steps: 0,
@@ -101,7 +101,7 @@ fn answer_fit<'a>(
         image, list, sheet, limit, &ends, &starts, kept, phones, numbers, replies,
     );
     SheetAnswer {
-        answer: Answer::Accepted,
+        answer: Ok(()),
         steps: p.steps,
         names,
     }
@@ -230,8 +230,8 @@ fn answer_clear<'a>(
     let answer = speak_words(
         words, sets, image, list, sheet, limit, phones, numbers, replies, &mut *tree, &mut *kept,
     );
-    memory::clear_words(tree);
-    memory::clear_parts(kept);
+    tree.fill(0);
+    kept.fill(0);
     answer
 }
 

@@ -1,7 +1,7 @@
-// Memory to work in, which is zero before and after a call: how much of it a sheet needs, whether that is zero, and clearing it.
+// Memory to work in, which is zero before and after a call: how much of it a sheet needs, and whether that is zero.
 ghost use Rattle.std.specs.Prelude.{◌≡◌};
 ghost use Rattle.sheet_judging.specs.Sheet.{work_room};
-ghost use Rattle.sheet.specs.Zeros.{zeros, Cleared};
+ghost use Rattle.sheet.specs.Zeros.{zeros};
 
 // Bytes of a sheet for which nodes and parts are needed.
 pub fn work_room(sheet: &[u8]) -> usize
@@ -22,12 +22,10 @@ pub fn zero_words(s: &[u16], n: usize) -> bool
         return false;
     }
     let mut zero = true;
-    let mut i: usize = 0;
-    while i < n {
-        if s[i] != 0 {
+    for &x in &s[..n] {
+        if x != 0 {
             zero = false;
         }
-        i += 1;
     }
     zero
 }
@@ -39,33 +37,10 @@ pub fn zero_parts(s: &[u32], n: usize) -> bool
         return false;
     }
     let mut zero = true;
-    let mut i: usize = 0;
-    while i < n {
-        if s[i] != 0 {
+    for &x in &s[..n] {
+        if x != 0 {
             zero = false;
         }
-        i += 1;
     }
     zero
-}
-
-// All words are 0 now.
-pub fn clear_words(s: &mut [u16])
-    ensures { Cleared s.old s.new }
-{
-    let mut i: usize = 0;
-    while i < s.len() {
-        s[i] = 0;
-        i += 1;
-    }
-}
-
-pub fn clear_parts(s: &mut [u32])
-    ensures { Cleared s.old s.new }
-{
-    let mut i: usize = 0;
-    while i < s.len() {
-        s[i] = 0;
-        i += 1;
-    }
 }

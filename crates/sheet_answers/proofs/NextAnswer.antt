@@ -1,5 +1,6 @@
 -- One name more is answered, in the part of the lent memory after the answers before it; and the loop over the names.
 -- Assumes nothing.
+use Rattle.std.specs.Prelude.{Result}
 use mathlib.Core.Path.{◌≡◌, sym, ap, ap₂, ◌∙◌, subst, subst₂}
 use Prim.Native.Nat.{ℕ, ◌+◌, ◌-◌, ◌*◌, ◌≤◌, ◌<◌}
 use native.Mathlib.Omega.{arith}
@@ -10,7 +11,8 @@ use lib.Seq.{get_or-drop, drop-drop}
 use borrow.Rule.Slice.PartMut.{mid_of, put_mid}
 use Rattle.fitting.specs.Fitting.{Str}
 use Rattle.speech.specs.Speech.{Outcome, Said, told_of, saying}
-use Rattle.speech.specs.declared.Speech.{Speech}
+use Rattle.speech.specs.declared.Spoken.{Spoken}
+use Rattle.rules.specs.declared.Refusal.{Refusal}
 use Rattle.many_names.specs.Names.{names_in, name_at, has_next}
 use Rattle.many_names.specs.Codes.{phones_given, numbers_given}
 use Rattle.many_names.specs.Many.{reply_size, replied}
@@ -51,7 +53,7 @@ module _ (image list sheet ends starts kept : List ℕ) (p : Progress) (n : ℕ)
     pub last-in : first + m ≤ length kept
     last-in = omega (arith, some.placed, begins, many)
 
-  module _ (ph nu re : List ℕ) (s : Speech) (zs ys : List ℕ)
+  module _ (ph nu re : List ℕ) (s : Result Spoken Refusal) (zs ys : List ℕ)
       (e : SaysKept image list name (get_or ends p.count 0) parts (mid_of p.phones (length ph - p.phones) ph) (mid_of p.numbers (length nu - p.numbers) nu) zs ys s) where
     says : (f : Str → Outcome) → KeptAt image list sheet ends starts kept p.count (name_at sheet p.at) (f (name_at sheet p.at))
         → record { said = saying (told_of s) zs ys; steps = 0 } ≡ said_by f name (mid_of p.phones (length ph - p.phones) ph) (mid_of p.numbers (length nu - p.numbers) nu)

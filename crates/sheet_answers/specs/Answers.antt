@@ -1,10 +1,11 @@
 -- The answers to the names of a sheet, from what was kept of them: each is what the name comes to, said in the lent memory that is left.
 -- Assumes nothing.
-use Rattle.std.specs.Prelude.{ℕ, ◌<◌, ◌≡◌, List, [], length, get_or}
+use Rattle.std.specs.Prelude.{ℕ, ◌<◌, ◌≡◌, List, [], length, get_or, Result}
 use Rattle.rules.specs.Memory.{over}
 use Rattle.fitting.specs.Fitting.{Str}
 use Rattle.speech.specs.Speech.{Outcome, told_of, saying, delivered}
-use Rattle.speech.specs.declared.Speech.{Speech}
+use Rattle.speech.specs.declared.Spoken.{Spoken}
+use Rattle.rules.specs.declared.Refusal.{Refusal}
 use Rattle.tables.specs.Walk.{Walked}
 use Rattle.many_names.specs.Names.{names_in, name_at}
 use Rattle.many_names.specs.Many.{each, Next}
@@ -22,14 +23,14 @@ pub record SomeUnsent (list : List ℕ) (name : Str) : Type 0 where
   pub outcome : Outcome
   pub unsent : Unsent list name outcome
 
-abbrev pub SaysUnsent : List ℕ → Str → List ℕ → List ℕ → Speech → Type 0
+abbrev pub SaysUnsent : List ℕ → Str → List ℕ → List ℕ → Result Spoken Refusal → Type 0
 SaysUnsent list name phones phones' s = (o : Outcome) (numbers : List ℕ) → Unsent list name o → saying (told_of s) phones' numbers ≡ delivered o phones numbers
 
 pub record SomeKept (image list : List ℕ) (name : Str) (end : ℕ) (parts : List ℕ) : Type 0 where
   pub outcome : Outcome
   pub kept : Kept image list name end parts outcome
 
-abbrev pub SaysKept : List ℕ → List ℕ → Str → ℕ → List ℕ → List ℕ → List ℕ → List ℕ → List ℕ → Speech → Type 0
+abbrev pub SaysKept : List ℕ → List ℕ → Str → ℕ → List ℕ → List ℕ → List ℕ → List ℕ → List ℕ → Result Spoken Refusal → Type 0
 SaysKept image list name end parts phones numbers phones' numbers' s = (o : Outcome) → Kept image list name end parts o → saying (told_of s) phones' numbers' ≡ delivered o phones numbers
 
 -- ---- the names of a sheet, where `ends`, `starts` and `kept` have what is kept of them

@@ -10,31 +10,28 @@ ghost use Rattle.many_names.specs.Many.{reply_size};
 ghost use Rattle.sheet_answers.specs.Answers.{SomeUnsent, SaysUnsent, SomeKept, SaysKept, SomeKeptAt, NextKept, SomeKeptBy, AnsweredAll};
 
 use many_names::{Progress, codes};
-use rules::{Answer, Refusal};
-use speech::{Listed, Speech};
+use rules::Refusal;
+use speech::Spoken;
 
 // A sound name that sent no word through the tables is on the list.
-fn say_from_list(list: &[u32], name: &[u8], phones: &mut [u8]) -> Speech
+fn say_from_list(list: &[u32], name: &[u8], phones: &mut [u8]) -> Result<Spoken, Refusal>
     requires { (is_list list.now ≡ true) × SoundName name.now × SomeUnsent list.now name.now }
     ensures { SaysUnsent list.now name.now phones.old phones.new result }
 {
     let found = speech::say_listed(list, name, phones);
     match found {
-        Listed::Said(s) => s,
-        Listed::Unlisted => Speech::Refused(Refusal::BadTables(0)),
+        Some(said) => said,
+        None => Err(Refusal::BadTables(0)),
     }
 }
 
 // A name that sent no word through the tables: refused with 2 or 1, or on the list.
-fn answer_unsent(list: &[u32], name: &[u8], phones: &mut [u8]) -> Speech
+fn answer_unsent(list: &[u32], name: &[u8], phones: &mut [u8]) -> Result<Spoken, Refusal>
     requires { (is_list list.now ≡ true) × SomeUnsent list.now name.now }
     ensures { SaysUnsent list.now name.now phones.old phones.new result }
 {
-    let judged = rules::judge_name(name);
-    match judged {
-        Answer::Refused(x) => Speech::Refused(x),
-        Answer::Accepted => say_from_list(list, name, phones),
-    }
+    rules::judge_name(name)?;
+    say_from_list(list, name, phones)
 }
 
 // The answer to a name: its kept parts are said, or the letter that no rule covers refuses it.
@@ -46,7 +43,7 @@ fn answer_name(
     parts: &[u32],
     phones: &mut [u8],
     numbers: &mut [u16],
-) -> Speech
+) -> Result<Spoken, Refusal>
     requires { (valid image.now ≡ true) × (is_list list.now ≡ true) × SomeKept image.now list.now name.now end parts.now }
     ensures { SaysKept image.now list.now name.now end parts.now phones.old numbers.old phones.new numbers.new result }
 {
@@ -57,7 +54,7 @@ fn answer_name(
     if ended < sheet_name::UNCOVERED {
         return speech::deliver(image, list, parts, phones, numbers);
     }
-    Speech::Refused(Refusal::NoFit(ended - sheet_name::UNCOVERED))
+    Err(Refusal::NoFit(ended - sheet_name::UNCOVERED))
 }
 
 // The next name is answered, in the lent memory after the answers before it.

@@ -10,7 +10,6 @@ ghost use Rattle.command_parts.specs.Answers.{SpeechAnswered};
 ghost use Rattle.sheet_command.specs.SheetCommand.{sheet_in, sheet_for, sheet_by, Presentable, SheetPut};
 
 use command_parts::{answers, fields};
-use rules::Answer;
 use sheet::SheetAnswer;
 use sheet_lines::NamesPrinted;
 
@@ -106,7 +105,7 @@ fn put_sheet(
 {
     let answer = said.answer;
     match answer {
-        Answer::Accepted => {
+        Ok(()) => {
             let at = sheet_lines::sheet_line(said.steps, said.names, &mut *out);
             let lines = sheet_lines::name_lines(
                 replies,
@@ -121,7 +120,7 @@ fn put_sheet(
                 contested: lines.contested,
             }
         },
-        Answer::Refused(x) => {
+        Err(x) => {
             let len = answers::walk_refusal(0, x, out);
             NamesPrinted { len, contested }
         },

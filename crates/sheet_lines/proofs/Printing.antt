@@ -93,26 +93,24 @@ given_within (refused n p) a b w = (omega arith, omega arith)
 
 module _ (names : ℕ) (replies phones numbers : List ℕ) (before : ℕ) (out₀ : List ℕ) where
   -- k names are printed: their replies, phones and numbers end where the next name's begin
-  pub record Printing (k reply said numbered last at : ℕ) (out : List ℕ) : Type 0 where
+  pub record Printing (k said numbered last at : ℕ) (out : List ℕ) : Type 0 where
     pub to-come : ℕ
     pub lines : List ℕ
     pub all : k + to-come ≡ names
-    pub reply-is : reply ≡ reply_size * k
     pub said_in : said ≤ length phones
     pub numbered-in : numbered ≤ length numbers
     pub at-is : length lines ≡ at
     pub short : at ≤ 15 * k + 2 * said + 4 * numbered
     pub bytes : out ≡ over lines out₀
-    pub whole : lines ++ name_lines to-come (drop reply replies) (drop said phones) (drop numbered numbers) ≡ name_lines names replies phones numbers
-    pub counted : contested_by to-come (drop reply replies) last ≡ contested_by names replies before
-    pub printable : AllPrintable to-come (drop reply replies) (length (drop said phones)) (length (drop numbered numbers))
+    pub whole : lines ++ name_lines to-come (drop (reply_size * k) replies) (drop said phones) (drop numbered numbers) ≡ name_lines names replies phones numbers
+    pub counted : contested_by to-come (drop (reply_size * k) replies) last ≡ contested_by names replies before
+    pub printable : AllPrintable to-come (drop (reply_size * k) replies) (length (drop said phones)) (length (drop numbered numbers))
 
-  pub begin : AllPrintable names replies (length phones) (length numbers) → Printing 0 0 0 0 before 0 out₀
+  pub begin : AllPrintable names replies (length phones) (length numbers) → Printing 0 0 0 before 0 out₀
   begin h = record {
     to-come = names;
     lines = [];
     all = omega arith;
-    reply-is = refl;
     said_in = omega arith;
     numbered-in = omega arith;
     at-is = refl;
@@ -123,8 +121,11 @@ module _ (names : ℕ) (replies phones numbers : List ℕ) (before : ℕ) (out�
     printable = h;
   }
 
-  module _ (room : longest_lines names (length phones) (length numbers) + longest_line ≤ length out₀) (k reply said numbered last at : ℕ) (out : List ℕ)
-      (i : Printing k reply said numbered last at out) where
+  module _ (room : longest_lines names (length phones) (length numbers) + longest_line ≤ length out₀) (k said numbered last at : ℕ) (out : List ℕ)
+      (i : Printing k said numbered last at out) where
+    abbrev reply : ℕ
+    reply = reply_size * k
+
     pub printing_length : length out ≡ length out₀
     printing_length = ap length i.bytes ∙ over_length i.lines out₀ (omega (arith, room, i.at-is, i.short, i.said_in, i.numbered-in, i.all))
 
@@ -161,8 +162,8 @@ module _ (names : ℕ) (replies phones numbers : List ℕ) (before : ℕ) (out�
           (subst (λ (l : List ℕ). PutName rs l (mid_of numbered (length numbers - numbered) numbers) last r (mid_of at (length out - at) out) z) (tail_is said phones)
           (subst (λ (l : List ℕ). PutName l (mid_of said (length phones - said) phones) (mid_of numbered (length numbers - numbered) numbers) last r (mid_of at (length out - at) out) z) (tail_is reply replies) x))
 
-      next_replies : drop reply_size rs ≡ drop (reply + reply_size) replies
-      next_replies = drop-drop reply_size reply replies
+      next_replies : drop reply_size rs ≡ drop (reply_size * (k + 1)) replies
+      next_replies = let e : reply + reply_size ≡ reply_size * (k + 1) = omega arith in drop-drop reply_size reply replies ∙ ap (λ (n : ℕ). drop n replies) e
 
       next_phones : drop (phones_given (told_by rs)) ps ≡ drop (said + r.phones) phones
       next_phones = drop-drop (phones_given (told_by rs)) said phones ∙ ap (λ (n : ℕ). drop (said + n) phones) (sym put_name.said)
@@ -174,7 +175,7 @@ module _ (names : ℕ) (replies phones numbers : List ℕ) (before : ℕ) (out�
           → i.lines ++ name_lines n rs ps ns ≡ name_lines names replies phones numbers
           → contested_by n rs last ≡ contested_by names replies before
           → AllPrintable n rs (length ps) (length ns)
-          → Printing (k + 1) (reply + reply_size) (said + r.phones) (numbered + r.numbers) r.contested (at + r.len) (put_mid at (length out - at) out z)
+          → Printing (k + 1) (said + r.phones) (numbered + r.numbers) r.contested (at + r.len) (put_mid at (length out - at) out z)
       next_with zero e h w q a = absurd (omega arith)
       next_with (suc n) e h w q a =
           let g = given_within (told_by rs) (length ps) (length ns) a.0.within in
@@ -183,7 +184,6 @@ module _ (names : ℕ) (replies phones numbers : List ℕ) (before : ℕ) (out�
             to-come = n;
             lines = i.lines ++ name_line rs ps ns;
             all = omega (arith, e);
-            reply-is = omega (arith, i.reply-is);
             said_in = omega (arith, i.said_in, g.0, put_name.said, length-drop said phones);
             numbered-in = omega (arith, i.numbered-in, g.1, put_name.numbered, length-drop numbered numbers);
             at-is = omega (arith, length-append i.lines (name_line rs ps ns), i.at-is, put_name.many);
@@ -199,21 +199,21 @@ module _ (names : ℕ) (replies phones numbers : List ℕ) (before : ℕ) (out�
           }
 
       -- one name more
-      pub next : k < names → Printing (k + 1) (reply + reply_size) (said + r.phones) (numbered + r.numbers) r.contested (at + r.len) (put_mid at (length out - at) out z)
+      pub next : k < names → Printing (k + 1) (said + r.phones) (numbered + r.numbers) r.contested (at + r.len) (put_mid at (length out - at) out z)
       next h = next_with i.to-come i.all h i.whole i.counted i.printable
 
-  module _ (k reply said numbered last at : ℕ) (out : List ℕ) where
-    ended_lines : (n : ℕ) → k + n ≡ names → names ≤ k → (l : List ℕ) → l ++ name_lines n (drop reply replies) (drop said phones) (drop numbered numbers) ≡ name_lines names replies phones numbers
+  module _ (k said numbered last at : ℕ) (out : List ℕ) where
+    ended_lines : (n : ℕ) → k + n ≡ names → names ≤ k → (l : List ℕ) → l ++ name_lines n (drop (reply_size * k) replies) (drop said phones) (drop numbered numbers) ≡ name_lines names replies phones numbers
         → l ≡ name_lines names replies phones numbers
     ended_lines zero e h l w = sym (append-nil l) ∙ w
     ended_lines (suc n) e h l w = absurd (omega arith)
 
-    ended_counted : (n : ℕ) → k + n ≡ names → names ≤ k → contested_by n (drop reply replies) last ≡ contested_by names replies before → last ≡ contested_by names replies before
+    ended_counted : (n : ℕ) → k + n ≡ names → names ≤ k → contested_by n (drop (reply_size * k) replies) last ≡ contested_by names replies before → last ≡ contested_by names replies before
     ended_counted zero e h w = w
     ended_counted (suc n) e h w = absurd (omega arith)
 
     -- no name more
-    pub printed_all : Printing k reply said numbered last at out → names ≤ k → PutNames names replies phones numbers before (record { len = at; contested = last }) out₀ out
+    pub printed_all : Printing k said numbered last at out → names ≤ k → PutNames names replies phones numbers before (record { len = at; contested = last }) out₀ out
     printed_all i h =
         let e = ended_lines i.to-come i.all h i.lines i.whole in
         record {

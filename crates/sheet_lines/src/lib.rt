@@ -83,15 +83,13 @@ pub fn name_lines(
     requires { (reply_size * names ≤ length replies.now) × (length phones.now ≤ 256) × (length numbers.now ≤ 64) × (longest_lines names (length phones.now) (length numbers.now) + longest_line ≤ length out.old) × AllPrintable names replies.now (length phones.now) (length numbers.now) }
     ensures { PutNames names replies.now phones.now numbers.now contested result out.old out.new }
 {
-    let mut k: usize = 0;
-    let mut reply: usize = 0;
     let mut said: usize = 0;
     let mut numbered: usize = 0;
     let mut last = contested;
     let mut at: usize = 0;
-    while k < names {
+    for k in 0..names {
         let line = name_line(
-            &replies[reply..],
+            &replies[many_names::REPLY * k..],
             &phones[said..],
             &numbers[numbered..],
             last,
@@ -101,8 +99,6 @@ pub fn name_lines(
         said += line.phones;
         numbered += line.numbers;
         last = line.contested;
-        reply += many_names::REPLY;
-        k += 1;
     }
     NamesPrinted {
         len: at,

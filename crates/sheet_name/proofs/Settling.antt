@@ -9,6 +9,7 @@ use lib.Dec.{leb}
 use lib.ListN.{length, take}
 use lib.Seq.{take-take, length-take-le}
 use borrow.Author.Tests.{leb-true, le-leb, lt-ltb, le-ltb}
+use Rattle.std.specs.Prelude.{Option, Some, None, IfSome, Err, Ok, Result}
 use Rattle.rules.specs.Limits.{max_name}
 use Rattle.rules.proofs.Cases.{by_bool}
 use Rattle.rules.proofs.Names.{sound_judged, Judgement as NameJudgement, sound, refuses, judgement}
@@ -20,8 +21,8 @@ use Rattle.speech.specs.Words.{Word, words_in, unlisted}
 use Rattle.speech.specs.Speech.{Outcome, at_once, answered, judged_by, said_from, listed_or}
 use Rattle.fitting.specs.Reading.{finished}
 use Rattle.speech.specs.Places.{frame_size, EndsBy, PartsIn, parts_at, parts_reading, Parted, Unsaid}
-use Rattle.speech.specs.declared.Reached.{Reached}
-use Rattle.speech.specs.declared.Reached.TheVariants.{Rules, Uncovered, BadTables}
+use Rattle.speech.specs.declared.Unread.{Unread}
+use Rattle.speech.specs.declared.Unread.TheVariants.{Uncovered, BadTables}
 use Rattle.tables.specs.Steps.{hashed, right_steps}
 use Rattle.passes.specs.Passes.{left_rows_of}
 use Rattle.prefix_tree.specs.Tree.{Tree}
@@ -56,53 +57,38 @@ parts_uncovered : (i : ℕ) → parts_in (i + uncovered_from) ≡ 0
 parts_uncovered i = parts_past (i + uncovered_from) (omega arith)
 
 -- no more than there is room for
-parts_few : (n : ℕ) (r : Reached) → EndsBy frame_size r → ((k : ℕ) → r ≡ Rules k → k ≤ n) → parts_in (code_of r) ≤ n
-parts_few n (Rules k) e h = omega (arith, parts_rules k e, h k refl)
-parts_few n (Uncovered i) e h = omega (arith, parts_uncovered i)
-parts_few n BadTables e h = omega arith
+parts_few : (n : ℕ) (r : Result ℕ Unread) → EndsBy frame_size r → ((k : ℕ) → r ≡ Ok k → k ≤ n) → parts_in (code_of r) ≤ n
+parts_few n (Ok k) e h = omega (arith, parts_rules k e, h k refl)
+parts_few n (Err (Uncovered i)) e h = omega (arith, parts_uncovered i)
+parts_few n (Err BadTables) e h = omega arith
 
 module _ (image list parts : List ℕ) where
-  parts_long : (r : Reached) → Parted image list frame_size parts r → length (take (parts_in (code_of r)) parts) ≡ parts_in (code_of r)
-  parts_long (Rules k) q = length-take-le (parts_in (k + 1)) parts (omega (arith, parts_rules k q.few, q.few, q.sized))
-  parts_long (Uncovered i) q = length-take-le (parts_in (i + uncovered_from)) parts (omega (arith, parts_uncovered i))
-  parts_long BadTables q = refl
+  parts_long : (r : Result ℕ Unread) → Parted image list frame_size parts r → length (take (parts_in (code_of r)) parts) ≡ parts_in (code_of r)
+  parts_long (Ok k) q = length-take-le (parts_in (k + 1)) parts (omega (arith, parts_rules k q.few, q.few, q.sized))
+  parts_long (Err (Uncovered i)) q = length-take-le (parts_in (i + uncovered_from)) parts (omega (arith, parts_uncovered i))
+  parts_long (Err BadTables) q = refl
 
-  sent-by : (taken : ℕ) (o : Outcome) (r : Reached) → Parted image list frame_size parts r → answered (parts_reading image list parts r) taken ≡ o
+  sent-by : (taken : ℕ) (o : Outcome) (r : Result ℕ Unread) → Parted image list frame_size parts r → answered (parts_reading image list parts r) taken ≡ o
       → Sent image list (code_of r) (take (parts_in (code_of r)) parts) o
-  sent-by taken o (Rules k) q e =
+  sent-by taken o (Ok k) q e =
       let n = parts_rules k q.few in
       record {
-        reached = Rules k;
+        reached = Ok k;
         code = refl;
         few = q.few;
         within = subst (λ (j : ℕ). PartsIn image list (take j parts)) (sym n) (q.within k refl);
         taken = taken;
         says = ap (λ (ps : List ℕ). answered (finished (parts_at image list ps)) taken) (take-take k (parts_in (k + 1)) parts (omega (arith, n))) ∙ e;
       }
-  sent-by taken o (Uncovered i) q e = record {
-    reached = Uncovered i;
+  sent-by taken o (Err (Uncovered i)) q e = record {
+    reached = Err (Uncovered i);
     code = refl;
     few = q.few;
     within = subst (λ (j : ℕ). PartsIn image list (take j parts)) (sym (parts_uncovered i)) (λ k b. absurd (omega arith));
     taken = taken;
     says = e;
   }
-  sent-by taken o BadTables q e = record { reached = BadTables; code = refl; few = tt; within = λ k b. absurd (omega arith); taken = taken; says = e }
-
--- ---- what `settle` returns
-
-module _ (x : Judged) (stale : Bool) where
-  pub settled-stale : x.usable ≡ false → stale ≡ true → record { refusal = 22; nodes = 0; steps = 0; end = 0 } ≡ settled x stale
-  settled-stale e s = rw (e, s)
-
-  pub settled-bad : x.usable ≡ false → stale ≡ false → record { refusal = 16; nodes = 0; steps = 0; end = 0 } ≡ settled x stale
-  settled-bad e s = rw (e, s)
-
-  settled_good : x.usable ≡ true → settled x stale ≡ settled_as x.reached x.nodes x.steps
-  settled_good e = rw e
-
-  pub settled-to : x.usable ≡ true → (r : Reached) → x.reached ≡ r → settled_as r x.nodes x.steps ≡ settled x stale
-  settled-to e r h = sym (settled_good e ∙ ap (λ (y : Reached). settled_as y x.nodes x.steps) h)
+  sent-by taken o (Err BadTables) q e = record { reached = Err BadTables; code = refl; few = tt; within = λ k b. absurd (omega arith); taken = taken; says = e }
 
 -- ---- a name that sends no word through the tables
 
@@ -165,12 +151,12 @@ module _ (words sets : List ℕ) (l r : ℕ) (fit : Bool) (image list : List ℕ
 
 -- ---- a name that does
 
-answered_goes : (image list parts : List ℕ) (taken : ℕ) (r : Reached) → (r ≡ BadTables → ⊥) → sheet_refusal (answered (parts_reading image list parts r) taken) ≡ accepted
-answered_goes image list parts taken (Rules k) d = refl
-answered_goes image list parts taken (Uncovered i) d = refl
-answered_goes image list parts taken BadTables d = absurd (d refl)
+answered_goes : (image list parts : List ℕ) (taken : ℕ) (r : Result ℕ Unread) → (r ≡ Err BadTables → ⊥) → sheet_refusal (answered (parts_reading image list parts r) taken) ≡ accepted
+answered_goes image list parts taken (Ok k) d = refl
+answered_goes image list parts taken (Err (Uncovered i)) d = refl
+answered_goes image list parts taken (Err BadTables) d = absurd (d refl)
 
-module _ {words sets : List ℕ} {l r : ℕ} {fit stale : Bool} {image list : List ℕ} {name : Str} (u : Unsaid list name) {t : List ℕ} {n steps : ℕ} {t' parts' : List ℕ} {x : Judged}
+module _ {words sets : List ℕ} {l r : ℕ} {fit stale : Bool} {image list : List ℕ} {name : Str} (u : Unsaid list name) {t : List ℕ} {n steps : ℕ} {t' parts' : List ℕ} {x : Option Judged}
     (j : FrameJudged words sets l r fit stale image list name t n steps t' parts' x) where
   through_is : outcome_of words sets l r image list name ≡ through_of words sets l r image list name
   through_is = ap₂ (λ (y : Reply) (v : Str). judged_by y (said_from v (through_of words sets l r image list name))) (sound_judged name u.sound) u.absent
@@ -200,45 +186,53 @@ module _ {words sets : List ℕ} {l r : ℕ} {fit stale : Bool} {image list : Li
         holds = λ z. absurd (omega arith);
       }
 
-  good_name : x.usable ≡ true → (y : Judgement) → y.refusal ≡ 0 → y.nodes ≡ x.nodes → y.steps ≡ x.steps → y.end ≡ code_of x.reached → 0 < y.end → (x.reached ≡ BadTables → ⊥) → Settles y
-  good_name e y z a b c h d =
-      let q = j.read e in
-      record {
-        sized = j.sized;
-        refused = λ k. absurd (omega arith);
-        goes = λ _. ap sheet_refusal (through_is ∙ sym q.says) ∙ answered_goes image list parts' q.taken x.reached d;
-        kept = λ _. record {
-          sized = subst (λ (k : ℕ). length (take (parts_in k) parts') ≡ parts_in k) (sym c) (parts_long image list parts' x.reached q.parted);
-          unsent = λ k. absurd (omega arith);
-          sent = λ _. subst (λ (k : ℕ). Sent image list k (take (parts_in k) parts') (outcome_of words sets l r image list name)) (sym c) (sent-by image list parts' q.taken _ x.reached q.parted (q.says ∙ sym through_is));
-        };
-        kept-few = subst (λ (k : ℕ). parts_in k ≤ room_of name) (sym c) (parts_few (room_of name) x.reached q.parted.few (λ k e. omega (arith, room, q.few k e)));
-        tree = λ _ f. subst (λ (k : ℕ). Tree t' k l) (sym a) (j.tree e f);
-        steps-are = λ _. omega (arith, a, b, j.steps-are e, ap right_steps words_are);
-        few = λ _. omega (arith, a, j.few e, room);
-        more = λ _. omega (arith, a, j.more e);
-        short = λ _. omega (arith, j.short e, ap right_steps words_are, room);
-        holds = λ _ ws o. subst (λ (k : ℕ). Holds (left_rows_of words l) (ws ++ hashed (table_words (says_of list) name)) t' k) (sym a)
-            (subst (λ (v : List Word). Holds (left_rows_of words l) (ws ++ hashed v) t' x.nodes) (sym words_are) (j.shares e ws o));
-      }
+module _ {words sets : List ℕ} {l r : ℕ} {fit stale : Bool} {image list : List ℕ} {name : Str} (u : Unsaid list name) {t : List ℕ} {n steps : ℕ} {t' parts' : List ℕ} where
+  unread_name : FrameJudged words sets l r fit stale image list name t n steps t' parts' None → (b : Bool) → stale ≡ b → NameJudged words sets l r fit image list name t n steps t' (take 0 parts') (record { refusal = cond b 22 16; nodes = 0; steps = 0; end = 0 })
+  unread_name j true s = bad_name u j _ (omega arith) refl (ap sheet_refusal (j.refused ∙ ap (λ (b : Bool). at_once (cond b 22 16) 0) s))
+  unread_name j false s = bad_name u j _ (omega arith) refl (ap sheet_refusal (j.refused ∙ ap (λ (b : Bool). at_once (cond b 22 16) 0) s))
 
-  bad_read : x.usable ≡ true → x.reached ≡ BadTables → sheet_refusal (through_of words sets l r image list name) ≡ declined 16 0
-  bad_read e z = let q = j.read e in ap sheet_refusal (sym q.says ∙ ap (λ (y : Reached). answered (parts_reading image list parts' y) q.taken) z)
+  module _ (x : Judged) (j : FrameJudged words sets l r fit stale image list name t n steps t' parts' (Some x)) where
+    abbrev Settled : Judgement → Type 0
+    Settled y = NameJudged words sets l r fit image list name t n steps t' (take (parts_in y.end) parts') y
 
-  read_name : x.usable ≡ true → (y : Reached) → x.reached ≡ y → Settles (settled_as y x.nodes x.steps)
-  read_name e (Rules k) h = good_name e _ refl refl refl (sym (ap code_of h)) (omega arith) (λ z. let f : ◌≡◌ {A = ℕ} (k + 1) 0 = ap code_of (sym h ∙ z) in omega arith)
-  read_name e (Uncovered i) h = good_name e _ refl refl refl (sym (ap code_of h)) (omega arith) (λ z. let f : ◌≡◌ {A = ℕ} (i + uncovered_from) 0 = ap code_of (sym h ∙ z) in omega arith)
-  read_name e BadTables h = bad_name _ (omega arith) refl (bad_read e h)
+    good_name : (y : Judgement) → y.refusal ≡ 0 → y.nodes ≡ x.counts.nodes → y.steps ≡ x.counts.steps → y.end ≡ code_of x.reached → 0 < y.end → (x.reached ≡ Err BadTables → ⊥) → Settled y
+    good_name y z a b c h d =
+        let q = j.read in
+        let g = j.grown in
+        record {
+          sized = j.sized;
+          refused = λ k. absurd (omega arith);
+          goes = λ _. ap sheet_refusal (through_is u j ∙ sym q.says) ∙ answered_goes image list parts' q.taken x.reached d;
+          kept = λ _. record {
+            sized = subst (λ (k : ℕ). length (take (parts_in k) parts') ≡ parts_in k) (sym c) (parts_long image list parts' x.reached q.parted);
+            unsent = λ k. absurd (omega arith);
+            sent = λ _. subst (λ (k : ℕ). Sent image list k (take (parts_in k) parts') (outcome_of words sets l r image list name)) (sym c) (sent-by image list parts' q.taken _ x.reached q.parted (q.says ∙ sym (through_is u j)));
+          };
+          kept-few = subst (λ (k : ℕ). parts_in k ≤ room_of name) (sym c) (parts_few (room_of name) x.reached q.parted.few (λ k e. omega (arith, room u j, q.few k e)));
+          tree = λ _ f. subst (λ (k : ℕ). Tree t' k l) (sym a) (g.tree f);
+          steps-are = λ _. omega (arith, a, b, g.steps-are, ap right_steps (words_are u j));
+          few = λ _. omega (arith, a, g.few, room u j);
+          more = λ _. omega (arith, a, g.more);
+          short = λ _. omega (arith, j.short, ap right_steps (words_are u j), room u j);
+          holds = λ _ ws o. subst (λ (k : ℕ). Holds (left_rows_of words l) (ws ++ hashed (table_words (says_of list) name)) t' k) (sym a)
+              (subst (λ (v : List Word). Holds (left_rows_of words l) (ws ++ hashed v) t' x.counts.nodes) (sym (words_are u j)) (j.shares ws o));
+        }
 
-  unread_name : x.usable ≡ false → (b : Bool) → stale ≡ b → Settles (record { refusal = cond b 22 16; nodes = 0; steps = 0; end = 0 })
-  unread_name e true s = bad_name _ (omega arith) refl (ap sheet_refusal (j.refused e ∙ ap (λ (b : Bool). at_once (cond b 22 16) 0) s))
-  unread_name e false s = bad_name _ (omega arith) refl (ap sheet_refusal (j.refused e ∙ ap (λ (b : Bool). at_once (cond b 22 16) 0) s))
+    bad_read : x.reached ≡ Err BadTables → sheet_refusal (through_of words sets l r image list name) ≡ declined 16 0
+    bad_read z = let q = j.read in ap sheet_refusal (sym q.says ∙ ap (λ (y : Result ℕ Unread). answered (parts_reading image list parts' y) q.taken) z)
 
-  pub settled-name : (y : Judgement) → y ≡ settled x stale → Settles y
-  settled-name y is =
-      by_bool x.usable
-      (λ e. subst Settles (settled-to x stale e x.reached refl ∙ sym is) (read_name e x.reached refl))
-      (λ e. subst Settles (unused e ∙ sym is) (unread_name e stale refl))
-    where
-      unused : x.usable ≡ false → record { refusal = cond stale 22 16; nodes = 0; steps = 0; end = 0 } ≡ settled x stale
-      unused e = rw e
+    read_name : (y : Result ℕ Unread) → x.reached ≡ y → Settled (settled_as y x.counts.nodes x.counts.steps)
+    read_name (Ok k) h = good_name _ refl refl refl (sym (ap code_of h)) (omega arith) (λ z. let f : ◌≡◌ {A = ℕ} (k + 1) 0 = ap code_of (sym h ∙ z) in omega arith)
+    read_name (Err (Uncovered i)) h = good_name _ refl refl refl (sym (ap code_of h)) (omega arith) (λ z. let f : ◌≡◌ {A = ℕ} (i + uncovered_from) 0 = ap code_of (sym h ∙ z) in omega arith)
+    read_name (Err BadTables) h = bad_name u j _ (omega arith) refl (bad_read h)
+
+  pub settled-name : (x : Option Judged) → FrameJudged words sets l r fit stale image list name t n steps t' parts' x → (y : Judgement) → y ≡ settled x stale
+      → NameJudged words sets l r fit image list name t n steps t' (take (parts_in y.end) parts') y
+  settled-name None j y is = subst (λ (y : Judgement). NameJudged words sets l r fit image list name t n steps t' (take (parts_in y.end) parts') y) (sym is) (unread_name j stale refl)
+  settled-name (Some x) j y is = subst (Settled x j) (sym is) (read_name x j x.reached refl)
+
+-- no more parts than positions
+pub few_parts : {words sets : List ℕ} {l r : ℕ} {fit stale : Bool} {image list : List ℕ} {name : Str} {t : List ℕ} {n steps : ℕ} {t' parts' : List ℕ} (x : Option Judged)
+    → FrameJudged words sets l r fit stale image list name t n steps t' parts' x → IfSome x (λ j. EndsBy frame_size j.reached)
+few_parts None j = tt
+few_parts (Some x) j = j.read.parted.few

@@ -1,6 +1,6 @@
 -- What is known of one name of a sheet before anything is written: what it comes to, and the tree with its words.
 -- Assumes nothing.
-use Rattle.std.specs.Prelude.{◌≡◌, ℕ, ◌+◌, ◌-◌, ◌≤◌, ◌<◌, Bool, true, false, cond, ◌||◌, List, [], ◌∷◌, ◌++◌, eqb, ltb, leb, length}
+use Rattle.std.specs.Prelude.{◌≡◌, ℕ, ◌+◌, ◌-◌, ◌≤◌, ◌<◌, Bool, true, cond, ◌||◌, List, [], ◌∷◌, ◌++◌, eqb, ltb, leb, length, Option, Some, None, IfSome, IfNone, OnSome, Err, Ok, Result}
 use Rattle.rules.specs.Limits.{max_name}
 use Rattle.rules.specs.Names.{judged_name}
 use Rattle.rules.specs.Refusals.{Reply, accepted, declined}
@@ -9,8 +9,8 @@ use Rattle.image.specs.Image.{edits_of, literals_of}
 use Rattle.fitting.specs.Fitting.{Str}
 use Rattle.speech.specs.Words.{Word, words_in, unlisted}
 use Rattle.speech.specs.Speech.{Outcome, speaks, declines, at_once, answered, judged_by, listed_or}
-use Rattle.speech.specs.declared.Reached.{Reached}
-use Rattle.speech.specs.declared.Reached.TheVariants.{Rules, Uncovered, BadTables}
+use Rattle.speech.specs.declared.Unread.{Unread}
+use Rattle.speech.specs.declared.Unread.TheVariants.{Uncovered, BadTables}
 use Rattle.speech.specs.Places.{frame_size, EndsBy, PartsIn, parts_reading, Parted}
 use Rattle.tables.specs.Steps.{hashed, right_steps}
 use Rattle.tables.specs.Walk.{walk_through}
@@ -19,6 +19,7 @@ use Rattle.table_reading.specs.Letters.{FewParts}
 use Rattle.walk.specs.Walked.{compiled_with}
 use Rattle.prefix_tree.specs.Tree.{Tree}
 use Rattle.prefix_tree.specs.Sharing.{Holds}
+use Rattle.sheet_passes.specs.Passing.{Grown}
 use Rattle.sheet_name.specs.declared.Judged.{Judged}
 use Rattle.sheet_name.specs.declared.Judgement.{Judgement}
 
@@ -35,18 +36,15 @@ pub record Read (words sets : List ℕ) (l r : ℕ) (image list : List ℕ) (nam
 
 abbrev pub SharesAll : List ℕ → ℕ → List ℕ → Str → List ℕ → ℕ → List ℕ → Judged → Type 0
 SharesAll words l list name t n t' x =
-    (ws : List Str) → Holds (left_rows_of words l) ws t n → Holds (left_rows_of words l) (ws ++ hashed (unlisted (says_of list) (words_in name))) t' x.nodes
+    (ws : List Str) → Holds (left_rows_of words l) ws t n → Holds (left_rows_of words l) (ws ++ hashed (unlisted (says_of list) (words_in name))) t' x.counts.nodes
 
-pub record FrameJudged (words sets : List ℕ) (l r : ℕ) (fit stale : Bool) (image list : List ℕ) (name : Str) (t : List ℕ) (n steps : ℕ) (t' parts' : List ℕ) (x : Judged) : Type 0 where
+pub record FrameJudged (words sets : List ℕ) (l r : ℕ) (fit stale : Bool) (image list : List ℕ) (name : Str) (t : List ℕ) (n steps : ℕ) (t' parts' : List ℕ) (x : Option Judged) : Type 0 where
   pub sized : length t' ≡ length t
-  pub refused : x.usable ≡ false → through_of words sets l r image list name ≡ at_once (cond stale 22 16) 0
-  pub read : x.usable ≡ true → Read words sets l r image list name parts' x
-  pub tree : x.usable ≡ true → fit ≡ true → Tree t' x.nodes l
-  pub steps-are : x.usable ≡ true → x.steps + n ≡ steps + x.nodes + right_steps (unlisted (says_of list) (words_in name))
-  pub few : x.usable ≡ true → x.nodes ≤ n + (length name + 1)
-  pub more : x.usable ≡ true → n ≤ x.nodes
-  pub short : x.usable ≡ true → right_steps (unlisted (says_of list) (words_in name)) ≤ length name + 1
-  pub shares : x.usable ≡ true → SharesAll words l list name t n t' x
+  pub refused : IfNone x (through_of words sets l r image list name ≡ at_once (cond stale 22 16) 0)
+  pub read : IfSome x (Read words sets l r image list name parts')
+  pub grown : IfSome x (λ j. Grown fit l (length name + 1) (right_steps (unlisted (says_of list) (words_in name))) n steps t' j.counts)
+  pub short : OnSome x (right_steps (unlisted (says_of list) (words_in name)) ≤ length name + 1)
+  pub shares : IfSome x (SharesAll words l list name t n t')
 
 -- ---- a name, whatever it is
 
@@ -73,10 +71,10 @@ sheet_refusal (declines n p k) = cond (eqb n 16 || eqb n 22) (declined n p) acce
 abbrev pub uncovered_from : ℕ
 uncovered_from = frame_size + 2
 
-abbrev pub code_of : Reached → ℕ
-code_of (Rules k) = k + 1
-code_of (Uncovered i) = i + uncovered_from
-code_of BadTables = 0
+abbrev pub code_of : Result ℕ Unread → ℕ
+code_of (Ok k) = k + 1
+code_of (Err (Uncovered i)) = i + uncovered_from
+code_of (Err BadTables) = 0
 
 -- how many parts are kept with such a number
 abbrev pub parts_in : ℕ → ℕ
@@ -84,7 +82,7 @@ parts_in end = cond (ltb end uncovered_from) (end - 1) 0
 
 -- what is kept of a name that went through the tables: how its reading ended, and its parts
 pub record Sent (image list : List ℕ) (end : ℕ) (parts : List ℕ) (o : Outcome) : Type 0 where
-  pub reached : Reached
+  pub reached : Result ℕ Unread
   pub code : end ≡ code_of reached
   pub few : EndsBy frame_size reached
   pub within : PartsIn image list parts
@@ -105,13 +103,14 @@ abbrev pub room_of : Str → ℕ
 room_of name = cond (leb (length name) max_name) (length name + 1) 0
 
 -- the number of the refusal, or 0, and what is kept
-abbrev pub settled_as : Reached → ℕ → ℕ → Judgement
-settled_as (Rules k) nodes steps = record { refusal = 0; nodes = nodes; steps = steps; end = k + 1 }
-settled_as (Uncovered i) nodes steps = record { refusal = 0; nodes = nodes; steps = steps; end = i + uncovered_from }
-settled_as BadTables nodes steps = record { refusal = 16; nodes = 0; steps = 0; end = 0 }
+abbrev pub settled_as : Result ℕ Unread → ℕ → ℕ → Judgement
+settled_as (Ok k) nodes steps = record { refusal = 0; nodes = nodes; steps = steps; end = k + 1 }
+settled_as (Err (Uncovered i)) nodes steps = record { refusal = 0; nodes = nodes; steps = steps; end = i + uncovered_from }
+settled_as (Err BadTables) nodes steps = record { refusal = 16; nodes = 0; steps = 0; end = 0 }
 
-abbrev pub settled : Judged → Bool → Judgement
-settled x stale = cond x.usable (settled_as x.reached x.nodes x.steps) (record { refusal = cond stale 22 16; nodes = 0; steps = 0; end = 0 })
+abbrev pub settled : Option Judged → Bool → Judgement
+settled None stale = record { refusal = cond stale 22 16; nodes = 0; steps = 0; end = 0 }
+settled (Some x) stale = settled_as x.reached x.counts.nodes x.counts.steps
 
 abbrev pub HoldsMore : List ℕ → ℕ → List ℕ → Str → List ℕ → ℕ → List ℕ → ℕ → Type 0
 HoldsMore words l list name t n t' k =

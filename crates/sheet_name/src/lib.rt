@@ -1,7 +1,7 @@
 // What a name of a sheet comes to, judged before anything is written (document 02, request 8).
 #![tactic(auto)]
 
-ghost use Rattle.std.specs.Prelude.{◌≡◌, true, ◌+◌, ◌*◌, ◌≤◌, length, take};
+ghost use Rattle.std.specs.Prelude.{◌≡◌, true, ◌+◌, ◌*◌, ◌≤◌, length, take, IfSome};
 ghost use Rattle.rules.specs.Names.{SoundName};
 ghost use Rattle.exceptions.specs.Judging.{KnownList};
 ghost use Rattle.image.specs.Image.{valid, edits_of};
@@ -13,22 +13,18 @@ ghost use Rattle.prefix_tree.specs.Tree.{Room};
 ghost use Rattle.sheet_passes.specs.Passing.{HoldsSome};
 ghost use Rattle.sheet_name.specs.Judging.{FrameJudged, parts_in, room_of, settled, NameJudged};
 
-use exceptions::Ending;
-use rules::Answer;
-use speech::Reached;
+use prefix_tree::Counts;
+use speech::Unread;
 
-// What the words of a name came to: whether no state was out of range, how many nodes the tree has, how many entries have been looked up, and how
-// reading ended.
+// What the words of a name came to: how many nodes the tree has, how many entries have been looked up, and how reading ended.
 #[derive(Clone, Copy)]
-pub struct Judged {
-    pub usable: bool,
-    pub nodes: usize,
-    pub steps: usize,
-    pub reached: Reached,
+struct Judged {
+    counts: Counts,
+    reached: Result<usize, Unread>,
 }
 
-// All passes of a name that is not on the list, then each reached letter; the parts are remembered, and nothing is said. `found`, `left` and `right` are the
-// memory of the passes, whatever it held: a sheet makes it once for all its names.
+// All passes of a name that is not on the list, then each reached letter; the parts are remembered, and nothing is said. It comes to nothing where a state
+// is out of range. `found`, `left` and `right` are the memory of the passes, whatever it held: a sheet makes it once for all its names.
 fn judge_frame<'a>(
     words: &'a [u16],
     sets: &'a [u64],
@@ -47,11 +43,11 @@ fn judge_frame<'a>(
     found: &mut [u16],
     left: &mut [u16],
     right: &mut [u16],
-) -> Judged
+) -> Option<Judged>
     requires { FitsAs words.now sets.now left_states right_states (edits_of image.now) fit stale × (valid image.now ≡ true) × Unsaid list.now name.now × (frame.now ≡ frame_of name.now) × HoldsSome fit (left_rows_of words.now left_states) tree.old nodes × Room tree.old (nodes + (length name.now + 1)) × (steps + 4 * frame_size ≤ max_steps) × (length parts.old ≡ frame_size) × Sized (memory found.old left.old right.old) }
     ensures { FrameJudged words.now sets.now left_states right_states fit stale image.now list.now name.now tree.old nodes steps tree.new parts.new result }
 {
-    let passes = sheet_passes::pass_words(
+    let counts = sheet_passes::pass_words(
         words,
         left_states,
         right_states,
@@ -65,16 +61,7 @@ fn judge_frame<'a>(
         &mut *found,
         &mut *left,
         &mut *right,
-    );
-    if !passes.usable {
-        let reached = Reached::BadTables;
-        return Judged {
-            usable: false,
-            nodes: 0,
-            steps: 0,
-            reached,
-        };
-    }
+    )?;
     let reached = table_reading::read_words(
         sets,
         walk::right_base(fit, left_states),
@@ -86,12 +73,7 @@ fn judge_frame<'a>(
         right,
         parts,
     );
-    Judged {
-        usable: true,
-        nodes: passes.nodes,
-        steps: passes.steps,
-        reached,
-    }
+    Some(Judged { counts, reached })
 }
 
 // How reading ended, as a number: one more than the rules applied, or, from this on, the position of a letter without a rule; 0 for a name that sends no
@@ -122,11 +104,11 @@ pub struct Judgement {
 }
 
 // How reading ended, settled for the sheet.
-fn settle(x: Judged, stale: bool) -> Judgement
-    requires { x.usable ≡ true → EndsBy frame_size x.reached }
+fn settle(x: Option<Judged>, stale: bool) -> Judgement
+    requires { IfSome x (λ j. EndsBy frame_size j.reached) }
     ensures { result ≡ settled x stale }
 {
-    if !x.usable {
+    let Some(judged) = x else {
         let refusal: u8 = if stale { 22 } else { 16 };
         return Judgement {
             refusal,
@@ -134,22 +116,22 @@ fn settle(x: Judged, stale: bool) -> Judgement
             steps: 0,
             end: 0,
         };
-    }
-    let reached = x.reached;
-    match reached {
-        Reached::Rules(k) => Judgement {
+    };
+    let counts = judged.counts;
+    match judged.reached {
+        Ok(k) => Judgement {
             refusal: 0,
-            nodes: x.nodes,
-            steps: x.steps,
+            nodes: counts.nodes,
+            steps: counts.steps,
             end: (k + 1) as u32,
         },
-        Reached::Uncovered(i) => Judgement {
+        Err(Unread::Uncovered(i)) => Judgement {
             refusal: 0,
-            nodes: x.nodes,
-            steps: x.steps,
+            nodes: counts.nodes,
+            steps: counts.steps,
             end: (i + UNCOVERED) as u32,
         },
-        Reached::BadTables => Judgement {
+        Err(Unread::BadTables) => Judgement {
             refusal: 16,
             nodes: 0,
             steps: 0,
@@ -229,13 +211,13 @@ fn judge_sound<'a>(
 {
     let ending = exceptions::end_state(list, name);
     match ending {
-        Ending::State(_) => Judgement {
+        Some(_) => Judgement {
             refusal: 0,
             nodes,
             steps,
             end: 0,
         },
-        Ending::Absent => judge_words(
+        None => judge_words(
             words,
             sets,
             left_states,
@@ -280,13 +262,13 @@ pub fn judge_name<'a>(
 {
     let judged = rules::judge_name(name);
     match judged {
-        Answer::Refused(_) => Judgement {
+        Err(_) => Judgement {
             refusal: 0,
             nodes,
             steps,
             end: 0,
         },
-        Answer::Accepted => judge_sound(
+        Ok(()) => judge_sound(
             words,
             sets,
             left_states,

@@ -3,23 +3,23 @@
 use mathlib.Core.Path.{◌≡◌, refl, sym, ap, ◌∙◌, subst}
 use Prim.Native.Nat.{ℕ, suc, ◌+◌, ◌*◌, ◌≤◌, ◌<◌}
 use native.Mathlib.Omega.{arith}
-use mathlib.Core.Bool.{Bool, true, false}
+use mathlib.Core.Bool.{Bool, true}
 use mathlib.Core.List.{List, [], ◌∷◌, ◌++◌, append-nil, append_assoc}
 use lib.ListN.{length}
 use Rattle.rules.specs.Names.{SoundName}
+use Rattle.std.specs.Prelude.{Some, None}
 use Rattle.exceptions.specs.Judging.{says_of}
 use Rattle.fitting.specs.Fitting.{Str}
 use Rattle.speech.specs.Words.{Word, word, words_in, unless, unlisted, word_at, end_at, words_from, WordOf}
 use Rattle.speech.specs.Places.{frame_size}
 use Rattle.reading.proofs.NameWords.{words_begin, words_step, words_past, word_long}
 use Rattle.tables.specs.Steps.{hashed, right_steps}
-use Rattle.tables.proofs.Truth.{clash}
-use Rattle.passes.specs.Passes.{max_steps, left_rows_of, Memory, Sized, AllPassed}
+use Rattle.passes.specs.Passes.{max_steps, left_rows_of, Memory, Sized}
 use Rattle.passes.proofs.WordsPassed as P
 use Rattle.prefix_tree.specs.Tree.{Room, Tree}
 use Rattle.prefix_tree.specs.Sharing.{Holds}
-use Rattle.prefix_tree.specs.declared.SharedStep.{SharedStep}
-use Rattle.sheet_passes.specs.Passing.{pass_of, HoldsSome, WordShared, NameShared}
+use Rattle.prefix_tree.specs.declared.Counts.{Counts}
+use Rattle.sheet_passes.specs.Passing.{HoldsSome, WordShared, NameShared}
 
 -- ---- words one after another
 
@@ -56,15 +56,14 @@ passing_from list name b = unlisted (says_of list) (words_from name b)
 
 module _ (words : List ℕ) (l r : ℕ) (fit : Bool) (list : List ℕ) (name : Str) where
   -- for the strings ws that the tree held before
-  pub record Together (ws : List Str) (m : Memory) (t : List ℕ) (p : SharedStep) (b : ℕ) : Type 0 where
+  pub record Together (ws : List Str) (m : Memory) (t : List ℕ) (p : Counts) (b : ℕ) : Type 0 where
     pub strings : List Str
     pub holds : Holds (left_rows_of words l) strings t p.nodes
     pub same : ws ++ hashed (passing list name) ≡ strings ++ hashed (passing_from list name b)
     pub taken : ℕ
     pub passed : P.PassedTo words l r fit list name m taken b
 
-  pub record SharedTo (t₀ : List ℕ) (n₀ steps₀ : ℕ) (m : Memory) (t : List ℕ) (p : SharedStep) (b : ℕ) : Type 0 where
-    pub usable : p.usable ≡ true
+  pub record SharedTo (t₀ : List ℕ) (n₀ steps₀ : ℕ) (m : Memory) (t : List ℕ) (p : Counts) (b : ℕ) : Type 0 where
     pub sized : length t ≡ length t₀
     pub tree : fit ≡ true → Tree t p.nodes l
     pub few : p.nodes ≤ n₀ + b
@@ -75,10 +74,9 @@ module _ (words : List ℕ) (l r : ℕ) (fit : Bool) (list : List ℕ) (name : S
     pub steps-are : p.steps + n₀ ≡ steps₀ + p.nodes + done
     pub shares : (ws : List Str) → Holds (left_rows_of words l) ws t₀ n₀ → Together ws m t p b
 
-  pub shared-begin : (t : List ℕ) (n steps : ℕ) (m : Memory) → Sized m → HoldsSome fit (left_rows_of words l) t n → SharedTo t n steps m t (record { usable = true; node = 0; nodes = n; steps = steps }) 0
+  pub shared-begin : (t : List ℕ) (n steps : ℕ) (m : Memory) → Sized m → HoldsSome fit (left_rows_of words l) t n → SharedTo t n steps m t (record { nodes = n; steps = steps }) 0
   shared-begin t n steps m s g =
       record {
-        usable = refl;
         sized = refl;
         tree = g.tree;
         few = omega arith;
@@ -96,7 +94,7 @@ module _ (words : List ℕ) (l r : ℕ) (fit : Bool) (list : List ℕ) (name : S
         };
       }
 
-module _ {words : List ℕ} {l r : ℕ} {fit : Bool} {list : List ℕ} {name : Str} {t₀ : List ℕ} {n₀ steps₀ : ℕ} {m : Memory} {t : List ℕ} {p : SharedStep} {b : ℕ}
+module _ {words : List ℕ} {l r : ℕ} {fit : Bool} {list : List ℕ} {name : Str} {t₀ : List ℕ} {n₀ steps₀ : ℕ} {m : Memory} {t : List ℕ} {p : Counts} {b : ℕ}
     (s : SharedTo words l r fit list name t₀ n₀ steps₀ m t p b) (sound : SoundName name) (g₀ : HoldsSome fit (left_rows_of words l) t₀ n₀) where
   here : Together words l r fit list name g₀.strings m t p b
   here = s.shares g₀.strings g₀.holds
@@ -113,21 +111,17 @@ module _ {words : List ℕ} {l r : ℕ} {fit : Bool} {list : List ℕ} {name : S
   pub steps-few : steps₀ + 4 * frame_size ≤ max_steps → p.steps + 2 * frame_size ≤ max_steps
   steps-few h = omega (arith, s.steps-are, s.few, s.done-few, near, sound.short)
 
-  pub name-end : length name < b → NameShared words l r fit list name m t₀ n₀ steps₀ t p
+  pub name-end : length name < b → NameShared words l r fit list name m t₀ n₀ steps₀ t (Some p)
   name-end h =
       let none : passing_from list name b ≡ [] = ap (unlisted (says_of list)) (words_past name b h) in
       record {
         sized = s.sized;
-        tree = λ _. s.tree;
-        steps-are = λ _. omega (arith, s.steps-are, s.rights, ap right_steps none);
-        few = λ _. omega (arith, s.few, near);
-        more = λ _. s.more;
-        short = λ _. omega (arith, s.rights, s.done-few, near, ap right_steps none);
+        grown = record { tree = s.tree; steps-are = omega (arith, s.steps-are, s.rights, ap right_steps none); few = omega (arith, s.few, near); more = s.more };
+        short = omega (arith, s.rights, s.done-few, near, ap right_steps none);
         shares = λ ws o. let k = s.shares ws o in record {
           taken = k.taken;
-          passed = subst (λ (u : Bool). AllPassed words l r fit list name m (record { usable = u; steps = k.taken })) (sym s.usable)
-              (P.passed-end words l r fit list name sound m k.taken b k.passed h);
-          holds = λ _. subst (λ (x : List Str). Holds (left_rows_of words l) x t p.nodes) (sym (k.same ∙ ap (λ (vs : List Word). k.strings ++ hashed vs) none ∙ append-nil k.strings)) k.holds;
+          passed = P.passed-end words l r fit list name sound m k.taken b k.passed h;
+          holds = subst (λ (x : List Str). Holds (left_rows_of words l) x t p.nodes) (sym (k.same ∙ ap (λ (vs : List Word). k.strings ++ hashed vs) none ∙ append-nil k.strings)) k.holds;
         };
       }
 
@@ -151,44 +145,36 @@ module _ {words : List ℕ} {l r : ℕ} {fit : Bool} {list : List ℕ} {name : S
         ap (unlisted (says_of list)) (words_step name b h ∙ ap (λ (x : ℕ). word b w ∷ words_from name x) (sym is))
         ∙ unlisted_first (says_of list) (word b w) (words_from name e)
 
-    module _ {m' : Memory} {t' : List ℕ} {p' : SharedStep} (o : WordShared words l r fit list w b m m' t p.nodes p.steps t' p') where
-      pub name-bad : p'.usable ≡ false → NameShared words l r fit list name m' t₀ n₀ steps₀ t' p'
-      name-bad u =
-          record {
-            sized = o.sized ∙ s.sized;
-            tree = λ y. clash y u;
-            steps-are = λ y. clash y u;
-            few = λ y. clash y u;
-            more = λ y. clash y u;
-            short = λ y. clash y u;
-            shares = λ ws q. let k = s.shares ws q in let x = o.shares k.strings k.holds in record {
-              taken = x.taken k.taken;
-              passed = P.passed-bad words l r fit list name sound m k.taken b k.passed h e is m' (pass_of p' (x.taken k.taken)) (x.passed k.taken) u;
-              holds = λ y. clash y u;
-            };
-          }
+    pub name-bad : {m' : Memory} {t' : List ℕ} → WordShared words l r fit list w b m m' t p.nodes p.steps t' None → NameShared words l r fit list name m' t₀ n₀ steps₀ t' None
+    name-bad {m'} {t'} o =
+        record {
+          sized = o.sized ∙ s.sized;
+          grown = tt;
+          short = tt;
+          shares = λ ws q. let k = s.shares ws q in let x = o.shares k.strings k.holds in record {
+            taken = x.taken k.taken;
+            passed = P.passed-bad words l r fit list name sound m k.taken b k.passed h e is m' None (x.passed k.taken) refl;
+            holds = tt;
+          };
+        }
 
-      pub memory-sized : Sized m'
-      memory-sized = ((o.shares here.strings here.holds).passed 0).sized
-
-      pub name-next : p'.usable ≡ true → SharedTo words l r fit list name t₀ n₀ steps₀ m' t' p' e
-      name-next u =
-          record {
-            usable = u;
-            sized = o.sized ∙ s.sized;
-            tree = o.tree u;
-            few = omega (arith, o.few u, s.few);
-            more = omega (arith, o.more u, s.more);
-            done = s.done + right_steps this;
-            done-few = omega (arith, s.done-few, one_few (says_of list) (word b w));
-            rights = omega (arith, s.rights, ap right_steps split_over ∙ rights_append this (passing_from list name e));
-            steps-are = omega (arith, s.steps-are, o.steps-are u);
-            shares = λ ws q. let k = s.shares ws q in let x = o.shares k.strings k.holds in record {
-              strings = k.strings ++ hashed this;
-              holds = x.holds u;
-              same = k.same ∙ (ap (λ (vs : List Word). k.strings ++ hashed vs) split_over ∙ (ap (λ (y : List Str). k.strings ++ y) (hashed_append this (passing_from list name e))
-                  ∙ sym (append_assoc k.strings (hashed this) (hashed (passing_from list name e)))));
-              taken = x.taken k.taken;
-              passed = P.passed-next words l r fit list name sound m k.taken b k.passed h e is m' (pass_of p' (x.taken k.taken)) (x.passed k.taken) u;
-            };
-          }
+    pub name-next : {m' : Memory} {t' : List ℕ} {p' : Counts} → WordShared words l r fit list w b m m' t p.nodes p.steps t' (Some p') → SharedTo words l r fit list name t₀ n₀ steps₀ m' t' p' e
+    name-next {m'} {t'} {p'} o =
+        record {
+          sized = o.sized ∙ s.sized;
+          tree = o.grown.tree;
+          few = omega (arith, o.grown.few, s.few);
+          more = omega (arith, o.grown.more, s.more);
+          done = s.done + right_steps this;
+          done-few = omega (arith, s.done-few, one_few (says_of list) (word b w));
+          rights = omega (arith, s.rights, ap right_steps split_over ∙ rights_append this (passing_from list name e));
+          steps-are = omega (arith, s.steps-are, o.grown.steps-are);
+          shares = λ ws q. let k = s.shares ws q in let x = o.shares k.strings k.holds in record {
+            strings = k.strings ++ hashed this;
+            holds = x.holds;
+            same = k.same ∙ (ap (λ (vs : List Word). k.strings ++ hashed vs) split_over ∙ (ap (λ (y : List Str). k.strings ++ y) (hashed_append this (passing_from list name e))
+                ∙ sym (append_assoc k.strings (hashed this) (hashed (passing_from list name e)))));
+            taken = x.taken k.taken;
+            passed = P.passed-next words l r fit list name sound m k.taken b k.passed h e is m' (Some (x.taken k.taken)) (x.passed k.taken) refl;
+          };
+        }

@@ -9,7 +9,7 @@ ghost use Rattle.passes.specs.Passes.{max_steps, Symbols, left_rows_of, Rows, me
 ghost use Rattle.prefix_tree.specs.Tree.{Room, Tree};
 ghost use Rattle.sheet_passes.specs.Passing.{HoldsSome, FramePassed, WordShared, NameShared};
 
-use prefix_tree::SharedStep;
+use prefix_tree::Counts;
 
 // The shared left pass over a frame, then the right pass, whose count goes on from the left's.
 fn pass_frame(
@@ -22,7 +22,7 @@ fn pass_frame(
     steps: usize,
     left: &mut [u16],
     right: &mut [u16],
-) -> SharedStep
+) -> Option<Counts>
     requires { (0 < right_states) × (needed_words left_states right_states ≤ length words.now) × (2 ≤ length frame.now) × (length frame.now ≤ frame_size) × Symbols frame.now × (length frame.now ≤ length left.old) × (length frame.now ≤ length right.old) × Tree tree.old nodes left_states × Room tree.old (nodes + (length frame.now - 1)) × (steps + 2 * frame_size ≤ max_steps) }
     ensures { FramePassed words.now left_states right_states frame.now tree.old nodes steps left.old right.old tree.new left.new right.new result }
 {
@@ -35,24 +35,19 @@ fn pass_frame(
         nodes,
         steps,
         left,
-    );
-    if !first.usable {
-        return first;
-    }
-    let last = passes::right_pass(
+    )?;
+    let steps = passes::right_pass(
         words,
         tables::HEAD + tables::ROW * left_states,
         right_states,
         frame,
         first.steps,
         right,
-    );
-    SharedStep {
-        usable: last.usable,
-        node: 0,
+    )?;
+    Some(Counts {
         nodes: first.nodes,
-        steps: last.steps,
-    }
+        steps,
+    })
 }
 
 // The passes of one word, where the list gives no part for it; that part, or 0, goes to `found`. Where the tables are not `fit`, of other lengths or
@@ -73,27 +68,17 @@ fn pass_word(
     found: &mut [u16],
     left: &mut [u16],
     right: &mut [u16],
-) -> SharedStep
+) -> Option<Counts>
     requires { (fit ≡ true → Rows (length words.now) left_states right_states) × Unsaid list.now name.now × (frame.now ≡ frame_of name.now) × WordOf name.now from end × Sized (memory found.old left.old right.old) × HoldsSome fit (left_rows_of words.now left_states) tree.old nodes × Room tree.old (nodes + (length (word_at name.now from) + 1)) × (steps + 2 * frame_size ≤ max_steps) }
     ensures { WordShared words.now left_states right_states fit list.now (word_at name.now from) from (memory found.old left.old right.old) (memory found.new left.new right.new) tree.old nodes steps tree.new result }
 {
     let part = reading::words::find_word(list, name, from, end);
     found[from] = part;
     if part != 0 {
-        return SharedStep {
-            usable: true,
-            node: 0,
-            nodes,
-            steps,
-        };
+        return Some(Counts { nodes, steps });
     }
     if !fit {
-        return SharedStep {
-            usable: false,
-            node: 0,
-            nodes,
-            steps,
-        };
+        return None;
     }
     pass_frame(
         words,
@@ -123,16 +108,11 @@ pub fn pass_words(
     found: &mut [u16],
     left: &mut [u16],
     right: &mut [u16],
-) -> SharedStep
+) -> Option<Counts>
     requires { (fit ≡ true → Rows (length words.now) left_states right_states) × Unsaid list.now name.now × (frame.now ≡ frame_of name.now) × Sized (memory found.old left.old right.old) × HoldsSome fit (left_rows_of words.now left_states) tree.old nodes × Room tree.old (nodes + (length name.now + 1)) × (steps + 4 * frame_size ≤ max_steps) }
     ensures { NameShared words.now left_states right_states fit list.now name.now (memory found.new left.new right.new) tree.old nodes steps tree.new result }
 {
-    let mut p = SharedStep {
-        usable: true,
-        node: 0,
-        nodes,
-        steps,
-    };
+    let mut p = Counts { nodes, steps };
     let mut from = 0;
     while from <= name.len() {
         let end = reading::words::word_end(name, from);
@@ -152,11 +132,8 @@ pub fn pass_words(
             &mut *found,
             &mut *left,
             &mut *right,
-        );
-        if !p.usable {
-            return p;
-        }
+        )?;
         from = end;
     }
-    p
+    Some(p)
 }

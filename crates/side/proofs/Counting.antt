@@ -1,6 +1,6 @@
 -- The loop over the symbols of pattern i, and the loop over the patterns.
 -- Assumes nothing.
-use mathlib.Core.Path.{◌≡◌, refl, ◌∙◌, subst}
+use mathlib.Core.Path.{◌≡◌, refl, sym, ap, ◌∙◌, subst}
 use Prim.Native.Nat.{ℕ, ◌+◌, ◌*◌, ◌≤◌, ◌<◌}
 use native.Mathlib.Omega.{arith}
 use mathlib.Core.List.{List}
@@ -10,7 +10,7 @@ use Rattle.tables.specs.States.{states}
 use Rattle.rules.specs.Limits.{max_pattern}
 use Rattle.side.specs.Patterns.{pattern_at, patterns_of, Patterns, state_count}
 use Rattle.side.specs.Wrote.{Wrote, Past}
-use Rattle.side.specs.Steps.{cell, Descended, Numbered, Counted}
+use Rattle.side.specs.Steps.{cell, Descended, Numbered, Counted, Step}
 use Rattle.side.specs.declared.Place.{Place}
 use Rattle.side.proofs.Descending.{as_step, past_step}
 use Rattle.side.proofs.Inserting as I
@@ -35,12 +35,9 @@ module _ (ps ls : List ℕ) (i : ℕ) (ok : Patterns ps ls (i + 1)) (xs : List �
     lt : at.state < at.count
     lt = I.symbols-below ps ls i ok (cell ys) at.state at.count m s.numbered
 
-    module _ (h : m < get_or ls i 0) where
-      abbrev c : ℕ
-      c = get_or ps (max_pattern * i + m) 0
-
+    module _ (h : m < get_or ls i 0) (c : ℕ) (is : c ≡ get_or ps (max_pattern * i + m) 0) where
       small : c < row_size
-      small = I.symbols-small ps ls i ok (cell ys) at.state at.count m s.numbered h
+      small = rw is (I.symbols-small ps ls i ok (cell ys) at.state at.count m s.numbered h)
 
       pub asks : (c < row_size) × (at.state < at.count) × (at.count < 65536) × (row_size * at.count ≤ length ys) × (cell ys at.state c ≡ 0 → row_size * at.count + row_size ≤ length ys)
       asks = (
@@ -48,12 +45,12 @@ module _ (ps ls : List ℕ) (i : ℕ) (ok : Patterns ps ls (i + 1)) (xs : List �
         lt,
         omega (arith, few, I.count-few ps ls (i + 1) ok),
         omega (arith, few, s.past.len),
-        λ z. let e = I.symbols-more ps ls i ok (cell ys) at.state at.count m s.numbered h z in omega (arith, s.past.len),
+        λ z. let e = I.symbols-more ps ls i ok (cell ys) at.state at.count m s.numbered h (ap (cell ys at.state) (sym is) ∙ z) in omega (arith, s.past.len),
       )
 
       pub next : (zs : List ℕ) (r : Place) → Descended ys at.state at.count c r zs → Symbols ps ls i xs zs r (m + 1)
       next zs r d =
-          let e = I.symbols-next ps ls i ok (cell ys) at.state at.count m s.numbered h (cell zs) r.state r.count (as_step ys zs at.state at.count c r lt small d) in
+          let e = I.symbols-next ps ls i ok (cell ys) at.state at.count m s.numbered h (cell zs) r.state r.count (subst (λ (k : ℕ). Step (cell ys) (cell zs) at.state at.count k r.state r.count) is (as_step ys zs at.state at.count c r lt small d)) in
           let p = past_step ys zs at.state at.count c r d in
           record {
             numbered = e.0;

@@ -19,11 +19,7 @@ fn clear_row(rows: &mut [u16], at: usize)
     requires { at + row_size ≤ length rows.old }
     ensures { Wrote rows.old at row_size (λ _. 0) rows.new }
 {
-    let mut c: usize = 0;
-    while c < tables::ROW {
-        rows[at + c] = 0;
-        c += 1;
-    }
+    rows[at..at + tables::ROW].fill(0);
 }
 
 // Where the numbering of a pattern stands: the state of its symbols so far, and how many states there are.
@@ -40,11 +36,11 @@ fn descend(rows: &mut [u16], at: Place, symbol: u8) -> Place
 {
     let q = at.state;
     let n = at.count;
-    let k = tables::ROW * q + numbers::wide(symbol);
+    let k = tables::ROW * q + usize::from(symbol);
     let next = rows[k];
     if next != 0 {
         return Place {
-            state: numbers::wide16(next),
+            state: usize::from(next),
             count: n,
         };
     }
@@ -62,15 +58,10 @@ fn number_one(rows: &mut [u16], pats: &[u8], lens: &[u8], i: usize, count: usize
     ensures { Counted pats.now lens.now (i + 1) rows.old result rows.new }
 {
     let a = rules::MAX_PATTERN * i;
-    let len = numbers::wide(lens[i]);
-    let mut at = Place {
-        state: 0,
-        count: count,
-    };
-    let mut m: usize = 0;
-    while m < len {
-        at = descend(rows, at, pats[a + m]);
-        m += 1;
+    let e = a + usize::from(lens[i]);
+    let mut at = Place { state: 0, count };
+    for &symbol in &pats[a..e] {
+        at = descend(rows, at, symbol);
     }
     at.count
 }
@@ -82,10 +73,8 @@ fn number_all(rows: &mut [u16], pats: &[u8], lens: &[u8], n: usize) -> usize
 {
     clear_row(rows, 0);
     let mut count: usize = 1;
-    let mut i: usize = 0;
-    while i < n {
+    for i in 0..n {
         count = number_one(rows, pats, lens, i, count);
-        i += 1;
     }
     count
 }
@@ -96,11 +85,8 @@ fn state_of(rows: &[u16], count: usize, pats: &[u8], a: usize, e: usize) -> usiz
     ensures { (result ≡ run (cell rows.now) 0 (part pats.now a e)) × (result < count) }
 {
     let mut q: usize = 0;
-    let mut j = a;
-    while j < e {
-        let k = tables::ROW * q + numbers::wide(pats[j]);
-        q = numbers::wide16(rows[k]);
-        j += 1;
+    for &symbol in &pats[a..e] {
+        q = usize::from(rows[tables::ROW * q + usize::from(symbol)]);
     }
     q
 }
@@ -119,10 +105,8 @@ fn complete_row(rows: &mut [u16], q: usize, f: usize)
 {
     let a = tables::ROW * q;
     let b = tables::ROW * f;
-    let mut c: usize = 0;
-    while c < tables::ROW {
+    for c in 0..tables::ROW {
         rows[a + c] = or_else(rows[a + c], rows[b + c]);
-        c += 1;
     }
 }
 
@@ -132,12 +116,7 @@ fn clear_sets(sets: &mut [u64], count: usize)
     requires { set_size * count ≤ length sets.old }
     ensures { Wrote sets.old 0 (set_size * count) (λ _. 0) sets.new }
 {
-    let end = tables::SET * count;
-    let mut k: usize = 0;
-    while k < end {
-        sets[k] = 0;
-        k += 1;
-    }
+    sets[..tables::SET * count].fill(0);
 }
 
 // Place i goes into the set of q.
@@ -156,10 +135,8 @@ fn unite(sets: &mut [u64], q: usize, f: usize)
 {
     let a = tables::SET * q;
     let b = tables::SET * f;
-    let mut j: usize = 0;
-    while j < tables::SET {
-        sets[a + j] = sets[a + j] | sets[b + j];
-        j += 1;
+    for j in 0..tables::SET {
+        sets[a + j] |= sets[b + j];
     }
 }
 
@@ -168,13 +145,11 @@ fn own_sets(sets: &mut [u64], rows: &[u16], count: usize, pats: &[u8], lens: &[u
     requires { Patterns pats.now lens.now n × (count ≡ state_count pats.now lens.now n) × (row_size * count ≤ length rows.now) × (set_size * count ≤ length sets.old) × Numbered (states (patterns_of pats.now lens.now n)) rows.now × Owned (patterns_of pats.now lens.now n) 0 sets.old }
     ensures { Owned (patterns_of pats.now lens.now n) n sets.new × Past (set_size * count) sets.old sets.new }
 {
-    let mut i: usize = 0;
-    while i < n {
+    for i in 0..n {
         let a = rules::MAX_PATTERN * i;
-        let e = a + numbers::wide(lens[i]);
+        let e = a + usize::from(lens[i]);
         let q = state_of(rows, count, pats, a, e);
         put_place(sets, q, i);
-        i += 1;
     }
 }
 
@@ -219,15 +194,13 @@ fn complete_level(
     ensures { Level (patterns_of pats.now lens.now n) rows.new sets.new (d + 1) 0 × Past (row_size * count) rows.old rows.new × Past (set_size * count) sets.old sets.new }
 {
     let mut top: usize = 0;
-    let mut i: usize = 0;
-    while i < n {
-        let len = numbers::wide(lens[i]);
+    for i in 0..n {
+        let len = usize::from(lens[i]);
         if d <= len {
             let a = rules::MAX_PATTERN * i;
             let e = a + d;
             top = complete_one(rows, sets, count, pats, a, e, top);
         }
-        i += 1;
     }
 }
 
@@ -241,10 +214,8 @@ pub fn fill_side(rows: &mut [u16], sets: &mut [u64], pats: &[u8], lens: &[u8], n
     let count = number_all(rows, pats, lens, n);
     clear_sets(sets, count);
     own_sets(sets, rows, count, pats, lens, n);
-    let mut d: usize = 1;
-    while d <= rules::MAX_PATTERN {
+    for d in 1..=rules::MAX_PATTERN {
         complete_level(rows, sets, count, pats, lens, n, d);
-        d += 1;
     }
     count
 }

@@ -1,38 +1,13 @@
 // Rules put in, taken out and moved in place: the slots after them move by one. Each is an edit, and the edit count rises by one.
 #![tactic(auto)]
 
-ghost use Rattle.std.specs.Prelude.{◌≡◌, ◌+◌, ◌-◌, ◌*◌, ◌<◌, ◌≤◌, length, drop};
-ghost use Rattle.std.proofs.Math.Seq.{paste};
+ghost use Rattle.std.specs.Prelude.{◌≡◌, ◌+◌, ◌-◌, ◌*◌, ◌<◌, ◌≤◌, length};
 ghost use Rattle.rules.specs.Limits.{max_rules, max_edits};
 ghost use Rattle.image.specs.State.{relist, insert_at, remove_at, relocated};
 ghost use Rattle.image.specs.Image.{image_size, count_of, last_of, edits_of, ledger_of, laid};
 
 use image::{HEAD, SLOT};
 use rules::Numbered;
-
-// `n` bytes from `src` on are copied to `dst`, which lies before it.
-fn copy_down(s: &mut [u8], src: usize, dst: usize, n: usize)
-    requires { (dst ≤ src) × (src + n ≤ length s.old) }
-    ensures { s.new ≡ paste s.old dst (drop src s.old) n }
-{
-    let mut i = 0;
-    while i < n {
-        s[dst + i] = s[src + i];
-        i += 1;
-    }
-}
-
-// `n` bytes from `src` on are copied to `dst`, which lies after it.
-fn copy_up(s: &mut [u8], src: usize, dst: usize, n: usize)
-    requires { (src ≤ dst) × (dst + n ≤ length s.old) }
-    ensures { s.new ≡ paste s.old dst (drop src s.old) n }
-{
-    let mut k = n;
-    while 0 < k {
-        k -= 1;
-        s[dst + k] = s[src + k];
-    }
-}
 
 // A rule more, before place `p`; `last` is the last number issued afterwards.
 pub fn insert(image: &mut [u8], p: usize, x: Numbered, last: u16)
@@ -42,7 +17,7 @@ pub fn insert(image: &mut [u8], p: usize, x: Numbered, last: u16)
     let edits = image::edit_count(image) + 1;
     let count = image::rule_count(image);
     let at = HEAD + SLOT * p;
-    copy_up(image, at, at + SLOT, SLOT * (count - p));
+    image.copy_within(at..HEAD + SLOT * count, at + SLOT);
     image::put_rule(image, p, x);
     image::put_head(image, count + 1, last, edits);
 }
@@ -56,7 +31,7 @@ pub fn remove(image: &mut [u8], k: usize)
     let count = image::rule_count(image);
     let last = image::last_issued(image);
     let at = HEAD + SLOT * k;
-    copy_down(image, at + SLOT, at, SLOT * (count - 1 - k));
+    image.copy_within(at + SLOT..HEAD + SLOT * count, at);
     image::put_head(image, count - 1, last, edits);
 }
 
@@ -72,12 +47,10 @@ pub fn relocate(image: &mut [u8], k: usize, p: usize)
     let from = HEAD + SLOT * k;
     let to = HEAD + SLOT * p;
     if k < p {
-        copy_down(image, from + SLOT, from, SLOT * (p - k));
-        image::put_rule(image, p, x);
-        image::put_head(image, count, last, edits);
+        image.copy_within(from + SLOT..to + SLOT, from);
     } else {
-        copy_up(image, to, to + SLOT, SLOT * (k - p));
-        image::put_rule(image, p, x);
-        image::put_head(image, count, last, edits);
+        image.copy_within(to..from, to + SLOT);
     }
+    image::put_rule(image, p, x);
+    image::put_head(image, count, last, edits);
 }

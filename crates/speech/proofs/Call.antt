@@ -1,5 +1,6 @@
 -- What a call that speaks a name comes to, whatever follows its judgements: 0, 17, 2 and 1 in turn, then the list.
 -- Assumes nothing.
+use Rattle.std.specs.Prelude.{Result, Ok, Err}
 use Prim.Native.Nat.{ℕ, ◌≤◌}
 use mathlib.Core.Path.{◌≡◌, refl, sym, ap, ◌∙◌}
 use mathlib.Core.List.{List, [], ◌∷◌}
@@ -11,8 +12,6 @@ use lib.Dec.{leb}
 use lib.ListN.{length}
 use Rattle.rules.specs.Names.{judged_name, SoundName}
 use Rattle.rules.specs.Refusals.{refusal_number, refusal_place, declined, reply_of}
-use Rattle.rules.specs.declared.Answer.{Answer}
-use Rattle.rules.specs.declared.Answer.TheVariants.{Accepted, Refused}
 use Rattle.rules.specs.declared.Refusal.{Refusal}
 use Rattle.rules.proofs.Cases.{by_bool}
 use Rattle.rules.proofs.Names.{sound_judged, accepted_sound, Judgement, sound, judgement}
@@ -25,11 +24,11 @@ use Rattle.speech.specs.Speech.{Outcome, speaks, at_once, said_from, listed_or, 
 
 -- ---- what was found
 
-module _ (name : Str) (a : Answer) (is : reply_of a ≡ judged_name name) where
-  pub found_refused : (x : Refusal) → a ≡ Refused x → judged_name name ≡ declined (refusal_number x) (refusal_place x)
+module _ (name : Str) (a : Result (Unit {0}) Refusal) (is : reply_of a ≡ judged_name name) where
+  pub found_refused : (x : Refusal) → a ≡ Err x → judged_name name ≡ declined (refusal_number x) (refusal_place x)
   found_refused x e = sym is ∙ ap reply_of e
 
-  pub found_sound : a ≡ Accepted → SoundName name
+  pub found_sound : a ≡ Ok tt → SoundName name
   found_sound e = accepted_sound name (sym is ∙ ap reply_of e)
 
 pub listing_some : (list : List ℕ) → is_list list ≡ true → listing_of list ≡ some (phones_for (words_of list))

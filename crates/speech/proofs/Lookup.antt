@@ -1,5 +1,6 @@
 -- A name looked up in the list, as an answer.
 -- Assumes nothing.
+use Rattle.std.specs.Prelude.{Err, None, Ok, Option, Result, Some}
 use Prim.Native.Nat.{ℕ, ◌≤◌, ◌<◌}
 use mathlib.Core.Path.{◌≡◌, refl, sym, ap, ap₂, ◌∙◌, subst}
 use mathlib.Core.List.{List, [], ◌∷◌}
@@ -21,10 +22,8 @@ use Rattle.fitting.specs.Fitting.{Str}
 use Rattle.fitting.specs.Reading.{listed}
 use Rattle.speech.specs.Speech.{Outcome, speaks, steps_of, said_from, spoken, refused, told_of, saying, delivered}
 use Rattle.speech.specs.Places.{Unsaid, SaysListed}
-use Rattle.speech.specs.declared.Speech.{Speech}
-use Rattle.speech.specs.declared.Speech.TheVariants.{Spoken, Refused}
-use Rattle.speech.specs.declared.Listed.{Listed}
-use Rattle.speech.specs.declared.Listed.TheVariants.{Said, Unlisted}
+use Rattle.speech.specs.declared.Spoken.{Spoken}
+use Rattle.rules.specs.declared.Refusal.{Refusal}
 use Rattle.speech.proofs.Call.{from_listed}
 use Rattle.speech.proofs.ListedNames.{listed_delivered}
 
@@ -64,20 +63,20 @@ module _ (p : Str) (phones after : List ℕ) (r : Lookup) (is : looking_up r aft
   other : (q : Lookup) → r ≡ q → (x : LookedUp) → looked_up p phones ≡ x → (kind q ≡ kind x.answer → ⊥) → ⊥
   other q e x g h = h (tells (λ y. kind y.answer) q e x g)
 
-  pub found_none : r ≡ Absent → SaysListed p phones after Unlisted
+  pub found_none : r ≡ Absent → SaysListed p phones after None
   unfolding kind
   found_none e = by (found p phones)
     where
-      by : Found p phones → SaysListed p phones after Unlisted
+      by : Found p phones → SaysListed p phones after None
       by (absent n g) = (n, tells (λ y. y.phones) Absent e _ g)
       by (fitting h f g) = absurd (other Absent e _ g (λ z. omega arith))
       by (short h f g) = absurd (other Absent e _ g (λ z. omega arith))
 
-  pub found_given : (n : ℕ) → r ≡ Given n → SaysListed p phones after (Said (Spoken n 0 0))
+  pub found_given : (n : ℕ) → r ≡ Given n → SaysListed p phones after (Some (Ok (record { phones = n; numbers = 0; contested = 0 })))
   unfolding kind size
   found_given n e = by (found p phones)
     where
-      by : Found p phones → SaysListed p phones after (Said (Spoken n 0 0))
+      by : Found p phones → SaysListed p phones after (Some (Ok (record { phones = n; numbers = 0; contested = 0 })))
       by (absent m g) = absurd (other (Given n) e _ g (λ z. omega arith))
       by (fitting h f g) = (
         h,
@@ -87,11 +86,11 @@ module _ (p : Str) (phones after : List ℕ) (r : Lookup) (is : looking_up r aft
       )
       by (short h f g) = absurd (other (Given n) e _ g (λ z. omega arith))
 
-  pub found_short : (n : ℕ) → r ≡ NoRoom n → SaysListed p phones after (Said (Refused (PhonesRoom n)))
+  pub found_short : (n : ℕ) → r ≡ NoRoom n → SaysListed p phones after (Some (Err (PhonesRoom n)))
   unfolding kind size
   found_short n e = by (found p phones)
     where
-      by : Found p phones → SaysListed p phones after (Said (Refused (PhonesRoom n)))
+      by : Found p phones → SaysListed p phones after (Some (Err (PhonesRoom n)))
       by (absent m g) = absurd (other (NoRoom n) e _ g (λ z. omega arith))
       by (fitting h f g) = absurd (other (NoRoom n) e _ g (λ z. omega arith))
       by (short h f g) = (
@@ -102,22 +101,22 @@ module _ (p : Str) (phones after : List ℕ) (r : Lookup) (is : looking_up r aft
       )
 
 -- so the answer follows, where o follows for a name that is not listed
-module _ (p : Str) (o : Outcome) (phones after numbers : List ℕ) (r : Listed) (is : SaysListed p phones after r) where
-  pub listed_answer : (s : Speech) → r ≡ Said s → saying (told_of s) after numbers ≡ delivered (said_from p o) phones numbers
+module _ (p : Str) (o : Outcome) (phones after numbers : List ℕ) (r : Option (Result Spoken Refusal)) (is : SaysListed p phones after r) where
+  pub listed_answer : (s : Result Spoken Refusal) → r ≡ Some s → saying (told_of s) after numbers ≡ delivered (said_from p o) phones numbers
   listed_answer s e =
-      let l : SaysListed p phones after (Said s) = subst (SaysListed p phones after) e is in
+      let l : SaysListed p phones after (Some s) = subst (SaysListed p phones after) e is in
       l.1 numbers ∙ ap (λ (x : Outcome). delivered x phones numbers) (sym (from_listed p o l.0))
 
-  pub listed_steps : (s : Speech) → r ≡ Said s → steps_of (said_from p o) ≡ 0
-  listed_steps s e = let l : SaysListed p phones after (Said s) = subst (SaysListed p phones after) e is in ap steps_of (from_listed p o l.0)
+  pub listed_steps : (s : Result Spoken Refusal) → r ≡ Some s → steps_of (said_from p o) ≡ 0
+  listed_steps s e = let l : SaysListed p phones after (Some s) = subst (SaysListed p phones after) e is in ap steps_of (from_listed p o l.0)
 
-  pub unlisted_answer : {A : Type 0} (f : Outcome → List ℕ → A) → r ≡ Unlisted → f o after ≡ f (said_from p o) phones
+  pub unlisted_answer : {A : Type 0} (f : Outcome → List ℕ → A) → r ≡ None → f o after ≡ f (said_from p o) phones
   unlisted_answer f e =
-      let l : SaysListed p phones after Unlisted = subst (SaysListed p phones after) e is in
+      let l : SaysListed p phones after None = subst (SaysListed p phones after) e is in
       ap₂ f (ap (λ (q : Str). said_from q o) (sym l.0)) l.1
 
-  pub unlisted_none : r ≡ Unlisted → p ≡ []
-  unlisted_none e = let l : SaysListed p phones after Unlisted = subst (SaysListed p phones after) e is in l.0
+  pub unlisted_none : r ≡ None → p ≡ []
+  unlisted_none e = let l : SaysListed p phones after None = subst (SaysListed p phones after) e is in l.0
 
 -- ---- a lent list, and too few words for one, as what follows asks for them
 

@@ -25,7 +25,7 @@ use Rattle.image.proofs.Entries.{entry_shaped}
 use Rattle.fitting.specs.Reading.{Piece, listed}
 use Rattle.speech.specs.Places.{place_in, fitting_in, piece_at, part_at, parts_at, rules_among, PartIn, PartGiven, AllGiven}
 use Rattle.speech.specs.Speech.{speaks, phones_in, phones_of, numbers_in, numbers_of, contested_in, spoken, refused, saying, delivered}
-use Rattle.speech.specs.declared.Given.{Given}
+use Rattle.speech.specs.declared.Spoken.{Spoken}
 
 -- ---- what is gathered from pieces: their phones, or their numbers
 
@@ -155,7 +155,7 @@ module _ (image list : List ℕ) where
   numbers_count (p ∷ ps) = length-append (numbers_in (part_at image list p)) (numbers_of (parts_at image list ps)) ∙ ap₂ ◌+◌ (one_number p) (numbers_count ps)
 
 -- one part written: its phones, and its number where it has one
-module _ (x : Piece) (from to : Given) (phones numbers phones' numbers' t : List ℕ) (a : phones_in x ≡ t) (e : to.phones ≡ from.phones + length t)
+module _ (x : Piece) (from to : Spoken) (phones numbers phones' numbers' t : List ℕ) (a : phones_in x ≡ t) (e : to.phones ≡ from.phones + length t)
     (s : phones' ≡ paste phones from.phones t (length t)) where
   given_phones : phones' ≡ paste phones from.phones (phones_in x) (length (phones_in x))
   given_phones = s ∙ ap (λ (l : List ℕ). paste phones from.phones l (length l)) (sym a)
@@ -195,6 +195,6 @@ module _ (rs : List Piece) (phones numbers : List ℕ) where
     pub numbers_short : leb (length (numbers_of rs)) (length numbers) ≡ false → (m : ℕ) → m ≡ length (numbers_of rs) → saying (refused 5 m) phones numbers ≡ delivered (speaks rs 0) phones numbers
     numbers_short u m b = rw (b, h, u)
 
-    pub both_written : leb (length (numbers_of rs)) (length numbers) ≡ true → (g : Given) → AllGiven rs g → (phones' numbers' : List ℕ) → phones' ≡ over (phones_of rs) phones → numbers' ≡ over (numbers_of rs) numbers
+    pub both_written : leb (length (numbers_of rs)) (length numbers) ≡ true → (g : Spoken) → AllGiven rs g → (phones' numbers' : List ℕ) → phones' ≡ over (phones_of rs) phones → numbers' ≡ over (numbers_of rs) numbers
         → saying (spoken g.phones g.numbers g.contested) phones' numbers' ≡ delivered (speaks rs 0) phones numbers
     both_written u g a phones' numbers' p q = rw (p, q, a.phones, a.numbers, a.contested, h, u)

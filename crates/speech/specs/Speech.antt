@@ -1,6 +1,7 @@
 -- What a call that speaks a name gives: its answer and the lent memory after it (document 01, "When a call declines"; document 02, requests 1, 3, 4 and 5).
 -- Assumes nothing.
-use Rattle.std.specs.Prelude.{ℕ, ◌+◌, ◌≤◌, ◌≡◌, cond, List, [], ◌∷◌, ◌++◌, leb, ltb, length}
+use Rattle.std.specs.Prelude.{ℕ, ◌+◌, ◌≤◌, ◌≡◌, cond, List, [], ◌∷◌, ◌++◌, leb, ltb, length, Result, Ok, Err}
+use Rattle.rules.specs.declared.Refusal.{Refusal}
 use Rattle.std.proofs.Math.Option.{none, some}
 use Rattle.rules.specs.Memory.{over}
 use Rattle.rules.specs.Names.{judged_name}
@@ -12,8 +13,7 @@ use Rattle.image.specs.Image.{valid, entries_of, classes_of}
 use Rattle.fitting.specs.Fitting.{Str}
 use Rattle.fitting.specs.Reading.{Piece, applied, listed, Reading, finished, uncovered, bad_tables, plain, plain_literal}
 use Rattle.speech.specs.Words.{words_in, read_words}
-use Rattle.speech.specs.declared.Speech.{Speech}
-use Rattle.speech.specs.declared.Speech.TheVariants.{Spoken, Refused}
+use Rattle.speech.specs.declared.Spoken.{Spoken}
 
 -- ---- what a name comes to before the lent memory is looked at: what is to be said, or a refusal's number and place; and the steps taken
 
@@ -110,9 +110,9 @@ pub data Told : Type 0 where
   spoken : ℕ → ℕ → ℕ → Told
   refused : ℕ → ℕ → Told
 
-abbrev pub told_of : Speech → Told
-told_of (Spoken p n c) = spoken p n c
-told_of (Refused x) = refused (refusal_number x) (refusal_place x)
+abbrev pub told_of : Result Spoken Refusal → Told
+told_of (Ok s) = spoken s.phones s.numbers s.contested
+told_of (Err x) = refused (refusal_number x) (refusal_place x)
 
 -- all that a call gives: its answer, the lent phones and the lent numbers after it
 pub record Said : Type 0 where

@@ -16,22 +16,17 @@ ghost use Rattle.speech.specs.Places.{part_size, part_of, place_in, fitting_in, 
 use exceptions::Lookup;
 use rules::Refusal;
 
-// The answer of a call that speaks a name: how many phones and rule numbers it gave, and at how many reached letters more than one rule fits; or
-// why it declined.
-#[derive(Clone, Copy)]
-pub enum Speech {
-    Spoken {
-        phones: usize,
-        numbers: usize,
-        contested: usize,
-    },
-    Refused(Refusal),
+// What a call that speaks a name gave: how many phones and rule numbers, and at how many reached letters more than one rule fits.
+#[derive(Clone, Copy, PartialEq, Eq)]
+pub struct Spoken {
+    pub phones: usize,
+    pub numbers: usize,
+    pub contested: usize,
 }
 
-// How reading ended: how many rules were applied, the letter that none covers, or tables that are unusable.
+// Why a word was not read to its end: the letter that no rule covers, or tables that are unusable. A word that was read came to so many rules applied.
 #[derive(Clone, Copy)]
-pub enum Reached {
-    Rules(usize),
+pub enum Unread {
     Uncovered(usize),
     BadTables,
 }
@@ -67,12 +62,10 @@ fn rules_among(parts: &[u32]) -> usize
     ensures { result ≡ rules_among parts.now }
 {
     let mut count = 0;
-    let mut k = 0;
-    while k < parts.len() {
-        if place_in(parts[k]) < rules::MAX_RULES {
+    for &part in parts {
+        if place_in(part) < rules::MAX_RULES {
             count += 1;
         }
-        k += 1;
     }
     count
 }
@@ -96,10 +89,8 @@ fn phone_count(image: &[u8], list: &[u32], parts: &[u32]) -> usize
     ensures { result ≡ length (phones_of (parts_at image.now list.now parts.now)) }
 {
     let mut total = 0;
-    let mut k = 0;
-    while k < parts.len() {
-        total += part_phones(image, list, parts[k]);
-        k += 1;
+    for &part in parts {
+        total += part_phones(image, list, part);
     }
     total
 }
@@ -113,10 +104,8 @@ fn phones_fit(image: &[u8], list: &[u32], parts: &[u32], room: usize) -> bool
     if rules::MAX_LISTED_PHONES * parts.len() <= room {
         return true;
     }
-    if rules::MAX_PHONES * parts.len() <= room {
-        if rules_among(parts) == parts.len() {
-            return true;
-        }
+    if rules::MAX_PHONES * parts.len() <= room && rules_among(parts) == parts.len() {
+        return true;
     }
     phone_count(image, list, parts) <= room
 }
@@ -126,18 +115,7 @@ fn numbers_fit(parts: &[u32], room: usize) -> bool
     requires { length parts.now ≤ frame_size }
     ensures { result ≡ leb (rules_among parts.now) room }
 {
-    if parts.len() <= room {
-        return true;
-    }
-    rules_among(parts) <= room
-}
-
-// How many phones and numbers are given, and how many letters were contested.
-#[derive(Clone, Copy)]
-struct Given {
-    phones: usize,
-    numbers: usize,
-    contested: usize,
+    parts.len() <= room || rules_among(parts) <= room
 }
 
 // The phones of a rule, at most four, stored from `at` on one by one: a loop over so few takes longer than all of them.
@@ -170,8 +148,8 @@ fn write_part(
     part: u32,
     phones: &mut [u8],
     numbers: &mut [u16],
-    given: Given,
-) -> Given
+    given: Spoken,
+) -> Spoken
     requires { (valid image.now ≡ true) × PartIn image.now list.now part × (given.phones + length (phones_in (part_at image.now list.now part)) ≤ length phones.old) × (given.numbers + length (numbers_in (part_at image.now list.now part)) ≤ length numbers.old) × (given.contested ≤ frame_size) }
     ensures { PartGiven (part_at image.now list.now part) given phones.old numbers.old result phones.new numbers.new }
 {
@@ -181,14 +159,14 @@ fn write_part(
         numbers[at] = image::number_at(image, place);
         let said = image::phones_at(image, place);
         put_phones(&mut *phones, given.phones, said);
-        return Given {
+        return Spoken {
             phones: given.phones + said.len(),
             numbers: given.numbers + 1,
             contested: given.contested + contested_in(part),
         };
     }
     let count = exceptions::write_phones(list, place - rules::MAX_RULES, phones, given.phones);
-    Given {
+    Spoken {
         phones: given.phones + count,
         numbers: given.numbers,
         contested: given.contested,
@@ -202,21 +180,19 @@ fn write_parts(
     parts: &[u32],
     phones: &mut [u8],
     numbers: &mut [u16],
-) -> Given
+) -> Spoken
     requires { (valid image.now ≡ true) × (length parts.now ≤ frame_size) × PartsIn image.now list.now parts.now × (length (phones_of (parts_at image.now list.now parts.now)) ≤ length phones.old) × (length (numbers_of (parts_at image.now list.now parts.now)) ≤ length numbers.old) }
     ensures given { AllGiven (parts_at image.now list.now parts.now) result }
     ensures phones { phones.new ≡ over (phones_of (parts_at image.now list.now parts.now)) phones.old }
     ensures numbers { numbers.new ≡ over (numbers_of (parts_at image.now list.now parts.now)) numbers.old }
 {
-    let mut given = Given {
+    let mut given = Spoken {
         phones: 0,
         numbers: 0,
         contested: 0,
     };
-    let mut k = 0;
-    while k < parts.len() {
-        given = write_part(image, list, parts[k], &mut *phones, &mut *numbers, given);
-        k += 1;
+    for &part in parts {
+        given = write_part(image, list, part, &mut *phones, &mut *numbers, given);
     }
     given
 }
@@ -228,63 +204,52 @@ pub fn deliver(
     parts: &[u32],
     phones: &mut [u8],
     numbers: &mut [u16],
-) -> Speech
+) -> Result<Spoken, Refusal>
     requires { (valid image.now ≡ true) × ((length parts.now ≤ frame_size) × PartsIn image.now list.now parts.now) }
     ensures { saying (told_of result) phones.new numbers.new ≡ delivered (speaks (parts_at image.now list.now parts.now) 0) phones.old numbers.old }
 {
     if !phones_fit(image, list, parts, phones.len()) {
-        return Speech::Refused(Refusal::PhonesRoom(phone_count(image, list, parts)));
+        return Err(Refusal::PhonesRoom(phone_count(image, list, parts)));
     }
     if !numbers_fit(parts, numbers.len()) {
-        return Speech::Refused(Refusal::NumbersRoom(rules_among(parts)));
+        return Err(Refusal::NumbersRoom(rules_among(parts)));
     }
     let given = write_parts(image, list, parts, phones, numbers);
-    Speech::Spoken {
-        phones: given.phones,
-        numbers: given.numbers,
-        contested: given.contested,
-    }
+    Ok(given)
 }
 
 // The answer that follows from how reading ended.
 pub fn answer(
     image: &[u8],
     list: &[u32],
-    reached: Reached,
+    reached: Result<usize, Unread>,
     parts: &[u32],
     phones: &mut [u8],
     numbers: &mut [u16],
-) -> Speech
+) -> Result<Spoken, Refusal>
     requires { (valid image.now ≡ true) × Parted image.now list.now frame_size parts.now reached }
     ensures { saying (told_of result) phones.new numbers.new ≡ delivered (answered (parts_reading image.now list.now parts.now reached) 0) phones.old numbers.old }
 {
     match reached {
-        Reached::Rules(k) => deliver(image, list, &parts[..k], phones, numbers),
-        Reached::Uncovered(i) => Speech::Refused(Refusal::NoFit(i)),
-        Reached::BadTables => Speech::Refused(Refusal::BadTables(0)),
+        Ok(k) => deliver(image, list, &parts[..k], phones, numbers),
+        Err(Unread::Uncovered(i)) => Err(Refusal::NoFit(i)),
+        Err(Unread::BadTables) => Err(Refusal::BadTables(0)),
     }
 }
 
-// What a list says of a name: an answer, or nothing.
-#[derive(Clone, Copy)]
-pub enum Listed {
-    Said(Speech),
-    Unlisted,
-}
-
-// A sound name that is on the list is said from it: its phones where they have room (refusal 4), and no numbers.
-pub fn say_listed(list: &[u32], name: &[u8], phones: &mut [u8]) -> Listed
+// A sound name that is on the list is said from it: its phones where they have room (refusal 4), and no numbers. None where the list says nothing of it.
+pub fn say_listed(list: &[u32], name: &[u8], phones: &mut [u8]) -> Option<Result<Spoken, Refusal>>
     requires { (is_list list.now ≡ true) × SoundName name.now }
     ensures { SaysListed (phones_for (words_of list.now) name.now) phones.old phones.new result }
 {
     let found = exceptions::look_up(list, name, phones);
     match found {
-        Lookup::Unlisted => Listed::Unlisted,
-        Lookup::Given(n) => Listed::Said(Speech::Spoken {
+        Lookup::Unlisted => None,
+        Lookup::Given(n) => Some(Ok(Spoken {
             phones: n,
             numbers: 0,
             contested: 0,
-        }),
-        Lookup::NoRoom(n) => Listed::Said(Speech::Refused(Refusal::PhonesRoom(n))),
+        })),
+        Lookup::NoRoom(n) => Some(Err(Refusal::PhonesRoom(n))),
     }
 }

@@ -3,13 +3,15 @@
 use mathlib.Core.Path.{◌≡◌, refl, sym, ap, ap₂, ◌∙◌, subst}
 use Prim.Native.Nat.{ℕ, zero, suc, ◌+◌, ◌-◌, ◌≤◌, ◌<◌}
 use native.Mathlib.Omega.{arith}
-use mathlib.Core.Bool.{true, false}
-use mathlib.Core.List.{List, [], ◌∷◌, ◌++◌, append-nil, append_assoc}
-use lib.ListN.{length, get_or}
+use mathlib.Core.List.{List, [], ◌∷◌, ◌++◌, append_assoc}
+use lib.ListN.{length, get_or, take, drop}
+use lib.Seq.{drop-cons}
+use Rattle.std.proofs.lemmas.List.{get_or-take, get_or-drop}
+use Rattle.std.proofs.Common.{length-take, length-drop}
 use Rattle.automaton.specs.Automaton.{key_of, at, part, Sorted}
-use Rattle.automaton.proofs.Tests.{by_less, by_same, clash}
-use Rattle.states.specs.States.{lower, upper, past, Split, Valued, Equal, Skipped}
-use Rattle.states.proofs.Cells.{lower_less, lower_stop, upper_less, upper_stop, past_same, past_other, at_here, at_there, at_upper, upper_sorted, sorted_none}
+use Rattle.automaton.proofs.Tests.{by_less, by_same}
+use Rattle.states.specs.States.{lower, upper, past, Split, Valued, Skipped}
+use Rattle.states.proofs.Cells.{lower_less, upper_less, past_same, past_other, at_here, at_there, at_upper, upper_sorted, sorted_none}
 
 pub part_length : (ws : List ℕ) (a n : ℕ) → length (part ws a n) ≡ n
 part_length ws a zero = refl
@@ -25,6 +27,24 @@ part_ext ws ws' a b (suc n) e =
     let g : suc a + j ≡ a + suc j = omega arith in
     let h : b + suc j ≡ suc b + j = omega arith in
     ap (λ (u : ℕ). get_or ws u 0) g ∙ (e (suc j) (omega arith) ∙ ap (λ (u : ℕ). get_or ws' u 0) h)))
+
+-- a slice of the words is a part of them
+pub part_slice : (ws : List ℕ) (a n : ℕ) → a + n ≤ length ws → take n (drop a ws) ≡ part ws a n
+part_slice ws a zero h = refl
+part_slice ws a (suc n) h = ap (take (suc n)) (drop-cons ws a 0 (omega arith)) ∙ ap (λ (l : List ℕ). get_or ws a 0 ∷ l) (part_slice ws (suc a) n (omega arith))
+
+-- item i of a slice of the words, and its end
+pub slice_at : (ws : List ℕ) (a e i : ℕ) → e ≤ length ws → i < length (take (e - a) (drop a ws)) → (get_or (take (e - a) (drop a ws)) i 0 ≡ get_or ws (a + i) 0) × (a + i < e)
+slice_at ws a e i w h =
+    let x = length-take (e - a) (drop a ws) in
+    let y = length-drop a ws in
+    (get_or-take (e - a) (drop a ws) i 0 (omega arith) ∙ get_or-drop a ws i 0, omega arith)
+
+pub slice_end : (ws : List ℕ) (a e i : ℕ) → e ≤ length ws → length (take (e - a) (drop a ws)) ≤ i → e ≤ a + i
+slice_end ws a e i w h =
+    let x = length-take (e - a) (drop a ws) in
+    let y = length-drop a ws in
+    omega arith
 
 pub part_get : (ws : List ℕ) (a n j : ℕ) → j < n → get_or (part ws a n) j 0 ≡ get_or ws (a + j) 0
 part_get ws a zero j h = absurd (omega arith)
@@ -69,16 +89,6 @@ pub record Seeking (ws : List ℕ) (a e c i : ℕ) : Type 0 where
   pub low : lower c (part ws a (e - a)) ≡ part ws a (i - a) ++ lower c (part ws i (e - i))
   pub high : upper c (part ws a (e - a)) ≡ upper c (part ws i (e - i))
 
-pub seek_begin : (ws : List ℕ) (a e c : ℕ) → a ≤ e → Seeking ws a e c a
-seek_begin ws a e c h =
-    let z : a - a ≡ 0 = omega arith in
-    record {
-      least = omega arith;
-      most = h;
-      low = sym (ap (λ (t : List ℕ). t ++ lower c (part ws a (e - a))) (part_none ws a (a - a) z));
-      high = refl;
-    }
-
 pub seek_next : (ws : List ℕ) (a e c i : ℕ) → Seeking ws a e c i → i < e → key_of (get_or ws i 0) < c → Seeking ws a e c (i + 1)
 seek_next ws a e c i s h l =
     let lo = s.least in
@@ -91,30 +101,6 @@ seek_next ws a e c i s h l =
           ∙ (ap (λ (t : List ℕ). part ws a (i - a) ++ t) (lower_less c (get_or ws i 0) (part ws (i + 1) (e - (i + 1))) l)
           ∙ part_snoc ws a i (lower c (part ws (i + 1) (e - (i + 1)))) lo));
       high = s.high ∙ (ap (upper c) g ∙ upper_less c (get_or ws i 0) (part ws (i + 1) (e - (i + 1))) l);
-    }
-
-pub seek_found : (ws : List ℕ) (a e c i : ℕ) → Seeking ws a e c i → i < e → c ≤ key_of (get_or ws i 0) → Split ws a e c i
-seek_found ws a e c i s h l =
-    let g = part_cons ws i e h in
-    record {
-      least = s.least;
-      most = s.most;
-      low = s.low
-          ∙ (ap (λ (t : List ℕ). part ws a (i - a) ++ lower c t) g
-          ∙ (ap (λ (t : List ℕ). part ws a (i - a) ++ t) (lower_stop c (get_or ws i 0) (part ws (i + 1) (e - (i + 1))) l)
-          ∙ append-nil (part ws a (i - a))));
-      high = s.high ∙ (ap (upper c) g ∙ (upper_stop c (get_or ws i 0) (part ws (i + 1) (e - (i + 1))) l ∙ sym g));
-    }
-
-pub seek_end : (ws : List ℕ) (a e c i : ℕ) → Seeking ws a e c i → e ≤ i → Split ws a e c i
-seek_end ws a e c i s h =
-    let m = s.most in
-    let g = part_none ws i (e - i) (omega arith) in
-    record {
-      least = s.least;
-      most = s.most;
-      low = s.low ∙ (ap (λ (t : List ℕ). part ws a (i - a) ++ lower c t) g ∙ append-nil (part ws a (i - a)));
-      high = s.high ∙ (ap (upper c) g ∙ sym g);
     }
 
 -- ---- what the first cell says
@@ -149,29 +135,3 @@ pub skipped_same : (ws : List ℕ) (i e c : ℕ) → i < e → key_of (get_or ws
 skipped_same ws i e c h q =
     let g = part_cons ws i e h in
     record { least = omega arith; most = omega arith; rest = ap (past c) g ∙ past_same c (get_or ws i 0) (part ws (i + 1) (e - (i + 1))) q }
-
--- ---- comparing
-
-pub record EqualTo (ws : List ℕ) (a b k : ℕ) : Type 0 where
-  pub upto : (j : ℕ) → j < k → get_or ws (a + j) 0 ≡ get_or ws (b + j) 0
-
-pub equal_begin : (ws : List ℕ) (a b : ℕ) → EqualTo ws a b 0
-equal_begin ws a b = record { upto = λ j l. absurd (omega arith) }
-
-pub equal_next : (ws : List ℕ) (a b k : ℕ) → EqualTo ws a b k → get_or ws (a + k) 0 ≡ get_or ws (b + k) 0 → EqualTo ws a b (k + 1)
-equal_next ws a b k q e =
-    record {
-      upto = λ j l. by_same j k
-          (λ o. subst (λ (x : ℕ). get_or ws (a + x) 0 ≡ get_or ws (b + x) 0) (sym o) e)
-          (λ o. q.upto j (omega arith));
-    }
-
-pub equal_all : (ws : List ℕ) (a b len k : ℕ) → EqualTo ws a b k → len ≤ k → Equal ws a b len true
-equal_all ws a b len k q h = record { same = λ e. part_ext ws ws a b len (λ j l. q.upto j (omega arith)); differ = λ e x. clash refl e }
-
-pub equal_not : (ws : List ℕ) (a b len k : ℕ) → k < len → (get_or ws (a + k) 0 ≡ get_or ws (b + k) 0 → ⊥) → Equal ws a b len false
-equal_not ws a b len k h ne =
-    record {
-      same = λ e. clash e refl;
-      differ = λ e x. ne (sym (part_get ws a len k h) ∙ (ap (λ (t : List ℕ). get_or t k 0) x ∙ part_get ws b len k h));
-    }

@@ -15,7 +15,7 @@ use Rattle.automaton.proofs.Change.{put_end, put_next}
 use Rattle.states.specs.States.{FoundOrAdded, with_successor, with_phones, AppendAsks, Appended, Interned, PathOf, EndAsks, PutAsks, PutGives}
 use Rattle.states.specs.declared.Placed.{Placed}
 use Rattle.states.proofs.Cells.{val_self, sorted_length, with_successor_sorted, with_successor_other, with_successor_there, with_phones_sorted, with_phones_there, with_phones_other}
-use Rattle.states.proofs.Rows.{letters_next, rows_kept, row_new, laid_new, begins_rise, Following, follow_begin, follow_next}
+use Rattle.states.proofs.Rows.{letters_next, rows_kept, row_new, laid_new, begins_rise, Following, follow_next}
 
 -- ---- the row after n, with_successor or with_phones
 
@@ -234,11 +234,6 @@ pub record Tracing (ws : List ℕ) (n : ℕ) (name : Str) (path : List ℕ) (q i
   pub filled : PathOf ws n name i path
   pub here : get_or path i 0 ≡ q
 
-pub trace_begin : (ws : List ℕ) (n : ℕ) (name : Str) (path : List ℕ) → EndAsks ws n name → 0 < length path → Tracing ws n name (set path 0 n) n 0
-trace_begin ws n name path a h =
-    let e : get_or (set path 0 n) 0 0 ≡ n = get_or-set_same path 0 n 0 h in
-    record { follows = follow_begin ws n name a; filled = record { start = e; next = λ i l. absurd (omega arith) }; here = e }
-
 -- one state more: r after the next letter
 pub trace_next : (ws : List ℕ) (n : ℕ) (name : Str) (path : List ℕ) (q i : ℕ) → EndAsks ws n name → Tracing ws n name path q i → i < length name → i + 1 < length path
     → (c r : ℕ) → c ≡ get_or name i 0 → r ≡ rows_of ws q c → Tracing ws n name (set path (i + 1) r) r (i + 1)
@@ -258,12 +253,6 @@ trace_next ws n name path q i k a o l c r g h =
       };
       here = there;
     }
-
-pub trace_end : (ws : List ℕ) (n : ℕ) (name : Str) (path : List ℕ) (q i : ℕ) → Tracing ws n name path q i → length name ≤ i → PathOf ws n name (length name) path
-trace_end ws n name path q i a h =
-    let p = a.follows.place in
-    let z : i ≡ length name = omega arith in
-    subst (λ (t : ℕ). PathOf ws n name t path) z a.filled
 
 module _ (ws : List ℕ) (n : ℕ) (name p : Str) (a : PutAsks ws n n name 0 p) (path : List ℕ) (t : PathOf ws n name (length name) path) where
   -- from each state on the way, the rest of the name may be changed
@@ -312,9 +301,6 @@ pub record Along (n : ℕ) (name p path w₀ : Str) (b₀ : Placed) (i : ℕ) (w
   pub place : i ≤ length name
   pub gives : (ws : List ℕ) → PutAsks ws n n name 0 p → PathOf ws n name (length name) path
       → PutGives ws n (get_or path (length name) 0) name (length name) p w₀ b₀ → PutGives ws n (get_or path i 0) name i p w b
-
-pub along_begin : (n : ℕ) (name p path w : Str) (b : Placed) → Along n name p path w b (length name) w b
-along_begin n name p path w b = record { place = omega arith; gives = λ ws a t u. u }
 
 pub along_next : (n : ℕ) (name p path w₀ : Str) (b₀ : Placed) (i : ℕ) (w : Str) (b : Placed) → Along n name p path w₀ b₀ i w b → 0 < i → (c q : ℕ) → c ≡ get_or name (i - 1) 0 → q ≡ get_or path (i - 1) 0
     → (w' : Str) (r : Placed) → Interned w b.top (with_successor c b.root (cells_of w q)) w' r → Along n name p path w₀ b₀ (i - 1) w' r

@@ -3,19 +3,21 @@
 use mathlib.Core.Path.{◌≡◌, refl, sym, ap, ap₂, ◌∙◌, subst}
 use Prim.Native.Nat.{ℕ, zero, suc, ◌+◌, ◌-◌, ◌≤◌, ◌<◌, max}
 use native.Mathlib.Omega.{arith}
-use mathlib.Core.Bool.{Bool, true, false}
+use mathlib.Core.Bool.{Bool}
 use mathlib.Core.List.{List, [], ◌∷◌, ◌++◌, append_assoc}
-use lib.ListN.{length, get_or, set, drop, length-set, length-append, drop_of_length-le}
+use lib.Dec.{eqb}
+use lib.Pointwise.{pointwise, bytes_decides}
+use lib.ListN.{length, get_or, set, take, drop, length-set, length-append}
 use native.Mathlib.Numerals.{add-one}
 use lib.Seq.{get_or-set_same, get_or-set_other, drop-cons}
 use Rattle.automaton.specs.Automaton.{Str, Rows, val_of, cell_of, at, part, cells_of, rows_of, Sorted, Laid, end_state, Letters, Alike}
 use Rattle.automaton.specs.Changes.{Keeps, First}
 use Rattle.automaton.proofs.Tests.{by_less, by_same, clash}
-use Rattle.states.specs.States.{lower, upper, past, one, with_successor, groups, with_phones, Split, Valued, AsksState, Placing, Wrote, Lowered, Ended, Equal, Compared, FoundOrAdded, Written, copy_of, group_of, CellPut, Skipped, AppendAsks, Appended, EndAsks}
+use Rattle.states.specs.States.{lower, upper, past, one, with_successor, groups, with_phones, Split, Valued, AsksState, Placing, Wrote, Lowered, Ended, Compared, FoundOrAdded, Written, copy_of, group_of, CellPut, Skipped, AppendAsks, Appended, EndAsks}
 use Rattle.states.specs.declared.Placed.{Placed}
 use Rattle.states.specs.declared.Cut.{Cut}
 use Rattle.states.proofs.Cells.{same-cells, groups_length, sorted_length, lower_short}
-use Rattle.states.proofs.Parts.{part_length, part_ext, part_get, value_of}
+use Rattle.states.proofs.Parts.{part_length, part_ext, part_slice, part_get, value_of}
 
 -- ---- writing
 
@@ -108,25 +110,20 @@ value_at ws n q a e c i r p s v = value_of ws a e c i r p.sorted s v ∙ ap (λ 
 
 -- ---- comparing rows
 
-pub rows_same : (ws : List ℕ) (n i t a e b f : ℕ) → Placing ws n i a e → Placing ws n t b f → e - a ≡ f - b → (r : Bool) → Equal ws a b (e - a) r → Compared ws i t r
+pub rows_compared : (ws : List ℕ) (n i t a e b f : ℕ) → Placing ws n i a e → Placing ws n t b f
+    → (r : Bool) → r ≡ pointwise eqb (take (e - a) (drop a ws)) (take (f - b) (drop b ws)) → Compared ws i t r
 unfolding rows_of
-rows_same ws n i t a e b f p q g r s =
-    let h : part ws b (e - a) ≡ cells_of ws t = ap (part ws b) g ∙ sym q.cells in
+rows_compared ws n i t a e b f p q r c =
+    let po = p.order in
+    let pw = p.within in
+    let qo = q.order in
+    let qw = q.within in
+    let x : take (e - a) (drop a ws) ≡ cells_of ws i = part_slice ws a (e - a) (omega arith) ∙ sym p.cells in
+    let y : take (f - b) (drop b ws) ≡ cells_of ws t = part_slice ws b (f - b) (omega arith) ∙ sym q.cells in
     record {
-      alike = λ y k l. ap (λ (u : List ℕ). at u k) (p.cells ∙ (s.same y ∙ h));
-      differ = λ y x. s.differ y (sym p.cells ∙ (same-cells 1 (cells_of ws i) (cells_of ws t)
-          (subst (Sorted 1) (sym p.cells) p.sorted) (subst (Sorted 1) (sym q.cells) q.sorted) (λ k l. x k l) ∙ sym h));
-    }
-
-pub rows_long : (ws : List ℕ) (n i t a e b f : ℕ) → Placing ws n i a e → Placing ws n t b f → (e - a ≡ f - b → ⊥) → Compared ws i t false
-unfolding rows_of
-rows_long ws n i t a e b f p q g =
-    record {
-      alike = λ y. clash y refl;
-      differ = λ y x.
-          let z : cells_of ws i ≡ cells_of ws t = same-cells 1 (cells_of ws i) (cells_of ws t)
-          (subst (Sorted 1) (sym p.cells) p.sorted) (subst (Sorted 1) (sym q.cells) q.sorted) (λ k l. x k l) in
-          g (sym (part_length ws a (e - a)) ∙ (ap length (sym p.cells ∙ (z ∙ q.cells)) ∙ part_length ws b (f - b)));
+      alike = λ h k l. ap (λ (u : List ℕ). at u k) (sym x ∙ ((bytes_decides _ _).0 (sym c ∙ h) ∙ y));
+      differ = λ h z. clash (c ∙ (bytes_decides _ _).1 (x ∙ (same-cells 1 (cells_of ws i) (cells_of ws t)
+          (subst (Sorted 1) (sym p.cells) p.sorted) (subst (Sorted 1) (sym q.cells) q.sorted) (λ k l. z k l) ∙ sym y))) h;
     }
 
 -- ---- finding
@@ -135,26 +132,6 @@ rows_long ws n i t a e b f p q g =
 pub record NoneTo (ws : List ℕ) (t i : ℕ) : Type 0 where
   pub within : i ≤ t
   pub none : (j : ℕ) → j < i → Alike (rows_of ws) j t → ⊥
-
-pub none_begin : (ws : List ℕ) (t : ℕ) → NoneTo ws t 0
-none_begin ws t = record { within = omega arith; none = λ j l. absurd (omega arith) }
-
-pub none_next : (ws : List ℕ) (t i : ℕ) → NoneTo ws t i → i < t → (r : Bool) → Compared ws i t r → r ≡ false → NoneTo ws t (i + 1)
-none_next ws t i a h r c e =
-    record {
-      within = omega arith;
-      none = λ j l x. by_same j i
-          (λ q. c.differ e (subst (λ (v : ℕ). Alike (rows_of ws) v t) q x))
-          (λ q. a.none j (omega arith) x);
-    }
-
-pub found : (ws : List ℕ) (t i : ℕ) → NoneTo ws t i → (r : Bool) → Compared ws i t r → r ≡ true → First (rows_of ws) t i
-found ws t i a r c e = record { within = a.within; alike = c.alike e; none = a.none }
-
-pub found_last : (ws : List ℕ) (t i : ℕ) → NoneTo ws t i → t ≤ i → First (rows_of ws) t i
-found_last ws t i a h =
-    let e : i ≡ t = let w = a.within in omega arith in
-    record { within = a.within; alike = λ k l. ap (λ (v : ℕ). rows_of ws v k) e; none = a.none }
 
 pub settled : (ws : List ℕ) (n i : ℕ) (r : Placed) → First (rows_of ws) (n + 1) i → r.root ≡ i → r.top ≡ max n i → FoundOrAdded ws n r
 settled ws n i r f e t =
@@ -444,9 +421,6 @@ pub record Following (ws : List ℕ) (n : ℕ) (name : Str) (q i : ℕ) : Type 0
   pub rest : end_state (rows_of ws) n name ≡ end_state (rows_of ws) q (drop i name)
   pub letters : Letters (drop i name)
 
-pub follow_begin : (ws : List ℕ) (n : ℕ) (name : Str) → EndAsks ws n name → Following ws n name n 0
-follow_begin ws n name a = record { within = omega arith; place = omega arith; rest = refl; letters = a.letters }
-
 pub follow_next : (ws : List ℕ) (n : ℕ) (name : Str) (q i : ℕ) → EndAsks ws n name → Following ws n name q i → i < length name
     → (c r : ℕ) → c ≡ get_or name i 0 → r ≡ rows_of ws q c → Following ws n name r (i + 1)
 follow_next ws n name q i a f h c r e g =
@@ -470,6 +444,3 @@ blank_ends f b (c ∷ w) l = ap (λ (v : ℕ). end_state f v w) (b c (let h = l.
 pub follow_none : (ws : List ℕ) (n : ℕ) (name : Str) (q i : ℕ) → EndAsks ws n name → Following ws n name q i → q ≡ 0 → 0 ≡ end_state (rows_of ws) n name
 follow_none ws n name q i a f e =
     sym (f.rest ∙ (ap (λ (v : ℕ). end_state (rows_of ws) v (drop i name)) e ∙ blank_ends (rows_of ws) a.sound.blank (drop i name) f.letters))
-
-pub follow_end : (ws : List ℕ) (n : ℕ) (name : Str) (q i : ℕ) → Following ws n name q i → length name ≤ i → q ≡ end_state (rows_of ws) n name
-follow_end ws n name q i f h = sym (f.rest ∙ ap (end_state (rows_of ws) q) (drop_of_length-le name h))

@@ -1,7 +1,7 @@
 -- What the functions on cells give.
 -- Assumes nothing.
 use Rattle.std.specs.Prelude.{◌≡◌, ◌⊎◌, ℕ, zero, suc, ◌+◌, ◌-◌, ◌*◌, ◌≤◌, ◌<◌, max, Bool, true, false, cond, List, [], ◌∷◌, ◌++◌, eqb, ltb, length, get_or, set, drop}
-use Rattle.automaton.specs.Automaton.{Str, key_of, val_of, cell_of, at, part, cells_of, rows_of, Sorted, Laid, Letters, Alike, Sound}
+use Rattle.automaton.specs.Automaton.{Str, key_of, val_of, cell_of, part, cells_of, rows_of, Sorted, Laid, Letters, Alike, Sound}
 use Rattle.automaton.specs.Changes.{Phones, First, Put}
 use Rattle.states.specs.declared.Placed.{Placed}
 use Rattle.states.specs.declared.Cut.{Cut}
@@ -54,10 +54,6 @@ pub record Valued (ws : List ℕ) (i e c r : ℕ) : Type 0 where
 pub record AsksState (ws : List ℕ) (n q : ℕ) : Type 0 where
   pub laid : Laid ws n
   pub state : q ≤ n
-
-pub record Equal (ws : List ℕ) (a b len : ℕ) (r : Bool) : Type 0 where
-  pub same : r ≡ true → part ws a len ≡ part ws b len
-  pub differ : r ≡ false → part ws a len ≡ part ws b len → ⊥
 
 pub record Compared (ws : List ℕ) (i t : ℕ) (r : Bool) : Type 0 where
   pub alike : r ≡ true → Alike (rows_of ws) i t

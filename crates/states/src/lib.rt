@@ -4,7 +4,7 @@
 ghost use Rattle.std.specs.Prelude.{◌≡◌, ◌+◌, ◌-◌, ◌*◌, ◌<◌, ◌≤◌, length};
 ghost use Rattle.automaton.specs.Automaton.{key_of, val_of, cell_of, part, cells_of, rows_of, end_state, Laid};
 ghost use Rattle.automaton.specs.Changes.{Phones, First};
-ghost use Rattle.states.specs.States.{past, Split, Valued, AsksState, Placing, Lowered, Ended, Compared, Equal, FoundOrAdded, Written, copy_of, group_of, CellPut, Skipped, AppendAsks, Appended, with_successor, with_phones, Interned, PathOf, PutAsks, PutGives, EndAsks};
+ghost use Rattle.states.specs.States.{past, Split, Valued, AsksState, Placing, Lowered, Ended, Compared, FoundOrAdded, Written, copy_of, group_of, CellPut, Skipped, AppendAsks, Appended, with_successor, with_phones, Interned, PathOf, PutAsks, PutGives, EndAsks};
 
 // What a change gives: the last row in use, and the row that is the new start.
 #[derive(Clone, Copy)]
@@ -64,14 +64,12 @@ pub fn first(words: &[u32], a: usize, e: usize, c: usize) -> usize
     requires { (a ≤ e) × (e ≤ length words.now) }
     ensures { Split words.now a e c result }
 {
-    let mut i = a;
-    while i < e {
+    for i in a..e {
         if c <= key(words[i]) {
             return i;
         }
-        i += 1;
     }
-    i
+    e
 }
 
 // What cell i says of place c, 0 where it is past e or of another place.
@@ -101,21 +99,6 @@ pub fn at(words: &[u32], n: usize, q: usize, c: usize) -> usize
     value(words, i, to, c)
 }
 
-// The cells from a and from b on are the same.
-fn same_cells(words: &[u32], a: usize, b: usize, len: usize) -> bool
-    requires { (a + len ≤ length words.now) × (b + len ≤ length words.now) }
-    ensures { Equal words.now a b len result }
-{
-    let mut k: usize = 0;
-    while k < len {
-        if words[a + k] != words[b + k] {
-            return false;
-        }
-        k += 1;
-    }
-    true
-}
-
 // Rows i and t hold the same.
 pub fn same_rows(words: &[u32], i: usize, t: usize) -> bool
     requires { AsksState words.now t i }
@@ -123,13 +106,7 @@ pub fn same_rows(words: &[u32], i: usize, t: usize) -> bool
 {
     let x = row_cells(words, t, i);
     let y = row_cells(words, t, t);
-    let a = x.from;
-    let b = y.from;
-    let len = x.to - a;
-    if len != y.to - b {
-        return false;
-    }
-    same_cells(words, a, b, len)
+    words[x.from..x.to] == words[y.from..y.to]
 }
 
 // The first row that holds what row t does.
@@ -137,14 +114,13 @@ fn find(words: &[u32], t: usize) -> usize
     requires { Laid words.now t }
     ensures { First (rows_of words.now) t result }
 {
-    let mut i: usize = 0; // a row like the blank one leads to no name
-    while i < t {
+    // a row like the blank one leads to no name
+    for i in 0..t {
         if same_rows(words, i, t) {
             return i;
         }
-        i += 1;
     }
-    i
+    t
 }
 
 // The row after n is found again or added.
@@ -165,11 +141,7 @@ fn copy(words: &mut [u32], a: usize, b: usize, len: usize)
     requires { (a + len ≤ b) × (b + len ≤ length words.old) }
     ensures { Written (copy_of words.old a) b len words.old words.new }
 {
-    let mut k: usize = 0;
-    while k < len {
-        words[b + k] = words[a + k];
-        k += 1;
-    }
+    words.copy_within(a..a + len, b);
 }
 
 // A cell of place c at o, none where r is 0. Gives the place after it.
@@ -244,10 +216,8 @@ fn write_groups(words: &mut [u32], o: usize, groups: &[u32])
     requires { (length groups.now ≤ 22) × (o + length groups.now ≤ length words.old) }
     ensures { Written (group_of groups.now) o (length groups.now) words.old words.new }
 {
-    let mut k: usize = 0;
-    while k < groups.len() {
-        words[o + k] = cell(automaton::PHONES + k, val(groups[k]));
-        k += 1;
+    for (k, &x) in groups.iter().enumerate() {
+        words[o + k] = cell(automaton::PHONES + k, val(x));
     }
 }
 
@@ -287,12 +257,9 @@ fn follow(words: &[u32], n: usize, name: &[u8], path: &mut [u16])
 {
     path[0] = n as u16;
     let mut q = n;
-    let mut i: usize = 0;
-    while i < name.len() {
-        let c = numbers::wide(name[i]);
-        q = at(words, n, q, c);
-        i += 1;
-        path[i] = q as u16;
+    for (i, &c) in name.iter().enumerate() {
+        q = at(words, n, q, numbers::wide(c));
+        path[i + 1] = q as u16;
     }
 }
 
@@ -301,11 +268,9 @@ fn put_along(words: &mut [u32], n: usize, name: &[u8], path: &[u16], groups: &[u
     requires { PutAsks words.old n n name.now 0 groups.now × PathOf words.old n name.now (length name.now) path.now × (length name.now < length path.now) }
     ensures { PutGives words.old n n name.now 0 groups.now words.new result }
 {
-    let mut i = name.len();
-    let last = numbers::wide16(path[i]);
+    let last = numbers::wide16(path[name.len()]);
     let mut placed = intern_with_phones(words, n, last, groups);
-    while 0 < i {
-        i -= 1;
+    for i in (0..name.len()).rev() {
         let c = numbers::wide(name[i]);
         let q = numbers::wide16(path[i]);
         let top = placed.top;
@@ -331,14 +296,11 @@ pub fn end_state(words: &[u32], n: usize, name: &[u8]) -> usize
     ensures { result ≡ end_state (rows_of words.now) n name.now }
 {
     let mut q = n;
-    let mut i: usize = 0;
-    while i < name.len() {
+    for &c in name {
         if q == 0 {
             return 0;
         }
-        let c = numbers::wide(name[i]);
-        q = at(words, n, q, c);
-        i += 1;
+        q = at(words, n, q, numbers::wide(c));
     }
     q
 }

@@ -1,5 +1,6 @@
 -- Reading by reached letters: what the place found at one gives, and the loop of reading (reading/proofs/Loop) with these choices.
 -- Assumes nothing.
+use Rattle.std.specs.Prelude.{Err, Ok}
 use Prim.Native.Nat.{ℕ, zero, suc, ◌+◌, ◌-◌, ◌*◌, ◌≤◌, ◌<◌}
 use native.Mathlib.Nat.{le_of_suc-le-suc, not-suc-le-zero}
 use native.Mathlib.Decide.{dec_le}
@@ -7,8 +8,9 @@ use native.Mathlib.Omega.{arith}
 use mathlib.Core.Path.{◌≡◌, refl, sym, ap, ap₂, ◌∙◌, subst}
 use mathlib.Core.Bool.{Bool, true, false, cond}
 use mathlib.Core.List.{List, [], ◌∷◌}
-use mathlib.Core.Option.{Option, none, some}
+use mathlib.Core.Option.{Option as Maybe, none, some}
 use lib.ListN.{length, get_or, set}
+use Rattle.std.specs.Prelude.{Option, Some, None, Result}
 use Rattle.rules.proofs.Cases.{by_bool}
 use Rattle.rules.specs.Limits.{max_target}
 use Rattle.rules.specs.Shape.{Entry}
@@ -21,23 +23,23 @@ use Rattle.literals.proofs.Places.{literal_applied}
 use Rattle.fitting.specs.Fitting.{Str, fits}
 use Rattle.fitting.specs.Reading.{Application, apply, Choice, chosen, nothing, unusable, past, Targets}
 use Rattle.speech.specs.Places.{part_of, apply_at, ReadBy}
-use Rattle.speech.specs.declared.Reached.TheVariants.{Rules, Uncovered, BadTables}
+use Rattle.speech.specs.declared.Unread.TheVariants.{Uncovered, BadTables}
 use Rattle.reading.proofs.Expansion.{literals_targets}
 use Rattle.reading.proofs.Loop.{Going, going_begin}
 use Rattle.reading.proofs.Plain.{going_part, read_none, read_unusable, read_end}
 use Rattle.tables.specs.Words.{set_size}
 use Rattle.tables.specs.Walk.{lookup}
 use Rattle.table_reading.specs.Letters.{found_of, lowest_shared, count_shared, choice_by, choices_by, choice_of, Chooses}
-use Rattle.table_reading.specs.declared.Found.TheVariants.{Place, Empty}
 use Rattle.table_reading.specs.declared.Chosen.{Chosen}
+use Rattle.table_reading.specs.declared.Unusable.{Unusable}
 
 -- ---- the rule at the place found
 
-pub found_none : (o : Option ℕ) → found_of o ≡ Empty → o ≡ none
+pub found_none : (o : Maybe ℕ) → found_of o ≡ None → o ≡ none
 found_none none e = refl
 found_none (some p) e = let z : ◌≡◌ {A = ℕ} 0 1 = cc in absurd (omega arith)
 
-pub found_some : (o : Option ℕ) (p : ℕ) → found_of o ≡ Place p → o ≡ some p
+pub found_some : (o : Maybe ℕ) (p : ℕ) → found_of o ≡ Some p → o ≡ some p
 found_some none p e = let z : ◌≡◌ {A = ℕ} 0 1 = cc in absurd (omega arith)
 found_some (some q) p e = let g : q ≡ p = cc in ap some g
 
@@ -83,7 +85,7 @@ module _ (image ss : List ℕ) (s t : ℕ) (f : List ℕ) (i : ℕ) where
 -- ---- the loop of reading, `Going`, with these choices
 
 -- reading goes on past the target of a rule that is looked up
-lookup_past_target : (t : Entry → Bool) (n : ℕ) (rs : List Entry) → Targets rs → (o : Option ℕ) (i : ℕ) (a : Application) → lookup t n rs o ≡ chosen a → i < past i a
+lookup_past_target : (t : Entry → Bool) (n : ℕ) (rs : List Entry) → Targets rs → (o : Maybe ℕ) (i : ℕ) (a : Application) → lookup t n rs o ≡ chosen a → i < past i a
 lookup_past_target t n rs h none i a e = let z : ◌≡◌ {A = ℕ} 0 1 = cc in absurd (omega arith)
 lookup_past_target t n rs h (some p) i a e =
     go (dec_le (length rs) p)
@@ -104,7 +106,7 @@ module _ (image ss : List ℕ) (base : ℕ) (left right f : List ℕ) where
   choose = choices_by image ss base left right f
 
   -- what is told by the sets of the two states remembered for i is the choice at i
-  pub by_states : (i l r : ℕ) → l ≡ get_or left i 0 → r ≡ get_or right i 0 → (x : Chosen) → Chooses image (choice_by image ss (set_size * l) (base + set_size * r) f i) i x → choice_of image x ≡ choose i
+  pub by_states : (i l r : ℕ) → l ≡ get_or left i 0 → r ≡ get_or right i 0 → (x : Result (Option Chosen) Unusable) → Chooses image (choice_by image ss (set_size * l) (base + set_size * r) f i) i x → choice_of image x ≡ choose i
   by_states i l r el er x c = c.is ∙ ap₂ (λ (y z : ℕ). choice_by image ss (set_size * y) (base + set_size * z) f i) el er
 
   -- the loop has `parts` and `count`, and stands at i
@@ -132,11 +134,11 @@ module _ (image ss : List ℕ) (base : ℕ) (left right f : List ℕ) (ok : vali
       next p n e u x is = going_part made (length f - 2) ahead image ok parts count i g h p n e u x is
 
       -- no rule is chosen
-      pub unusable_here : made i ≡ unusable → ReadBy image made (length f - 2) parts BadTables
+      pub unusable_here : made i ≡ unusable → ReadBy image made (length f - 2) parts (Err BadTables)
       unusable_here = read_unusable image made (length f - 2) ahead parts count i g h
 
-      pub none_here : made i ≡ nothing → ReadBy image made (length f - 2) parts (Uncovered i)
+      pub none_here : made i ≡ nothing → ReadBy image made (length f - 2) parts (Err (Uncovered i))
       none_here = read_none image made (length f - 2) ahead parts count i g h
 
-    pub done : length f - 2 < i → ReadBy image made (length f - 2) parts (Rules count)
+    pub done : length f - 2 < i → ReadBy image made (length f - 2) parts (Ok count)
     done = read_end image made (length f - 2) ahead parts count i g

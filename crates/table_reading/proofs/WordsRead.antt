@@ -1,6 +1,7 @@
 -- Reading the words of a name by their remembered states, one word after another: what one word gives, and the loop over the words
 -- (reading/proofs/NameReading), for any list and reading that the memory tells of.
 -- Assumes nothing.
+use Rattle.std.specs.Prelude.{Err, Ok, Result}
 use Prim.Native.Nat.{ℕ, suc, ◌+◌, ◌-◌, ◌*◌, ◌≤◌, ◌<◌}
 use native.Mathlib.Omega.{arith}
 use native.Mathlib.Decide.{dec_le}
@@ -13,12 +14,12 @@ use Rattle.rules.specs.Limits.{max_name}
 use Rattle.rules.specs.Names.{SoundName}
 use Rattle.exceptions.specs.Judging.{says_of}
 use Rattle.image.specs.Image.{valid}
-use Rattle.fitting.specs.Fitting.{Str, frame}
+use Rattle.fitting.specs.Fitting.{Str}
 use Rattle.fitting.specs.Reading.{Choice, Reading, read_from}
 use Rattle.speech.specs.Words.{word, read_word, frame_of, word_at, end_at, Starts, WordOf}
 use Rattle.speech.specs.Places.{EndsBy, Placed, ReadBy, parts_at, frame_size, ReadOn, ended_in}
-use Rattle.speech.specs.declared.Reached.{Reached}
-use Rattle.speech.specs.declared.Reached.TheVariants.{Rules, Uncovered, BadTables}
+use Rattle.speech.specs.declared.Unread.{Unread}
+use Rattle.speech.specs.declared.Unread.TheVariants.{Uncovered, BadTables}
 use Rattle.reading.proofs.NameWords.{end_most, starts_first, starts_next, word_long}
 use Rattle.reading.proofs.NameReading.{WordsRead, words_read_begin, words_read_next, words_read_stop, words_read_end}
 use Rattle.reading.proofs.WordReading.{part_frame, part_long, listed_part, read_part}
@@ -27,10 +28,10 @@ use Rattle.table_reading.specs.Letters.{choices_by, Bounded, suffix, between, Wo
 
 -- ---- one word
 
-pub word-listed : (image : List ℕ) (choose : ℕ → Choice) (n count b part : ℕ) (ps : List ℕ) → 0 < part → WordRead image choose n count b part ps (set ps count part) (Rules (count + 1))
+pub word-listed : (image : List ℕ) (choose : ℕ → Choice) (n count b part : ℕ) (ps : List ℕ) → 0 < part → WordRead image choose n count b part ps (set ps count part) (Ok (count + 1))
 word-listed image choose n count b part ps h = record { sized = length-set ps count part; listed = λ u. (refl, refl); read = λ z. absurd (omega arith) }
 
-pub word_letters : (image : List ℕ) (choose : ℕ → Choice) (n count b part : ℕ) (ps ps₂ ps' : List ℕ) (reached r : Reached) → part ≡ 0 → ps' ≡ take count ps ++ ps₂ → length ps' ≡ length ps
+pub word_letters : (image : List ℕ) (choose : ℕ → Choice) (n count b part : ℕ) (ps ps₂ ps' : List ℕ) (reached r : Result ℕ Unread) → part ≡ 0 → ps' ≡ take count ps ++ ps₂ → length ps' ≡ length ps
     → ReadBy image choose n ps₂ reached → r ≡ ended_in count b reached → WordRead image choose n count b part ps ps' r
 word_letters image choose n count b part ps ps₂ ps' reached r z laid long by ended = record {
   sized = long;
@@ -56,7 +57,7 @@ module _ (image ss : List ℕ) (base : ℕ) (name : Str) (found left right : Lis
     pub started : b ≤ length name → Starts name b
     pub whole : (list : List ℕ) (read : Str → Reading) → Tells image ss base name found left right list read → WordsRead image list (says_of list) read name ps count b
 
-  pub few_so_far : (ps : List ℕ) (count b : ℕ) → NameGoing ps count b → FewParts name (Rules count)
+  pub few_so_far : (ps : List ℕ) (count b : ℕ) → NameGoing ps count b → FewParts name (Ok count)
   few_so_far ps count b s k q = let x : count ≡ k = cc in omega (arith, s.few, s.near)
 
   pub name_begin : (ps : List ℕ) → length ps ≡ frame_size → NameGoing ps 0 0
@@ -94,7 +95,7 @@ module _ (image ss : List ℕ) (base : ℕ) (name : Str) (found left right : Lis
             subst (λ (q : ℕ). base + set_size * q + set_size ≤ length ss) (sym (ap (λ (l : List ℕ). get_or l k 0) (suffix_is b right) ∙ get_or-drop b right k 0)) (held b h (s.started h) z k low (omega (arith, long))).1;
       }
 
-      module _ (ps' : List ℕ) (r : Reached)
+      module _ (ps' : List ℕ) (r : Result ℕ Unread)
           (o : WordRead image (choices_by image ss base (suffix b left) (suffix b right) g) (length g - 2) count b (get_or found b 0) ps ps' r) where
         near_name : b ≤ max_name
         near_name = omega (arith, sound.short)
@@ -120,24 +121,24 @@ module _ (image ss : List ℕ) (base : ℕ) (name : Str) (found left right : Lis
             by_list u =
                 let q = o.listed u in
                 let so = (s.whole list read t).so_far in
-                subst (λ (x : Reached). ReadOn image list (parts_at image list (take count ps)) (read_word (says_of list) read (word b w)) e ps' x) (sym q.1)
-                (subst (λ (x : List ℕ). ReadOn image list (parts_at image list (take count ps)) (read_word (says_of list) read (word b w)) e x (Rules (count + 1))) (sym q.0)
+                subst (λ (x : Result ℕ Unread). ReadOn image list (parts_at image list (take count ps)) (read_word (says_of list) read (word b w)) e ps' x) (sym q.1)
+                (subst (λ (x : List ℕ). ReadOn image list (parts_at image list (take count ps)) (read_word (says_of list) read (word b w)) e x (Ok (count + 1))) (sym q.0)
                 (listed_part image list ps count b so near_name w e is read (get_or found b 0) u (t.parts b h (s.started h))))
 
             by : Dec (get_or found b 0 ≤ 0) → ReadOn image list (parts_at image list (take count ps)) (read_word (says_of list) read (word b w)) e ps' r
             by (yes y) = by_letters (omega arith)
             by (no y) = by_list (omega arith)
 
-        few_parts : (k : ℕ) → r ≡ Rules k → Dec (get_or found b 0 ≤ 0) → k ≤ e
-        few_parts k q (no y) = let z : Rules (count + 1) ≡ Rules k = sym (o.listed (omega arith)).1 ∙ q in let x : count + 1 ≡ k = cc in omega (arith, s.few)
+        few_parts : (k : ℕ) → r ≡ Ok k → Dec (get_or found b 0 ≤ 0) → k ≤ e
+        few_parts k q (no y) = let z : Ok (count + 1) ≡ Ok k = sym (o.listed (omega arith)).1 ∙ q in let x : count + 1 ≡ k = cc in omega (arith, s.few)
         few_parts k q (yes y) = let z = o.read (omega arith) in ended_few z.reached z.by.placed.few (sym z.ended ∙ q)
           where
-            ended_few : (x : Reached) → EndsBy (length g - 2) x → ended_in count b x ≡ Rules k → k ≤ e
-            ended_few (Rules j) u v = let x : count + j ≡ k = cc in omega (arith, s.few, long)
-            ended_few (Uncovered i) u v = let x : ◌≡◌ {A = ℕ} 0 1 = cc in absurd (omega arith)
-            ended_few BadTables u v = let x : ◌≡◌ {A = ℕ} 0 1 = cc in absurd (omega arith)
+            ended_few : (x : Result ℕ Unread) → EndsBy (length g - 2) x → ended_in count b x ≡ Ok k → k ≤ e
+            ended_few (Ok j) u v = let x : count + j ≡ k = cc in omega (arith, s.few, long)
+            ended_few (Err (Uncovered i)) u v = let x : ◌≡◌ {A = ℕ} 0 1 = cc in absurd (omega arith)
+            ended_few (Err BadTables) u v = let x : ◌≡◌ {A = ℕ} 0 1 = cc in absurd (omega arith)
 
-        pub name-next : (k : ℕ) → r ≡ Rules k → NameGoing ps' k e
+        pub name-next : (k : ℕ) → r ≡ Ok k → NameGoing ps' k e
         name-next k q = record {
           sized = o.sized ∙ s.sized;
           few = few_parts k q (dec_le (get_or found b 0) 0);
@@ -146,8 +147,8 @@ module _ (image ss : List ℕ) (base : ℕ) (name : Str) (found left right : Lis
           whole = λ list read t. words_read_next image list (says_of list) read name ps count b (s.whole list read t) h e is ps' r (read_on list read t) k q;
         }
 
-        pub name_stop : ((k : ℕ) → r ≡ Rules k → ⊥) → NameRead image ss base name found left right ps' r
+        pub name_stop : ((k : ℕ) → r ≡ Ok k → ⊥) → NameRead image ss base name found left right ps' r
         name_stop never = λ list read t. words_read_stop image list (says_of list) read name ps count b (s.whole list read t) h e is ps' r (read_on list read t) sound never
 
-    pub name-end : length name < b → NameRead image ss base name found left right ps (Rules count)
+    pub name-end : length name < b → NameRead image ss base name found left right ps (Ok count)
     name-end h = λ list read t. words_read_end image list (says_of list) read name ps count b (s.whole list read t) sound h

@@ -12,14 +12,7 @@ ghost use Rattle.speech.specs.Places.{frame_size, ReadBy};
 ghost use Rattle.tables.specs.Words.{set_size};
 ghost use Rattle.table_reading.specs.Letters.{found_of, lowest_shared, count_shared, choice_by, Chooses, choices_by, Bounded, suffix, between, WordRead, Held, NameRead, FewParts};
 
-use speech::Reached;
-
-// The lowest place that two sets share.
-#[derive(Clone, Copy)]
-enum Found {
-    Place(usize),
-    Empty,
-}
+use speech::Unread;
 
 // The most literal rules for which the first word that shares a place ends the search: their places lie in at most five words. Chosen by measurement:
 // real rulesets (the largest measured has 314 literal rules) lead to the same words again and again, which a processor guesses; among many rules
@@ -27,31 +20,27 @@ enum Found {
 const EARLY_EXIT_RULES: usize = 64 * 5;
 
 // The lowest set bit of the eight words in which the sets from `s` and from `t` on meet, word by word up to the first that has one.
-fn lowest_from(sets: &[u64], s: usize, t: usize) -> Found
+fn lowest_from(sets: &[u64], s: usize, t: usize) -> Option<usize>
     requires { (s + set_size ≤ length sets.now) × (t + set_size ≤ length sets.now) }
     ensures { result ≡ found_of (lowest_shared sets.now s t) }
 {
-    let mut j: usize = 0;
-    while j < tables::SET {
+    for j in 0..tables::SET {
         let x = sets[s + j] & sets[t + j];
         let z = u64::trailing_zeros(x) as usize;
         if z < 64 {
-            return Found::Place(64 * j + z);
+            return Some(64 * j + z);
         }
-        j += 1;
     }
-    Found::Empty
+    None
 }
 
 // The same from the last word down, all words looked at: `k` is the lowest from `j` on that has a bit set, `tables::SET` where none has.
-fn lowest_of_all(sets: &[u64], s: usize, t: usize) -> Found
+fn lowest_of_all(sets: &[u64], s: usize, t: usize) -> Option<usize>
     requires { (s + set_size ≤ length sets.now) × (t + set_size ≤ length sets.now) }
     ensures { result ≡ found_of (lowest_shared sets.now s t) }
 {
     let mut k: usize = tables::SET;
-    let mut j: usize = tables::SET;
-    while 0 < j {
-        j -= 1;
+    for j in (0..tables::SET).rev() {
         let x = sets[s + j] & sets[t + j];
         if u64::trailing_zeros(x) < 64 {
             k = j;
@@ -60,13 +49,13 @@ fn lowest_of_all(sets: &[u64], s: usize, t: usize) -> Found
     if k < tables::SET {
         let y = sets[s + k] & sets[t + k];
         let z = u64::trailing_zeros(y) as usize;
-        return Found::Place(64 * k + z);
+        return Some(64 * k + z);
     }
-    Found::Empty
+    None
 }
 
 // The lowest place that the sets from `s` and from `t` on share, of `total` literal rules.
-fn lowest_place(sets: &[u64], s: usize, t: usize, total: usize) -> Found
+fn lowest_place(sets: &[u64], s: usize, t: usize, total: usize) -> Option<usize>
     requires { (s + set_size ≤ length sets.now) × (t + set_size ≤ length sets.now) }
     ensures { result ≡ found_of (lowest_shared sets.now s t) }
 {
@@ -90,22 +79,23 @@ fn count_shared(sets: &[u64], s: usize, t: usize) -> usize
     ensures { (result ≡ count_shared sets.now s t) × (result ≤ max_rules) }
 {
     let mut count: usize = 0;
-    let mut j: usize = 0;
-    while j < tables::SET {
+    for j in 0..tables::SET {
         count += shared_in(sets, s + j, t + j);
-        j += 1;
     }
     count
 }
 
-// What is found at a reached letter: the place of the numbered rule to apply, how many literal rules fit and where reading goes on; none; or tables
-// that are unusable.
+// What is chosen at a reached letter: the place of the numbered rule to apply, how many literal rules fit and where reading goes on.
 #[derive(Clone, Copy)]
-enum Chosen {
-    Rule(usize, usize, usize),
-    Nothing,
-    Unusable,
+struct Chosen {
+    rule: usize,
+    fitting: usize,
+    next: usize,
 }
+
+// Tables whose sets tell of a literal rule that is not in the list, or does not fit.
+#[derive(Clone, Copy)]
+struct Unusable;
 
 // The choice at position `i`: the literal rule of lowest place, which must be in the list and fit. It is told by the place of its numbered
 // rule.
@@ -117,23 +107,26 @@ fn choose(
     total: usize,
     frame: &[u8],
     i: usize,
-) -> Chosen
+) -> Result<Option<Chosen>, Unusable>
     requires { (s + set_size ≤ length sets.now) × (t + set_size ≤ length sets.now) × (valid image.now ≡ true) × (total ≡ total_of image.now) × (1 ≤ i) × (i < length frame.now) }
     ensures { Chooses image.now (choice_by image.now sets.now s t frame.now i) i result }
 {
-    let found = lowest_place(sets, s, t, total);
-    let Found::Place(place) = found else {
-        return Chosen::Nothing;
+    let Some(place) = lowest_place(sets, s, t, total) else {
+        return Ok(None);
     };
     if total <= place {
-        return Chosen::Unusable;
+        return Err(Unusable);
     }
     let end = literals::place_end(image, place, frame, i);
     if end == 0 {
-        return Chosen::Unusable;
+        return Err(Unusable);
     }
     let rule = image::table::owner_at(image, place);
-    Chosen::Rule(rule, count_shared(sets, s, t), end)
+    Ok(Some(Chosen {
+        rule,
+        fitting: count_shared(sets, s, t),
+        next: end,
+    }))
 }
 
 // At each reached letter the rule chosen by its two remembered states is applied, and reading goes on after its target.
@@ -145,7 +138,7 @@ fn read_letters(
     left: &[u16],
     right: &[u16],
     parts: &mut [u32],
-) -> Reached
+) -> Result<usize, Unread>
     requires { (valid image.now ≡ true) × (2 ≤ length frame.now) × (length frame.now ≤ frame_size) × Bounded (length sets.now) right_sets (length frame.now - 2) left.now right.now × (length frame.now - 2 ≤ length parts.old) }
     ensures { ReadBy image.now (choices_by image.now sets.now right_sets left.now right.now frame.now) (length frame.now - 2) parts.new result }
 {
@@ -156,18 +149,17 @@ fn read_letters(
     while i < end {
         let s = tables::SET * numbers::wide16(left[i]);
         let t = right_sets + tables::SET * numbers::wide16(right[i]);
-        let choice = choose(sets, s, t, image, total, frame, i);
-        if let Chosen::Unusable = choice {
-            return Reached::BadTables;
-        }
-        let Chosen::Rule(rule, fitting, next) = choice else {
-            return Reached::Uncovered(i);
+        let Ok(choice) = choose(sets, s, t, image, total, frame, i) else {
+            return Err(Unread::BadTables);
         };
-        parts[count] = speech::part_of(rule, fitting);
+        let Some(chosen) = choice else {
+            return Err(Unread::Uncovered(i));
+        };
+        parts[count] = speech::part_of(chosen.rule, chosen.fitting);
         count += 1;
-        i = next;
+        i = chosen.next;
     }
-    Reached::Rules(count)
+    Ok(count)
 }
 
 // One word more, after `count` parts: the part that the list gives for it, or the rules chosen for its letters.
@@ -183,13 +175,13 @@ fn read_word(
     right: &[u16],
     parts: &mut [u32],
     count: usize,
-) -> Reached
+) -> Result<usize, Unread>
     requires { (valid image.now ≡ true) × (from < end) × (end + 1 ≤ length frame.now) × (length frame.now ≤ frame_size) × (part ≡ 0 → Bounded (length sets.now) right_sets (length (between from (end + 1) frame.now) - 2) (suffix from left.now) (suffix from right.now)) × (length left.now ≡ frame_size) × (length right.now ≡ frame_size) × (length parts.old ≡ frame_size) × (count ≤ from) }
     ensures { WordRead image.now (choices_by image.now sets.now right_sets (suffix from left.now) (suffix from right.now) (between from (end + 1) frame.now)) (length (between from (end + 1) frame.now) - 2) count from part parts.old parts.new result }
 {
     if part != 0 {
         parts[count] = part as u32;
-        return Reached::Rules(count + 1);
+        return Ok(count + 1);
     }
     let read = read_letters(
         sets,
@@ -214,7 +206,7 @@ pub fn read_words(
     left: &[u16],
     right: &[u16],
     parts: &mut [u32],
-) -> Reached
+) -> Result<usize, Unread>
     requires { (valid image.now ≡ true) × SoundName name.now × (frame.now ≡ frame_of name.now) × (length found.now ≡ frame_size) × (length left.now ≡ frame_size) × (length right.now ≡ frame_size) × Held (length sets.now) right_sets name.now found.now left.now right.now × (length parts.old ≡ frame_size) }
     ensures few { FewParts name.now result }
     ensures read { NameRead image.now sets.now right_sets name.now found.now left.now right.now parts.new result }
@@ -223,7 +215,7 @@ pub fn read_words(
     let mut from = 0;
     while from <= name.len() {
         let end = reading::words::word_end(name, from);
-        let read = read_word(
+        count = read_word(
             sets,
             right_sets,
             image,
@@ -235,12 +227,8 @@ pub fn read_words(
             right,
             &mut *parts,
             count,
-        );
-        let Reached::Rules(k) = read else {
-            return read;
-        };
-        count = k;
+        )?;
         from = end;
     }
-    Reached::Rules(count)
+    Ok(count)
 }

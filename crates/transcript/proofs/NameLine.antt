@@ -3,9 +3,10 @@
 use Prim.Native.Nat.{ℕ, ◌+◌, ◌-◌, ◌≤◌, ◌<◌}
 use mathlib.Core.Path.{◌≡◌, refl, sym, ap, ap₂, ◌∙◌}
 use mathlib.Core.List.{List, [], ◌∷◌}
-use mathlib.Core.Bool.{Bool, true, false, not, cond}
+use mathlib.Core.Bool.{Bool, true, false, cond}
 use native.Mathlib.Omega.{arith}
-use borrow.Author.Tests.{ne_eqb, ltb-true, ltb-false}
+use borrow.Author.Tests.{ltb-true, ltb-false}
+use Rattle.std.specs.Prelude.{Some, None, min}
 use lib.Dec.{eqb, ltb}
 use lib.ListN.{length, get_or, take, drop, length-drop}
 use lib.Seq.{take_all, take-take, take-append-le, drop-append-le, length-take-le}
@@ -51,15 +52,14 @@ long_letters f h = sym (take-take 65 (length f - 2) (drop 1 f) (omega arith))
 
 -- ---- the line that was read
 
-module _ (text : List ℕ) (at : ℕ) (line : Line) (xs z : List ℕ)
-    (e : line ≡ report (length text) (sound_line (drop at text)))
+module _ (text : List ℕ) (at : ℕ) (xs z : List ℕ)
     (h : z ≡ over (take (length xs) (decoded (drop at text))) xs) (n : length xs ≡ 67) where
-  pub name_in_bad : line.sound ≡ false → name_in 0 z ≡ cut (asked (sound_line (drop at text)))
-  name_in_bad s = sym (ap (λ (l : Parsed). cut (asked l)) (not_found text at line e s))
+  pub name_in_bad : None ≡ report (length text) (sound_line (drop at text)) → name_in None z ≡ cut (asked (sound_line (drop at text)))
+  name_in_bad e = sym (ap (λ (l : Parsed). cut (asked l)) (not_found text at e))
 
-  module _ (s : line.sound ≡ true) where
+  module _ (line : Line) (e : Some line ≡ report (length text) (sound_line (drop at text))) where
     g : Found text at line
-    g = found text at line e s
+    g = found text at line e
 
     two : 2 ≤ length g.f
     two = (sound_was (drop at text) g.f g.rest g.is).two
@@ -73,34 +73,32 @@ module _ (text : List ℕ) (at : ℕ) (line : Line) (xs z : List ℕ)
     said : cut (asked (sound_line (drop at text))) ≡ cut (cond (eqb (get_or z 0 0) 3) (name (letters_in g.f)) unsound)
     said = ap (λ (l : Parsed). cut (asked l)) g.is ∙ ap (λ (k : ℕ). cut (cond (eqb k 3) (name (letters_in g.f)) unsound)) (sym first)
 
-    pub name_in_other : eqb (get_or z 0 0) 3 ≡ false → name_in 0 z ≡ cut (asked (sound_line (drop at text)))
+    pub name_in_other : eqb (get_or z 0 0) 3 ≡ false → name_in None z ≡ cut (asked (sound_line (drop at text)))
     name_in_other o = sym (said ∙ ap (λ (b : Bool). cut (cond b (name (letters_in g.f)) unsound)) o)
 
     module _ (o : eqb (get_or z 0 0) 3 ≡ true) where
       named : cut (asked (sound_line (drop at text))) ≡ name (take 65 (letters_in g.f))
       named = said ∙ ap (λ (b : Bool). cut (cond b (name (letters_in g.f)) unsound)) o
 
-      pub name_in_long : 67 < line.len → name_in 66 z ≡ cut (asked (sound_line (drop at text)))
-      name_in_long l =
+      long : 67 < line.len → name_in (Some 66) z ≡ cut (asked (sound_line (drop at text)))
+      long l =
           let m = g.many in
           ap (λ (w : List ℕ). name (take 65 (drop 1 w))) held
           ∙ (ap name (letters_kept g.f xs 65 (omega arith) (omega arith) ∙ long_letters g.f (omega arith)) ∙ sym named)
 
-      pub name_in_short : line.len ≤ 67 → name_in (line.len - 1) z ≡ cut (asked (sound_line (drop at text)))
-      name_in_short l =
+      short : line.len ≤ 67 → name_in (Some (line.len - 1)) z ≡ cut (asked (sound_line (drop at text)))
+      short l =
           let m = g.many in
           let k : line.len - 1 - 1 ≡ length g.f - 2 = omega (arith, two) in
-          ap (λ (b : Bool). cond b unsound (name (take (line.len - 1 - 1) (drop 1 z)))) (ne_eqb (line.len - 1) 0 (omega (arith, two)))
-          ∙ (ap₂ (λ (i : ℕ) (w : List ℕ). name (take i (drop 1 w))) k held
-          ∙ (ap name (letters_kept g.f xs (length g.f - 2) (omega (arith, two)) (omega arith) ∙ short_letters g.f two (omega arith)) ∙ sym named))
+          ap₂ (λ (i : ℕ) (w : List ℕ). name (take i (drop 1 w))) k held
+          ∙ (ap name (letters_kept g.f xs (length g.f - 2) (omega (arith, two)) (omega arith) ∙ short_letters g.f two (omega arith)) ∙ sym named)
+
+      -- up to 67 bytes of its frame are kept
+      pub name_in_kept : (b : ℕ) → b ≡ min line.len 67 → name_in (Some (b - 1)) z ≡ cut (asked (sound_line (drop at text)))
+      name_in_kept b q =
+          by_bool (ltb 67 line.len)
+          (λ t. let u = ltb-true 67 line.len t in let v : b - 1 ≡ 66 = omega arith in ap (λ (i : ℕ). name_in (Some i) z) v ∙ long u)
+          (λ t. let u = ltb-false 67 line.len t in let v : b - 1 ≡ line.len - 1 = omega arith in ap (λ (i : ℕ). name_in (Some i) z) v ∙ short u)
 
       pub some : 2 ≤ line.len
       some = omega (arith, two, g.many)
-
-pub wrong : (b : Bool) → not b ≡ true → b ≡ false
-wrong true h = sym h
-wrong false h = refl
-
-pub right : (b : Bool) → not b ≡ false → b ≡ true
-right true h = refl
-right false h = sym h

@@ -1,13 +1,14 @@
 -- What `say` answers to a name: one over 64 letters is answered as its first 65 are.
 -- Assumes nothing.
-use Prim.Native.Nat.{ℕ, ◌-◌, ◌<◌}
+use Prim.Native.Nat.{ℕ}
 use mathlib.Core.Path.{◌≡◌, refl, sym, ap, ◌∙◌, subst}
 use mathlib.Core.List.{List, []}
-use mathlib.Core.Bool.{Bool, true, false, cond}
+use mathlib.Core.Bool.{true, false}
 use native.Mathlib.Omega.{arith}
-use borrow.Author.Tests.{leb-true, leb-false, lt-leb, ne_eqb}
+use borrow.Author.Tests.{leb-true, leb-false, lt-leb}
+use Rattle.std.specs.Prelude.{Option}
 use lib.Dec.{leb}
-use lib.ListN.{length, take, drop}
+use lib.ListN.{length, take}
 use lib.Seq.{take_all, length-take-le}
 use Rattle.rules.proofs.Cases.{by_bool}
 use Rattle.rules.proofs.Names.{name_long}
@@ -19,7 +20,7 @@ use Rattle.speech.specs.Speech.{Outcome, at_once, Told, saying}
 use Rattle.speech.proofs.Call.{call_refused}
 use Rattle.tables.specs.Words.{compiled_from}
 use Rattle.tables.specs.Walk.{Walked, walkedAs, walk_through, walk_for, walk_said}
-use Rattle.lines.specs.Printed.{refused_body, printed}
+use Rattle.lines.specs.Printed.{printed}
 use Rattle.answer_lines.specs.Answers.{told_body, walked_line, ToldWithin}
 use Rattle.answer_lines.proofs.Told.{walk_within}
 use Rattle.transcript.specs.Names.{Asked, unsound, name, lent_phones, lent_numbers, name_line, asked, answer_to, name_answer, cut, name_in}
@@ -60,14 +61,7 @@ module _ (image words sets letters : List ℕ) (told : Told) (steps : ℕ) (phon
 
 -- ---- what was found in a line, answered
 
-module _ (image words sets s kept : List ℕ) (end : ℕ) (v : valid image ≡ true) (h : name_in end kept ≡ cut (asked (sound_line s))) where
-  by_name_ind : answer_to image words sets (name_in end kept) ≡ name_answer image words sets s
+module _ (image words sets s kept : List ℕ) (v : valid image ≡ true) (end : Option ℕ) (h : name_in end kept ≡ cut (asked (sound_line s))) where
+  pub answered : answer_to image words sets (name_in end kept) ≡ name_answer image words sets s
   unfolding name_answer
-  by_name_ind = ap (answer_to image words sets) h ∙ cut_answer image words sets (asked (sound_line s)) v
-
-  pub answered_none : end ≡ 0 → printed (refused_body 13 0) ≡ name_answer image words sets s
-  answered_none e = ap (λ (n : ℕ). answer_to image words sets (name_in n kept)) (sym e) ∙ by_name_ind
-
-  pub answered_name : 0 < end → name_line image words sets (take (end - 1) (drop 1 kept)) ≡ name_answer image words sets s
-  answered_name e =
-      ap (λ (b : Bool). answer_to image words sets (cond b unsound (name (take (end - 1) (drop 1 kept))))) (sym (ne_eqb end 0 (omega arith))) ∙ by_name_ind
+  answered = ap (answer_to image words sets) h ∙ cut_answer image words sets (asked (sound_line s)) v

@@ -1,6 +1,6 @@
 -- What `say` prints for the line of a name (document 01, "The six rules").
 -- Assumes nothing.
-use Rattle.std.specs.Prelude.{cond, ℕ, ◌-◌, List, eqb, length, get_or, take, drop, replicate}
+use Rattle.std.specs.Prelude.{cond, ℕ, ◌-◌, List, Option, Some, None, eqb, length, get_or, take, drop, replicate}
 use Rattle.exceptions.specs.Judging.{no_list}
 use Rattle.frames.specs.Lines.{Parsed, sound_line}
 use Rattle.frames.specs.Lines.Parsed.{Bad, Good}
@@ -48,6 +48,7 @@ abbrev pub cut : Asked → Asked
 cut unsound = unsound
 cut (name letters) = name (take 65 letters)
 
--- what stands in a frame that was read, its letters ending before `end`; 0 for no name
-abbrev pub name_in : ℕ → List ℕ → Asked
-name_in end frame = cond (eqb end 0) unsound (name (take (end - 1) (drop 1 frame)))
+-- what stands in a frame that was read, its letters ending before `end`, if it has a name
+abbrev pub name_in : Option ℕ → List ℕ → Asked
+name_in None frame = unsound
+name_in (Some end) frame = name (take (end - 1) (drop 1 frame))

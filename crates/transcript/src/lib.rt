@@ -1,7 +1,7 @@
 // What `say` answers: a name's line in and its answer's line out (document 01, "The six rules").
 #![tactic(auto)]
 
-ghost use Rattle.std.specs.Prelude.{◌≡◌, true, ◌≤◌, length, drop};
+ghost use Rattle.std.specs.Prelude.{◌≡◌, true, ◌≤◌, IfSome, length, drop};
 ghost use Rattle.rules.specs.Memory.{over};
 ghost use Rattle.frames.specs.Lines.{sound_line, line_after};
 ghost use Rattle.image.specs.Image.{valid};
@@ -9,7 +9,7 @@ ghost use Rattle.lines.specs.Printed.{printed};
 ghost use Rattle.answer_lines.specs.Answers.{longest_line};
 ghost use Rattle.transcript.specs.Names.{asked, name_line, name_answer, cut, name_in};
 
-use rules::{Answer, Refusal};
+use rules::Refusal;
 
 // ---- names
 
@@ -25,25 +25,18 @@ fn speak<'a>(image: &[u8], words: &'a [u16], sets: &'a [u64], name: &[u8], out: 
     answer_lines::answer_line(answer, &phones, &numbers, out)
 }
 
-// The frame of the line at a place: where its letters end, which start at 1; 0 if it is unsound or does not start with 03. Of a longer frame,
-// whose name is over 64 letters, 65 letters are kept.
-fn name_in(text: &[u8], at: usize, frame: &mut [u8]) -> usize
+// The frame of the line at a place: where its letters end, which start at 1; none if it is unsound or does not start with 03. Of a longer
+// frame, whose name is over 64 letters, 65 letters are kept.
+fn name_in(text: &[u8], at: usize, frame: &mut [u8]) -> Option<usize>
     requires { length frame.old ≡ 67 }
-    ensures end { result ≤ 66 }
+    ensures end { IfSome result (λ end. (1 ≤ end) × (end ≤ 66)) }
     ensures name { name_in result frame.new ≡ cut (asked (sound_line (drop at text.now))) }
 {
-    let line = frames::read_line(text, at, &mut *frame);
-    if !line.sound {
-        return 0;
-    }
+    let line = frames::read_line(text, at, &mut *frame)?;
     if frame[0] != 3 {
-        return 0;
+        return None;
     }
-    let n = line.len;
-    if 67 < n {
-        return 66;
-    }
-    n - 1
+    Some(line.len.min(67) - 1)
 }
 
 // The answer to a line: where the next line starts, and the length of what is to be printed.
@@ -69,11 +62,10 @@ pub fn answer_name<'a>(
 {
     let next = frames::next_line(text, at);
     let mut frame = [0u8; 67];
-    let end = name_in(text, at, &mut frame);
-    if end == 0 {
+    let Some(end) = name_in(text, at, &mut frame) else {
         let len = lines::refusal_line(Refusal::BadLine(0), out);
         return Answered { next, len };
-    }
+    };
     let len = speak(image, words, sets, &frame[1..end], out);
     Answered { next, len }
 }

@@ -5,11 +5,12 @@ use native.Mathlib.Omega.{arith}
 use mathlib.Core.Path.{◌≡◌, refl, sym, ap, ap₂, ◌∙◌}
 use mathlib.Core.Bool.{Bool, true, false, cond, not, ◌&&◌, true≢false}
 use mathlib.Core.List.{List, [], ◌∷◌, reverse}
-use mathlib.Core.Option.{Option}
+use mathlib.Core.Option.{Option as Maybe}
 use lib.Dec.{ltb, leb, eqb}
 use lib.ListN.{length, get_or, take, drop}
 use lib.Seq.{get_or-drop}
-use borrow.Author.Tests.{ltb-false, ltb-true, leb-true, le-leb, lt-ltb}
+use borrow.Author.Tests.{ltb-false, ltb-true, leb-true}
+use Rattle.std.specs.Prelude.{Option, is_some, unwrap_or, Err, Ok, Result}
 use Rattle.rules.proofs.Cases.{by_bool, and_l, and_r}
 use Rattle.rules.specs.Names.{SoundName}
 use Rattle.exceptions.specs.Judging.{says_of}
@@ -20,8 +21,8 @@ use Rattle.fitting.specs.Reading.{Choice, chosen, nothing, unusable, applied, Re
 use Rattle.speech.specs.Words.{Word, words_in, read_words, unlisted, word_at}
 use Rattle.speech.specs.Speech.{Outcome, at_once, steps_of, answered, judged_by, Said, delivered, saying, told_of}
 use Rattle.speech.specs.Places.{frame_size, parts_reading, Parted}
-use Rattle.speech.specs.declared.Reached.{Reached}
-use Rattle.speech.specs.declared.Reached.TheVariants.{Rules, Uncovered, BadTables}
+use Rattle.speech.specs.declared.Unread.{Unread}
+use Rattle.speech.specs.declared.Unread.TheVariants.{Uncovered, BadTables}
 use Rattle.reading.proofs.Loop.{after_none}
 use Rattle.tables.specs.Tables.{Table}
 use Rattle.tables.specs.Words.{head_words, edits_in, set_size, right_rows, right_sets, needed_words, needed_sets, table_at, Compiled, left_of, right_of}
@@ -33,17 +34,16 @@ use Rattle.tables.proofs.Steps.{carried_alone}
 use Rattle.passes.specs.Passes.{rows_at, left_rows_of, right_rows_of, Memory, passable, AllPassed}
 use Rattle.table_reading.specs.Letters.{lowest_shared, count_shared, choice_by, choices_by, Held, Tells, NameRead}
 use Rattle.walk.specs.Walked.{walked_of, compiled_with, steps_with, Fit, verdict, FitsAs}
-use Rattle.passes.specs.declared.Pass.{Pass}
 use Rattle.walk.specs.declared.WalkAnswer.{WalkAnswer}
 
 -- ---- the answer
 
-steps-are : (image list ps : List ℕ) (r : Reached) (steps : ℕ) → steps_with r steps ≡ steps_of (answered (parts_reading image list ps r) steps)
-steps-are image list ps (Rules k) steps = refl
-steps-are image list ps (Uncovered i) steps = refl
-steps-are image list ps BadTables steps = refl
+steps-are : (image list ps : List ℕ) (r : Result ℕ Unread) (steps : ℕ) → steps_with r steps ≡ steps_of (answered (parts_reading image list ps r) steps)
+steps-are image list ps (Ok k) steps = refl
+steps-are image list ps (Err (Uncovered i)) steps = refl
+steps-are image list ps (Err BadTables) steps = refl
 
-pub walked_answer : (image list ps : List ℕ) (reached : Reached) (steps : ℕ) (phones numbers phones' numbers' : List ℕ) (a : WalkAnswer)
+pub walked_answer : (image list ps : List ℕ) (reached : Result ℕ Unread) (steps : ℕ) (phones numbers phones' numbers' : List ℕ) (a : WalkAnswer)
     → a.steps ≡ steps_with reached steps
     → saying (told_of a.speech) phones' numbers' ≡ delivered (answered (parts_reading image list ps reached) 0) phones numbers
     → walked_of a phones' numbers' ≡ walkedAs (answered (parts_reading image list ps reached) steps) phones numbers
@@ -101,7 +101,7 @@ module _ (ws ss : List ℕ) (l r : ℕ) (f : List ℕ) (n : ℕ) where
       let y : get_or right i 0 ≡ (right_at tl tr f n i).state = b ∙ ap (λ (s : State). s.state) (right_same i) in
       let z : set_size * get_or left i 0 ≡ 0 + set_size * get_or left i 0 = omega arith in
       ap (λ (k : ℕ). lookup (λ e. fits e.rule f i) (count_shared ss k (right_sets l + set_size * get_or right i 0)) (literals_of image) (lowest_shared ss k (right_sets l + set_size * get_or right i 0))) z
-      ∙ (sym (ap₂ (λ (n : ℕ) (o : Option ℕ). lookup (λ e. fits e.rule f i) n (literals_of image) o)
+      ∙ (sym (ap₂ (λ (n : ℕ) (o : Maybe ℕ). lookup (λ e. fits e.rule f i) n (literals_of image) o)
       (shared_tables ws ws ss head_words 0 l (right_rows l) (right_sets l) r (get_or left i 0) (get_or right i 0))
       (choice_tables ws ws ss head_words 0 l (right_rows l) (right_sets l) r (get_or left i 0) (get_or right i 0)))
       ∙ ap₂
@@ -128,7 +128,7 @@ module _ (ws ss : List ℕ) (l r edits : ℕ) (fit stale : Bool) (fits-as : Fits
       (λ t. rw (fits-as.is, passes_usable t (v ∷ vs), t, fits-as.apart t))
       (λ t. rw (fits-as.is, t) (by_bool stale (λ u. rw u) (λ u. rw u)))
 
-module _ (image ws ss : List ℕ) (l r : ℕ) (fit stale : Bool) (fits-as : FitsAs ws ss l r (edits_of image) fit stale) (list : List ℕ) (name : Str) (sound : SoundName name) (m : Memory) (p : Pass)
+module _ (image ws ss : List ℕ) (l r : ℕ) (fit stale : Bool) (fits-as : FitsAs ws ss l r (edits_of image) fit stale) (list : List ℕ) (name : Str) (sound : SoundName name) (m : Memory) (p : Option ℕ)
     (a : AllPassed ws l r fit list name m p) where
   abbrev c : Compiled
   c = compiled_with ws ss l r
@@ -140,17 +140,17 @@ module _ (image ws ss : List ℕ) (l r : ℕ) (fit stale : Bool) (fits-as : Fits
   abbrev reads : Outcome
   reads = answered (read_words (says_of list) (walk_word c (literals_of image)) (words_in name)) (steps_over c unsaid)
 
-  through_by : (b : Bool) → p.usable ≡ b → walk_through c (edits_of image) (literals_of image) name (says_of list) ≡ judged_by (cond b accepted (verdict false stale)) reads
+  through_by : (b : Bool) → is_some p ≡ b → walk_through c (edits_of image) (literals_of image) name (says_of list) ≡ judged_by (cond b accepted (verdict false stale)) reads
   unfolding walk_through
   through_by b e = ap (λ (x : Reply). judged_by x reads) (passes_judged ws ss l r (edits_of image) fit stale fits-as unsaid ∙ ap (λ (t : Bool). cond t accepted (verdict false stale)) (sym a.usable ∙ e))
 
-  pub through-stale : p.usable ≡ false → stale ≡ true → at_once 22 0 ≡ walk_through c (edits_of image) (literals_of image) name (says_of list)
+  pub through-stale : is_some p ≡ false → stale ≡ true → at_once 22 0 ≡ walk_through c (edits_of image) (literals_of image) name (says_of list)
   through-stale e t = sym (through_by false e ∙ rw t)
 
-  pub through-unusable : p.usable ≡ false → stale ≡ false → at_once 16 0 ≡ walk_through c (edits_of image) (literals_of image) name (says_of list)
+  pub through-unusable : is_some p ≡ false → stale ≡ false → at_once 16 0 ≡ walk_through c (edits_of image) (literals_of image) name (says_of list)
   through-unusable e t = sym (through_by false e ∙ rw t)
 
-  module _ (e : p.usable ≡ true) (base : ℕ) (is : base ≡ cond fit (right_sets l) 0) where
+  module _ (e : is_some p ≡ true) (base : ℕ) (is : base ≡ cond fit (right_sets l) 0) where
     based : fit ≡ true → base ≡ right_sets l
     based t = is ∙ ap (λ (b : Bool). cond b (right_sets l) 0) t
 
@@ -169,14 +169,14 @@ module _ (image ws ss : List ℕ) (l r : ℕ) (fit stale : Bool) (fits-as : Fits
           (length w) 1 (omega arith);
     }
 
-    pub through_read : (ps : List ℕ) (x : Reached) → NameRead image ss base name m.found m.left m.right ps x
-        → answered (parts_reading image list ps x) p.steps ≡ walk_through c (edits_of image) (literals_of image) name (says_of list)
+    pub through_read : (ps : List ℕ) (x : Result ℕ Unread) → NameRead image ss base name m.found m.left m.right ps x
+        → answered (parts_reading image list ps x) (unwrap_or p 0) ≡ walk_through c (edits_of image) (literals_of image) name (says_of list)
     through_read ps x n =
         ap₂ answered ((n list (walk_word c (literals_of image)) tells).says ∙ after_none (read_words (says_of list) (walk_word c (literals_of image)) (words_in name)))
         (a.steps e ∙ (carried_alone (left_rows_of ws l) (right_rows_of ws l r) 0 unsaid ∙ sym (carried_alone (left_of c) (right_of c) 0 unsaid)))
         ∙ sym (through_by true e)
 
-    pub parts-read : (ps : List ℕ) (x : Reached) → NameRead image ss base name m.found m.left m.right ps x → Parted image list frame_size ps x
+    pub parts-read : (ps : List ℕ) (x : Result ℕ Unread) → NameRead image ss base name m.found m.left m.right ps x → Parted image list frame_size ps x
     parts-read ps x n = (n list (walk_word c (literals_of image)) tells).parted
 
     pub states-held : Held (length ss) base name m.found m.left m.right
@@ -194,12 +194,6 @@ pub count_differs : (ws : List ℕ) (edits high low e : ℕ) (long : Bool) → l
     → not (eqb (65536 * high + low) e) ≡ (long && not (eqb (edits_in ws) edits))
 count_differs ws edits high low e long t a b d = rw (t, a, b, d)
 
-pub none_pass : (long stale : Bool) → stale ≡ true → false ≡ (long && not stale)
-none_pass long stale t = rw t (by_bool long (λ u. rw u) (λ u. rw u))
-
-pub all_pass : (long stale : Bool) → stale ≡ false → long ≡ (long && not stale)
-all_pass long stale t = rw t (by_bool long (λ u. rw u) (λ u. rw u))
-
 module _ (ws ss : List ℕ) (l r : ℕ) where
   pub fit_true : lengths_fit (compiled_with ws ss l r) ≡ true → Fit (length ws) (length ss) l r
   fit_true e =
@@ -212,13 +206,6 @@ module _ (ws ss : List ℕ) (l r : ℕ) where
         rows = leb-true (needed_words l r) (length ws) (and_l _ _ c);
         sets-room = leb-true (needed_sets l r) (length ss) (and_r (leb (needed_words l r) (length ws)) _ c);
       }
-
-  pub fits_not : (Fit (length ws) (length ss) l r → ⊥) → false ≡ lengths_fit (compiled_with ws ss l r)
-  fits_not h = sym (by_bool (lengths_fit (compiled_with ws ss l r)) (λ e. absurd (h (fit_true e))) (λ e. e))
-
-  pub fits_so : Fit (length ws) (length ss) l r → true ≡ lengths_fit (compiled_with ws ss l r)
-  fits_so f =
-      rw (le-leb head_words (length ws) (omega (arith, f.rows)), lt-ltb 0 l f.left, lt-ltb 0 r f.right, le-leb (needed_words l r) (length ws) f.rows, le-leb (needed_sets l r) (length ss) f.sets-room)
 
   -- so the tests of the lengths and of the edit count say whether names can be sent through
   pub tests_fit : (edits : ℕ) (long stale fit : Bool) → long ≡ lengths_fit (compiled_with ws ss l r) → stale ≡ (long && not (eqb (edits_in ws) edits)) → fit ≡ (long && not stale)

@@ -1,10 +1,10 @@
 -- What the answer of a walk says, the compiled ruleset of lent slices, and the facts that the tests of its lengths and its edit count establish.
 -- Assumes nothing.
-use Rattle.std.specs.Prelude.{ℕ, ◌≤◌, ◌<◌, ◌≡◌, Bool, true, false, List, length}
+use Rattle.std.specs.Prelude.{ℕ, ◌≤◌, ◌<◌, ◌≡◌, Bool, true, false, List, length, Err, Ok, Result}
 use Rattle.rules.specs.Refusals.{Reply, accepted, declined}
 use Rattle.speech.specs.Speech.{told_of, saying}
-use Rattle.speech.specs.declared.Reached.{Reached}
-use Rattle.speech.specs.declared.Reached.TheVariants.{Rules, Uncovered, BadTables}
+use Rattle.speech.specs.declared.Unread.{Unread}
+use Rattle.speech.specs.declared.Unread.TheVariants.{Uncovered, BadTables}
 use Rattle.tables.specs.Words.{needed_words, needed_sets, Compiled}
 use Rattle.tables.specs.Walk.{judged_tables, Walked}
 use Rattle.walk.specs.declared.WalkAnswer.{WalkAnswer}
@@ -18,10 +18,10 @@ abbrev pub compiled_with : List ℕ → List ℕ → ℕ → ℕ → Compiled
 compiled_with ws ss l r = record { words = ws; sets = ss; «left-states» = l; «right-states» = r }
 
 -- the steps that go with how reading ended
-abbrev pub steps_with : Reached → ℕ → ℕ
-steps_with (Rules k) steps = steps
-steps_with (Uncovered i) steps = steps
-steps_with BadTables steps = 0
+abbrev pub steps_with : Result ℕ Unread → ℕ → ℕ
+steps_with (Ok k) steps = steps
+steps_with (Err (Uncovered i)) steps = steps
+steps_with (Err BadTables) steps = 0
 
 -- the lengths fit, as facts
 pub record Fit (words sets l r : ℕ) : Type 0 where

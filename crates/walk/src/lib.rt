@@ -12,31 +12,33 @@ ghost use Rattle.tables.specs.Walk.{lengths_fit, walk_through, walkedAs};
 ghost use Rattle.walk.specs.Walked.{walked_of, compiled_with, steps_with, FitsAs};
 
 use rules::Refusal;
-use speech::{Reached, Speech};
+use speech::{Spoken, Unread};
 
 // The answer of a walk: the entries looked up, and what was said.
 #[derive(Clone, Copy)]
 pub struct WalkAnswer {
     pub steps: usize,
-    pub speech: Speech,
+    pub speech: Result<Spoken, Refusal>,
 }
 
 // An answer before the tables are stepped through.
 pub fn at_once(x: Refusal) -> WalkAnswer
-    ensures { result ≡ record { steps = 0; speech = Speech.Refused x } }
+    ensures { result ≡ record { steps = 0; speech = Err x } }
 {
-    let speech = Speech::Refused(x);
-    WalkAnswer { steps: 0, speech }
+    WalkAnswer {
+        steps: 0,
+        speech: Err(x),
+    }
 }
 
 // The steps that go with how reading ended: none where the tables proved unusable.
-fn steps_with(reached: Reached, steps: usize) -> usize
+fn steps_with(reached: Result<usize, Unread>, steps: usize) -> usize
     ensures { result ≡ steps_with reached steps }
 {
     match reached {
-        Reached::Rules(_) => steps,
-        Reached::Uncovered(_) => steps,
-        Reached::BadTables => 0,
+        Ok(_) => steps,
+        Err(Unread::Uncovered(_)) => steps,
+        Err(Unread::BadTables) => 0,
     }
 }
 
@@ -73,7 +75,7 @@ fn walk_frame<'a>(
     let mut found = [0u16; reading::MAX_FRAME];
     let mut left = [0u16; reading::MAX_FRAME];
     let mut right = [0u16; reading::MAX_FRAME];
-    let passes = passes::run_words(
+    let Some(looked_up) = passes::run_words(
         words,
         left_states,
         right_states,
@@ -84,13 +86,12 @@ fn walk_frame<'a>(
         &mut found,
         &mut left,
         &mut right,
-    );
-    if !passes.usable {
+    ) else {
         if stale {
             return at_once(Refusal::StaleTables(0));
         }
         return at_once(Refusal::BadTables(0));
-    }
+    };
     let mut parts = [0u32; reading::MAX_FRAME];
     let reached = table_reading::read_words(
         sets,
@@ -103,25 +104,21 @@ fn walk_frame<'a>(
         &right,
         &mut parts,
     );
-    let steps = steps_with(reached, passes.steps);
+    let steps = steps_with(reached, looked_up);
     let speech = speech::answer(image, list, reached, &parts, phones, numbers);
     // Made anew from its numbers: copied whole, with its unused bytes, it took 5 ns more a name.
     match speech {
-        Speech::Spoken {
-            phones: p,
-            numbers: n,
-            contested: c,
-        } => WalkAnswer {
+        Ok(said) => WalkAnswer {
             steps,
-            speech: Speech::Spoken {
-                phones: p,
-                numbers: n,
-                contested: c,
-            },
+            speech: Ok(Spoken {
+                phones: said.phones,
+                numbers: said.numbers,
+                contested: said.contested,
+            }),
         },
-        Speech::Refused(x) => WalkAnswer {
+        Err(x) => WalkAnswer {
             steps,
-            speech: Speech::Refused(x),
+            speech: Err(x),
         },
     }
 }
@@ -214,10 +211,7 @@ pub fn other_count(words: &[u16], long: bool, edits: u32) -> bool
 pub fn can_pass(long: bool, stale: bool) -> bool
     ensures { result ≡ (long && not stale) }
 {
-    if stale {
-        return false;
-    }
-    long
+    long && !stale
 }
 
 // The walk of a sound name, which is not on the list, through lent tables with their state counts, for a caller that knows the image valid and

@@ -1,6 +1,6 @@
 -- `build::most_states` meets its contract: the lengths of the fields are summed over the literal rules.
 -- Assumes nothing.
-use Prim.Native.Nat.{◌+◌, ◌-◌}
+use Prim.Native.Nat.{◌+◌}
 use mathlib.Core.Path.{refl, sym, ap, ◌∙◌}
 use mathlib.Core.Path.{◌≡◌}
 use mathlib.Core.Bool.{true}
@@ -10,7 +10,6 @@ use lib.ListN.{length, get_or}
 use Rattle.classes.specs.Ordinal.{origin}
 use Rattle.image.specs.Image.{valid, total_of, origins_of, entry_at}
 use native.Mathlib.Omega.{arith}
-use borrow.Author.Rules.{rules}
 use Rattle.image.proofs.Literals.{total_is, literals_few}
 use Rattle.literals.proofs.Places.{left-long, target-long, right-long}
 use Rattle.build.proofs.Bounding as B

@@ -1,5 +1,6 @@
 -- `change::remove_name` meets its contract: a refusal leaves every word; past it, the change without phones and the limits.
 -- Assumes nothing.
+use Rattle.std.proofs.lemmas.Result.{err_from_is_err_and}
 use mathlib.Core.Path.{sym, ap, ◌∙◌}
 use borrow.Author.Rules.{rules}
 use Rattle.change.proofs.Judgement.{removal_asks, call_refused, call_changed}
@@ -7,10 +8,10 @@ use Rattle.rules.specs.Refusals.{reply_of}
 use Rattle.change.proofs.remove_name.Goals as goal
 
 pub change_list-requires : goal.change_list-requires
-change_list-requires c = removal_asks _ _ (sym (ap reply_of c.in-Accepted.is) ∙ c.judge_removal-answer.ensures)
+change_list-requires c = removal_asks _ _ (sym (ap reply_of c.in_ok-judge_removal.was) ∙ c.judge_removal.ensures)
 
-pub returns-in-Refused : goal.returns-in-Refused
-returns-in-Refused c = call_refused _ _ _ _ (sym (ap reply_of c.in-Refused.is) ∙ c.judge_removal-answer.ensures)
+pub returns-in_err-judge_removal : goal.returns-in_err-judge_removal
+returns-in_err-judge_removal c = let p = err_from_is_err_and c.from_residual.result c.from_residual.ensures.1 in rw (p.1, p.2) (call_refused _ _ _ _ (sym (ap reply_of c.in_err-judge_removal.was) ∙ c.judge_removal.ensures))
 
-pub returns-in-Accepted : goal.returns-in-Accepted
-returns-in-Accepted c = call_changed _ _ _ _ (sym (ap reply_of c.in-Accepted.is) ∙ c.judge_removal-answer.ensures) c.change_list.ensures
+pub returns : goal.returns
+returns c = call_changed _ _ _ _ (sym (ap reply_of c.in_ok-judge_removal.was) ∙ c.judge_removal.ensures) c.change_list.ensures

@@ -1,12 +1,12 @@
 -- `commands::answer` meets its contract: each command is answered by its own function.
 -- Assumes nothing.
-use borrow.Author.Rules.{rules}
+use native.Mathlib.Omega.{arith}
 use Rattle.commands.proofs.Dispatch.{by_none, by_add, by_drop, by_move, by_read, by_write, by_build, by_walk, by_plain, by_store_word, by_store_set, by_show_words, by_show_sets, by_show_phones, by_show_numbers, by_force, by_clear, by_show_contested, by_class, by_show_edits, by_recount, by_sheet, by_other}
 use Rattle.commands.proofs.answer.Goals as goal
 
-pub returns-then-f-eq0 : goal.returns-then-f-eq0
-returns-then-f-eq0 c = let a = c.args in
-    let told = by_none a.f.now a.file.now a.list.now a.image.now a.words.now a.sets.now a.phones.now a.numbers.now a.contested.now _ a.out.now _ c.malformed.ensures.len c.malformed.ensures.bytes c.if-f-eq0.true in
+pub returns-in_default : goal.returns-in_default
+returns-in_default c = let a = c.args in
+    let told = by_none a.f.now a.file.now a.list.now a.image.now a.words.now a.sets.now a.phones.now a.numbers.now a.contested.now _ a.out.now _ c.malformed.ensures.len c.malformed.ensures.bytes (omega arith) in
     record {
       replied = told.0;
       within = told.1;
@@ -180,9 +180,9 @@ returns-in-43 c = let a = c.args in
       within = told.1;
     }
 
-pub returns-in_default : goal.returns-in_default
-returns-in_default c = let a = c.args in
-    let told = by_other a.f.now a.file.now a.list.now a.image.now a.words.now a.sets.now a.phones.now a.numbers.now a.contested.now _ a.out.now _ c.malformed-in_default.ensures.len c.malformed-in_default.ensures.bytes c.in_default.in_default-own.rest in
+pub returns-in_default-kind : goal.returns-in_default-kind
+returns-in_default-kind c = let a = c.args in
+    let told = by_other a.f.now a.file.now a.list.now a.image.now a.words.now a.sets.now a.phones.now a.numbers.now a.contested.now _ a.out.now _ c.malformed-in_default-kind.ensures.len c.malformed-in_default-kind.ensures.bytes c.in_default-kind.in_default-kind-own.rest in
     record {
       replied = told.0;
       within = told.1;

@@ -8,6 +8,3 @@ use Rattle.compaction.proofs.compact.Given as goal
 
 abbrev pub invariant-loop-i : goal.invariant-loop-i
 invariant-loop-i l = (l.i ≤ l.top + 1) × Compacting l.initial.words l.initial.marks l.i l.k l.words l.marks
-
-abbrev pub decreases-loop-i : goal.decreases-loop-i
-decreases-loop-i l = l.top + 1 - l.i

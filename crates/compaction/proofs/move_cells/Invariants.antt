@@ -13,6 +13,3 @@ use Rattle.compaction.proofs.move_cells.Given as goal
 
 abbrev pub invariant-loop-j : goal.invariant-loop-j
 invariant-loop-j l = (l.j ≤ l.len) × Written (moved_of l.marks l.initial.words l.a) l.b l.j l.initial.words l.words
-
-abbrev pub decreases-loop-j : goal.decreases-loop-j
-decreases-loop-j l = l.len - l.j

@@ -15,10 +15,10 @@ use borrow.Author.Rules.{rules}
 use Rattle.compiled.proofs.speak_listed.Goals as goal
 
 pub speak_words-requires : goal.speak_words-requires
-speak_words-requires c = (c.requires.0, unsaid_list c.args.list.now c.args.name.now c.requires.1.0 c.requires.1.1 (unlisted_none (phones_for (words_of c.args.list.now) c.args.name.now) (walk_through (compiled_from c.args.words.now c.args.sets.now) (edits_of c.args.image.now) (literals_of c.args.image.now) c.args.name.now (phones_for (words_of c.args.list.now))) c.args.phones.now _ c.args.numbers.now _ c.say_listed-found.ensures c.in-Unlisted.is))
+speak_words-requires c = (c.requires.0, unsaid_list c.args.list.now c.args.name.now c.requires.1.0 c.requires.1.1 (unlisted_none (phones_for (words_of c.args.list.now) c.args.name.now) (walk_through (compiled_from c.args.words.now c.args.sets.now) (edits_of c.args.image.now) (literals_of c.args.image.now) c.args.name.now (phones_for (words_of c.args.list.now))) c.args.phones.now _ c.args.numbers.now _ c.say_listed-found.ensures c.in-None.is))
 
-pub returns-in-Said : goal.returns-in-Said
-returns-in-Said c = walked_listed _ _ c.args.phones.now _ c.args.numbers.now _ c.say_listed-found.ensures _ c.in-Said.is
+pub returns-in-Some : goal.returns-in-Some
+returns-in-Some c = walked_listed _ _ c.args.phones.now _ c.args.numbers.now _ c.say_listed-found.ensures _ c.in-Some.is
 
-pub returns-in-Unlisted : goal.returns-in-Unlisted
-returns-in-Unlisted c = c.speak_words.ensures ∙ (ap (λ (m : Str → Str). walkedAs (walk_through (compiled_from c.args.words.now c.args.sets.now) (edits_of c.args.image.now) (literals_of c.args.image.now) c.args.name.now m) c.say_listed-found.new.phones c.args.numbers.now) (says_all c.args.list.now c.requires.1.0) ∙ unlisted_answer _ _ c.args.phones.now _ c.args.numbers.now _ c.say_listed-found.ensures (λ (o : Outcome) (l : List ℕ). walkedAs o l c.args.numbers.now) c.in-Unlisted.is)
+pub returns-in-None : goal.returns-in-None
+returns-in-None c = c.speak_words.ensures ∙ (ap (λ (m : Str → Str). walkedAs (walk_through (compiled_from c.args.words.now c.args.sets.now) (edits_of c.args.image.now) (literals_of c.args.image.now) c.args.name.now m) c.say_listed-found.new.phones c.args.numbers.now) (says_all c.args.list.now c.requires.1.0) ∙ unlisted_answer _ _ c.args.phones.now _ c.args.numbers.now _ c.say_listed-found.ensures (λ (o : Outcome) (l : List ℕ). walkedAs o l c.args.numbers.now) c.in-None.is)

@@ -16,10 +16,10 @@ use borrow.Author.Rules.{rules}
 use Rattle.compiled.proofs.speak_valid.Goals as goal
 
 pub speak_words-requires : goal.speak_words-requires
-speak_words-requires c = (c.requires, unsaid_none (0 ∷ []) c.args.name.now (omega (arith, size_is)) (found_sound c.args.name.now _ c.judge_name-judged.ensures c.in-Accepted.is))
+speak_words-requires c = (c.requires, unsaid_none (0 ∷ []) c.args.name.now (omega (arith, size_is)) (found_sound c.args.name.now _ c.judge_name-judged.ensures c.in-Ok.is))
 
-pub returns-in-Refused : goal.returns-in-Refused
-returns-in-Refused c = walked_refused _ c.args.image.now c.requires no_list _ refl c.args.name.now c.args.phones.now c.args.numbers.now _ c.judge_name-judged.ensures _ c.in-Refused.is _ c.at_once.ensures
+pub returns-in-Err : goal.returns-in-Err
+returns-in-Err c = walked_refused _ c.args.image.now c.requires no_list _ refl c.args.name.now c.args.phones.now c.args.numbers.now _ c.judge_name-judged.ensures _ c.in-Err.is _ c.at_once.ensures
 
-pub returns-in-Accepted : goal.returns-in-Accepted
-returns-in-Accepted c = walked_sound _ c.args.image.now c.requires no_list _ refl c.args.name.now c.args.phones.now c.args.numbers.now _ c.judge_name-judged.ensures c.in-Accepted.is _ (c.speak_words.ensures ∙ ap (λ (m : Str → Str). walkedAs (walk_through (compiled_from c.args.words.now c.args.sets.now) (edits_of c.args.image.now) (literals_of c.args.image.now) c.args.name.now m) c.args.phones.now c.args.numbers.now) (says_nothing (0 ∷ []) (omega (arith, size_is))))
+pub returns-in-Ok : goal.returns-in-Ok
+returns-in-Ok c = walked_sound _ c.args.image.now c.requires no_list _ refl c.args.name.now c.args.phones.now c.args.numbers.now _ c.judge_name-judged.ensures c.in-Ok.is _ (c.speak_words.ensures ∙ ap (λ (m : Str → Str). walkedAs (walk_through (compiled_from c.args.words.now c.args.sets.now) (edits_of c.args.image.now) (literals_of c.args.image.now) c.args.name.now m) c.args.phones.now c.args.numbers.now) (says_nothing (0 ∷ []) (omega (arith, size_is))))

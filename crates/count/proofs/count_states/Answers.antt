@@ -4,7 +4,6 @@ use Prim.Native.Nat.{◌+◌}
 use native.Mathlib.Omega.{arith}
 use Rattle.rules.specs.Limits.{max_rules}
 use Rattle.count.proofs.Counting.{zero_room, zero_chains}
-use borrow.Author.Rules.{rules}
 use Rattle.count.proofs.count_states.Goals as goal
 
 pub count_all-requires : goal.count_all-requires

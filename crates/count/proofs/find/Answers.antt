@@ -2,10 +2,7 @@
 -- Assumes nothing.
 use mathlib.Core.Path.{sym, subst}
 use native.Mathlib.Omega.{arith}
-use borrow.Author.Rules.{rules}
-use lib.ListN.{length}
 use Rattle.tables.proofs.Siblings as S
-use Rattle.count.specs.Chains.{at}
 use Rattle.count.proofs.find.Goals as goal
 
 pub loop-k-init : goal.loop-k-init
@@ -21,10 +18,10 @@ pub bounds-next-k : goal.bounds-next-k
 bounds-next-k c = omega (arith, c.loop-k.invariant.below, c.requires.0)
 
 pub loop-k-smaller : goal.loop-k-smaller
-loop-k-smaller c = omega (arith, c.wide16-k.ensures.0, c.requires.2 c.loop-k.k c.loop-k-test.true c.loop-k.invariant.below)
+loop-k-smaller c = omega (arith, c.from-k.ensures, c.requires.2 c.loop-k.k c.loop-k-test.true c.loop-k.invariant.below)
 
 pub loop-k-preserved : goal.loop-k-preserved
-loop-k-preserved c = subst (S.Seeking _ _ _ _ _) (sym c.wide16-k.ensures.0)
+loop-k-preserved c = subst (S.Seeking _ _ _ _ _) (sym c.from-k.ensures)
     (S.miss _ _ _ _ _ c.requires.2 c.requires.0 _ c.loop-k.invariant c.loop-k-test.true c.if-key-k.false)
 
 pub returns : goal.returns

@@ -1,8 +1,5 @@
 -- The search in a chain: its numbers fall, and the rest of the chain gives what the whole does.
 -- Assumes nothing.
-use mathlib.Core.Path.{sym, subst}
-use native.Mathlib.Omega.{arith}
-use borrow.Author.Rules.{rules}
 use lib.ListN.{length}
 use Rattle.tables.proofs.Siblings as S
 use Rattle.count.specs.Chains.{at}

@@ -1,9 +1,7 @@
 -- `edits::drop_rule` meets its contract.
 -- Assumes nothing.
-use mathlib.Core.Path.{sym, ◌∙◌}
+use mathlib.Core.Path.{refl, sym, ◌∙◌}
 use native.Mathlib.Omega.{arith}
-use borrow.Author.Rules.{rules}
-use borrow.Author.Tests.{not-true, not-false}
 use Rattle.image.proofs.Tests.{valid_long, valid_count}
 use Rattle.edits.proofs.Answers.{invalid, drop_none, drop_spent, drop_sound, drop_yes}
 use Rattle.edits.proofs.drop_rule.Goals as goal
@@ -14,23 +12,23 @@ returns-then-not-is_ruleset c = invalid c.args.image.now _ (sym c.is_ruleset.ens
 pub rule_count-count-requires : goal.rule_count-count-requires
 rule_count-count-requires c = valid_long c.args.image.now (sym c.is_ruleset.ensures ∙ c.if-not-is_ruleset.false)
 
-pub place_of-k-requires : goal.place_of-k-requires
-place_of-k-requires c = (omega (arith, c.rule_count-count.ensures.0, valid_count c.args.image.now (sym c.is_ruleset.ensures ∙ c.if-not-is_ruleset.false)), valid_long c.args.image.now (sym c.is_ruleset.ensures ∙ c.if-not-is_ruleset.false))
+pub place_of-requires : goal.place_of-requires
+place_of-requires c = (omega (arith, c.rule_count-count.ensures.0, valid_count c.args.image.now (sym c.is_ruleset.ensures ∙ c.if-not-is_ruleset.false)), valid_long c.args.image.now (sym c.is_ruleset.ensures ∙ c.if-not-is_ruleset.false))
 
-pub returns-then-count-k : goal.returns-then-count-k
-returns-then-count-k c = drop_none c.args.image.now (sym c.is_ruleset.ensures ∙ c.if-not-is_ruleset.false) _ c.rule_count-count.ensures.0 c.args.number _ c.place_of-k.ensures c.if-count-k.true
+pub returns-in_default : goal.returns-in_default
+returns-in_default c = drop_none c.args.image.now (sym c.is_ruleset.ensures ∙ c.if-not-is_ruleset.false) _ c.rule_count-count.ensures.0 c.args.number _ refl (omega (arith, c.in_default.ensures))
 
 pub edit_count-requires : goal.edit_count-requires
 edit_count-requires c = valid_long c.args.image.now (sym c.is_ruleset.ensures ∙ c.if-not-is_ruleset.false)
 
 pub returns-then-edit_count-ge-MAX_EDITS : goal.returns-then-edit_count-ge-MAX_EDITS
-returns-then-edit_count-ge-MAX_EDITS c = drop_spent c.args.image.now (sym c.is_ruleset.ensures ∙ c.if-not-is_ruleset.false) _ c.rule_count-count.ensures.0 c.args.number _ c.place_of-k.ensures c.if-count-k.false _ c.edit_count.ensures c.if-edit_count-ge-MAX_EDITS.true
+returns-then-edit_count-ge-MAX_EDITS c = drop_spent c.args.image.now (sym c.is_ruleset.ensures ∙ c.if-not-is_ruleset.false) _ c.rule_count-count.ensures.0 c.args.number _ c.in-Some.ensures.0 c.in-Some.ensures.1 _ c.edit_count.ensures c.if-edit_count-ge-MAX_EDITS.true
 
 pub remove-requires : goal.remove-requires
-remove-requires c = (valid_long c.args.image.now (sym c.is_ruleset.ensures ∙ c.if-not-is_ruleset.false), (omega (arith, c.rule_count-count.ensures.0, c.if-count-k.false), (valid_count c.args.image.now (sym c.is_ruleset.ensures ∙ c.if-not-is_ruleset.false), omega (arith, c.edit_count.ensures, c.if-edit_count-ge-MAX_EDITS.false))))
+remove-requires c = (valid_long c.args.image.now (sym c.is_ruleset.ensures ∙ c.if-not-is_ruleset.false), (omega (arith, c.rule_count-count.ensures.0, c.in-Some.ensures.1), (valid_count c.args.image.now (sym c.is_ruleset.ensures ∙ c.if-not-is_ruleset.false), omega (arith, c.edit_count.ensures, c.if-edit_count-ge-MAX_EDITS.false))))
 
 pub settle-requires : goal.settle-requires
-settle-requires c = drop_sound c.args.image.now (sym c.is_ruleset.ensures ∙ c.if-not-is_ruleset.false) _ c.rule_count-count.ensures.0 c.args.number _ c.place_of-k.ensures c.if-count-k.false _ c.edit_count.ensures c.if-edit_count-ge-MAX_EDITS.false _ c.remove.ensures
+settle-requires c = drop_sound c.args.image.now (sym c.is_ruleset.ensures ∙ c.if-not-is_ruleset.false) _ c.rule_count-count.ensures.0 c.args.number _ c.in-Some.ensures.0 c.in-Some.ensures.1 _ c.edit_count.ensures c.if-edit_count-ge-MAX_EDITS.false _ c.remove.ensures
 
 pub returns : goal.returns
-returns c = drop_yes c.args.image.now (sym c.is_ruleset.ensures ∙ c.if-not-is_ruleset.false) _ c.rule_count-count.ensures.0 c.args.number _ c.place_of-k.ensures c.if-count-k.false _ c.edit_count.ensures c.if-edit_count-ge-MAX_EDITS.false _ c.remove.ensures _ c.settle.ensures
+returns c = drop_yes c.args.image.now (sym c.is_ruleset.ensures ∙ c.if-not-is_ruleset.false) _ c.rule_count-count.ensures.0 c.args.number _ c.in-Some.ensures.0 c.in-Some.ensures.1 _ c.edit_count.ensures c.if-edit_count-ge-MAX_EDITS.false _ c.remove.ensures _ c.settle.ensures

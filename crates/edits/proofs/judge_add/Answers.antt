@@ -1,8 +1,6 @@
 -- `edits::judge_add` meets its contract.
 -- Assumes nothing.
 use mathlib.Core.Path.{sym, ◌∙◌}
-use borrow.Author.Rules.{rules}
-use borrow.Author.Tests.{not-true, not-false}
 use Rattle.image.proofs.Tests.{valid_long}
 use Rattle.image.specs.Image.{ledger_of}
 use Rattle.edits.proofs.Judging.{add_shape, add_class, add_place, add_full, add_last, add_spent, add_accepted, count-is, total_is}

@@ -4,7 +4,6 @@ use mathlib.Core.Path.{sym, ◌∙◌}
 use native.Mathlib.Omega.{arith}
 use Rattle.classes.specs.Masks.{classes_in}
 use Rattle.fitting.proofs.Members.{ends_past, ends_run}
-use borrow.Author.Rules.{rules}
 use Rattle.fitting.proofs.ends_by.Goals as goal
 
 pub returns-then-i-context : goal.returns-then-i-context

@@ -1,7 +1,6 @@
 -- `fitting::fits_at` meets its contract.
 -- Assumes nothing.
 use Rattle.image.proofs.Tests.{valid_long}
-use borrow.Author.Rules.{rules}
 use Rattle.fitting.proofs.fits_at.Goals as goal
 
 pub masks-masks-requires : goal.masks-masks-requires

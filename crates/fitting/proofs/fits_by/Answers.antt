@@ -1,12 +1,10 @@
 -- `fitting::fits_by` meets its contract: its target, its right context, its left context.
 -- Assumes nothing.
 use mathlib.Core.Path.{refl, sym, ◌∙◌}
-use borrow.Author.Tests.{not-true, not-false}
 use Rattle.image.specs.Image.{entry_at, classes_of}
 use Rattle.fitting.proofs.Fits.{no_target, no_right, by_left, past_target}
 use Rattle.image.proofs.Lent.{classes_lent, masks_long}
 use Rattle.image.proofs.Tests.{valid_long}
-use borrow.Author.Rules.{rules}
 use Rattle.fitting.proofs.fits_by.Goals as goal
 
 pub returns-then-not-starts_at : goal.returns-then-not-starts_at

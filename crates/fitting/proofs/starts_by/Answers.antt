@@ -4,7 +4,6 @@ use mathlib.Core.Path.{sym, ◌∙◌}
 use native.Mathlib.Omega.{arith}
 use Rattle.classes.specs.Masks.{classes_in}
 use Rattle.fitting.proofs.Members.{starts_past, starts_run}
-use borrow.Author.Rules.{rules}
 use Rattle.fitting.proofs.starts_by.Goals as goal
 
 pub returns-then-frame-i : goal.returns-then-frame-i

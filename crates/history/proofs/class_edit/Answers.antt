@@ -1,7 +1,6 @@
 -- `history::class_edit` meets its contract.
 -- Assumes nothing.
 use mathlib.Core.Path.{ap, ◌∙◌}
-use borrow.Author.Rules.{rules}
 use Rattle.edits.specs.Edits.{edited}
 use Rattle.history.proofs.Runs.{class_said}
 use Rattle.history.proofs.class_edit.Goals as goal

@@ -2,7 +2,6 @@
 -- Assumes nothing.
 use mathlib.Core.Path.{ap, ◌∙◌}
 use Rattle.rule_bytes.specs.RuleBytes.{rule_of}
-use borrow.Author.Rules.{rules}
 use Rattle.history.proofs.coded_rule.Goals as goal
 
 pub returns : goal.returns

@@ -2,7 +2,6 @@
 -- Assumes nothing.
 use Prim.Native.Nat.{ℕ, ◌+◌}
 use mathlib.Core.Path.{ap}
-use borrow.Author.Rules.{rules}
 use Rattle.history.proofs.Runs.{part_taken}
 use Rattle.history.proofs.letters_at.Goals as goal
 

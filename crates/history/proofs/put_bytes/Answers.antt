@@ -1,10 +1,7 @@
 -- `history::put_bytes` meets its contract: word by word.
 -- Assumes nothing.
-use Prim.Native.Nat.{◌-◌}
 use native.Mathlib.Omega.{arith}
-use lib.ListN.{length}
-use Rattle.history.proofs.Coded.{Filling, begin, long, next, finished}
-use borrow.Author.Rules.{rules}
+use Rattle.history.proofs.Coded.{begin, long, next, finished}
 use Rattle.history.proofs.put_bytes.Goals as goal
 
 pub loop-i-init : goal.loop-i-init

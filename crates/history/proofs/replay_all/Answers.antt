@@ -1,10 +1,9 @@
 -- `history::replay_all` meets its contract.
 -- Assumes nothing.
-use Prim.Native.Nat.{◌-◌}
 use native.Mathlib.Omega.{arith}
 use borrow.Author.Rules.{rules}
 use Rattle.rules.specs.Refusals.{reply_of}
-use Rattle.history.proofs.Runs.{Going, going_start, going_on, going_end}
+use Rattle.history.proofs.Runs.{going_start, going_on, going_end}
 use Rattle.history.proofs.replay_all.Goals as goal
 
 pub loop-i-init : goal.loop-i-init
@@ -14,7 +13,7 @@ loop-i-init c = let a = c.args in
 pub loop-i-preserved : goal.loop-i-preserved
 loop-i-preserved c = let a = c.args in
     let l = c.loop-i in
-    going_on a.letters.now a.code.now a.image.now a.answers.now a.places.now a.n l.image l.answers l.places l.i l.at l.invariant
+    going_on a.letters.now a.code.now a.image.now a.answers.now a.places.now a.n l.image l.answers l.places l.i l.invariant
     (reply_of c.edit-a.result) _ c.answer_code.result c.answer_place.result (omega arith) c.requires (search rules) c.edit-a.ensures
     c.answer_code.ensures c.answer_place.ensures
 
@@ -30,5 +29,5 @@ shape_of-places c = c.loop-i.invariant.«places-long»
 pub returns : goal.returns
 returns c = let a = c.args in
     let l = c.loop-i in
-    going_end a.letters.now a.code.now a.image.now a.answers.now a.places.now a.n l.image l.answers l.places l.i l.at l.invariant
+    going_end a.letters.now a.code.now a.image.now a.answers.now a.places.now a.n l.image l.answers l.places l.i l.invariant
     c.loop-i-test.false

@@ -3,7 +3,6 @@
 use native.Mathlib.Omega.{arith}
 use Rattle.image.proofs.Emptied.{emptied}
 use Rattle.image.proofs.Tests.{clear_short, clear_long}
-use borrow.Author.Rules.{rules}
 use Rattle.image.proofs.clear.Goals as goal
 
 pub returns-then-image-lt-SIZE : goal.returns-then-image-lt-SIZE

@@ -1,11 +1,9 @@
 -- `image::is_ruleset` meets its contract: the tests of a ruleset, in turn.
 -- Assumes nothing.
 use mathlib.Core.Path.{sym, ◌∙◌}
-use borrow.Author.Tests.{not-true, not-false}
 use native.Mathlib.Omega.{arith}
 use Rattle.image.proofs.Lent.{masks_long}
 use Rattle.image.proofs.Tests.{entries_by, slots_by, classes_by, too_short, too_many, not_entries, not_distinct, not_classes, by_table}
-use borrow.Author.Rules.{rules}
 use Rattle.image.proofs.is_ruleset.Goals as goal
 
 pub returns-then-image-lt-SIZE : goal.returns-then-image-lt-SIZE

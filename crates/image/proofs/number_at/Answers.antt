@@ -1,7 +1,6 @@
 -- `image::number_at` meets its contract.
 -- Assumes nothing.
 use mathlib.Core.Path.{◌∙◌}
-use borrow.Author.Rules.{rules}
 use Rattle.image.specs.Image.{slot_start}
 use Rattle.image.proofs.Scan.{number_is}
 use Rattle.image.proofs.number_at.Goals as goal

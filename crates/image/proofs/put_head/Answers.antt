@@ -1,31 +1,11 @@
 -- `image::put_head` meets its contract.
 -- Assumes nothing.
 use native.Mathlib.Omega.{arith}
-use borrow.Author.Rules.{rules}
-use lib.ListN.{length-set}
-use Rattle.image.proofs.Bytes.{head_set}
+use Rattle.image.proofs.Bytes.{two_put, head_put}
 use Rattle.image.proofs.put_head.Goals as goal
 
-pub bounds-image : goal.bounds-image
-bounds-image c = simp length-set (omega arith)
-
-pub bounds-image-2 : goal.bounds-image-2
-bounds-image-2 c = simp length-set (omega arith)
-
-pub bounds-image-3 : goal.bounds-image-3
-bounds-image-3 c = simp length-set (omega arith)
-
-pub bounds-image-4 : goal.bounds-image-4
-bounds-image-4 c = simp length-set (omega arith)
-
-pub bounds-image-5 : goal.bounds-image-5
-bounds-image-5 c = simp length-set (omega arith)
-
-pub bounds-image-6 : goal.bounds-image-6
-bounds-image-6 c = simp length-set (omega arith)
-
-pub bounds-image-7 : goal.bounds-image-7
-bounds-image-7 c = simp length-set (omega arith)
-
 pub returns : goal.returns
-returns c = head_set c.args.image.now _ _ _ _ _ _ _ _ (omega arith)
+returns c = head_put c.args.image.now c.put.new.s c.put-2.new.s _ _ c.args.count c.args.last c.args.edits (omega arith) (omega arith)
+    (two_put c.args.image.now _ _ 0 c.args.count (omega arith) c.to_be_bytes.ensures c.put.ensures)
+    (two_put c.put.new.s _ _ 2 c.args.last (omega arith) c.to_be_bytes-2.ensures c.put-2.ensures)
+    c.to_be_bytes-3.ensures c.put-3.ensures

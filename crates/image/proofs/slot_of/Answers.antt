@@ -1,7 +1,6 @@
 -- `image::slot_of` meets its contract: the rule stands after the number.
 -- Assumes nothing.
 use mathlib.Core.Path.{ap, ◌∙◌}
-use borrow.Author.Rules.{rules}
 use Rattle.rules.proofs.Memory.{tail_is}
 use Rattle.rule_bytes.specs.RuleBytes.{rule_of}
 use Rattle.image.specs.Image.{slot_of}

@@ -1,16 +1,13 @@
 -- `literals::ends_choice` meets its contract: a choice that ends a part of the frame is one run of it.
 -- Assumes nothing.
-use mathlib.Core.Path.{sym, ◌∙◌}
-use borrow.Author.Rules.{rules}
+use mathlib.Core.Path.{ap, ◌∙◌}
+use Rattle.std.specs.Option.{is_some}
 use Rattle.classes.specs.Masks.{classes_in}
-use Rattle.literals.proofs.Matching.{ends_short, ends_no, ends_yes}
+use Rattle.literals.proofs.Matching.{ends_short, ends_told}
 use Rattle.literals.proofs.ends_choice.Goals as goal
 
 pub returns-then-i-run : goal.returns-then-i-run
 returns-then-i-run c = ends_short (classes_in c.args.masks.now) c.args.run.now c.requires.1.0 c.args.j c.args.frame.now c.args.i c.requires.1.1 c.if-i-run.true
 
-pub returns-in-Differs : goal.returns-in-Differs
-returns-in-Differs c = ends_no (classes_in c.args.masks.now) c.args.run.now c.requires.1.0 c.args.j c.args.frame.now c.args.i c.requires.1.1 c.if-i-run.false (sym c.match_choice-rest.ensures ∙ c.in-Differs.is)
-
-pub returns-in-Next : goal.returns-in-Next
-returns-in-Next c = ends_yes (classes_in c.args.masks.now) c.args.run.now c.requires.1.0 c.args.j c.args.frame.now c.args.i c.requires.1.1 c.if-i-run.false _ (sym c.match_choice-rest.ensures ∙ c.in-Next.is)
+pub returns : goal.returns
+returns c = c.is_some.ensures ∙ (ap is_some c.match_choice.ensures ∙ ends_told (classes_in c.args.masks.now) c.args.run.now c.requires.1.0 c.args.j c.args.frame.now c.args.i c.requires.1.1 c.if-i-run.false)

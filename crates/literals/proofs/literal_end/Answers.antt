@@ -4,8 +4,6 @@ use Prim.Native.Nat.{ℕ, ◌+◌, ◌≤◌}
 use mathlib.Core.Path.{sym, ap, ◌∙◌}
 use native.Mathlib.Omega.{arith}
 use lib.ListN.{length, drop}
-use borrow.Author.Rules.{rules}
-use borrow.Author.Tests.{not-true, not-false}
 use Rattle.classes.specs.Masks.{classes_in}
 use Rattle.classes.specs.Ordinal.{literal_at}
 use Rattle.fitting.specs.Fitting.{starts}
@@ -25,8 +23,8 @@ returns-then-left-right-eq0 c = let t = c.args.target.now in
     let found = ended_yes (c.args.i + length t) some (starts t (drop c.args.i c.args.frame.now)) _ c.target_end-end.ensures c.if-end-eq0.false in
     ended_at _ _ _ c.target_end-end.ensures found ∙ end_some (literal_at (classes_in c.args.masks.now) (rule_with c.args.left.now c.args.target.now c.args.right.now) c.args.j) c.args.frame.now c.args.i (sym (no_contexts (classes_in c.args.masks.now) c.args.left.now c.args.target.now c.args.right.now c.args.j c.args.frame.now c.args.i found c.if-left-right-eq0.true))
 
-pub starts_choice-rest-requires : goal.starts_choice-rest-requires
-starts_choice-rest-requires c = let t = c.args.target.now in
+pub starts_choice-requires : goal.starts_choice-requires
+starts_choice-requires c = let t = c.args.target.now in
     let some : 1 ≤ c.args.i + length t = omega (arith, c.requires.1.1.1.0) in
     let found = ended_yes (c.args.i + length t) some (starts t (drop c.args.i c.args.frame.now)) _ c.target_end-end.ensures c.if-end-eq0.false in
     let at = ended_at _ _ _ c.target_end-end.ensures found in
@@ -38,7 +36,7 @@ returns-in_default c = let t = c.args.target.now in
     let found = ended_yes (c.args.i + length t) some (starts t (drop c.args.i c.args.frame.now)) _ c.target_end-end.ensures c.if-end-eq0.false in
     let at = ended_at _ _ _ c.target_end-end.ensures found in
     let e = ap (λ (n : ℕ). started (classes_in c.args.masks.now) c.args.right.now (drop n c.args.frame.now) c.args.j) at in
-    end_none (literal_at (classes_in c.args.masks.now) (rule_with c.args.left.now c.args.target.now c.args.right.now) c.args.j) c.args.frame.now c.args.i (sym (no_right (classes_in c.args.masks.now) c.args.left.now c.args.target.now c.args.right.now c.args.j c.args.frame.now c.args.i found (sym e ∙ (sym c.starts_choice-rest.ensures ∙ c.in_default.is))))
+    end_none (literal_at (classes_in c.args.masks.now) (rule_with c.args.left.now c.args.target.now c.args.right.now) c.args.j) c.args.frame.now c.args.i (sym (no_right (classes_in c.args.masks.now) c.args.left.now c.args.target.now c.args.right.now c.args.j c.args.frame.now c.args.i found (sym e ∙ (sym c.starts_choice.ensures ∙ c.in_default.is))))
 
 pub returns-then-not-ends_choice : goal.returns-then-not-ends_choice
 returns-then-not-ends_choice c = let t = c.args.target.now in
@@ -46,7 +44,7 @@ returns-then-not-ends_choice c = let t = c.args.target.now in
     let found = ended_yes (c.args.i + length t) some (starts t (drop c.args.i c.args.frame.now)) _ c.target_end-end.ensures c.if-end-eq0.false in
     let at = ended_at _ _ _ c.target_end-end.ensures found in
     let e = ap (λ (n : ℕ). started (classes_in c.args.masks.now) c.args.right.now (drop n c.args.frame.now) c.args.j) at in
-    end_none (literal_at (classes_in c.args.masks.now) (rule_with c.args.left.now c.args.target.now c.args.right.now) c.args.j) c.args.frame.now c.args.i (sym (by_left (classes_in c.args.masks.now) c.args.left.now c.args.target.now c.args.right.now c.args.j c.args.frame.now c.args.i found _ (sym e ∙ (sym c.starts_choice-rest.ensures ∙ c.in-Next.is)) _ c.ends_choice.ensures) ∙ c.if-not-ends_choice.true)
+    end_none (literal_at (classes_in c.args.masks.now) (rule_with c.args.left.now c.args.target.now c.args.right.now) c.args.j) c.args.frame.now c.args.i (sym (by_left (classes_in c.args.masks.now) c.args.left.now c.args.target.now c.args.right.now c.args.j c.args.frame.now c.args.i found _ (sym e ∙ (sym c.starts_choice.ensures ∙ c.in-Some.is)) _ c.ends_choice.ensures) ∙ c.if-not-ends_choice.true)
 
 pub returns : goal.returns
 returns c = let t = c.args.target.now in
@@ -54,4 +52,4 @@ returns c = let t = c.args.target.now in
     let found = ended_yes (c.args.i + length t) some (starts t (drop c.args.i c.args.frame.now)) _ c.target_end-end.ensures c.if-end-eq0.false in
     let at = ended_at _ _ _ c.target_end-end.ensures found in
     let e = ap (λ (n : ℕ). started (classes_in c.args.masks.now) c.args.right.now (drop n c.args.frame.now) c.args.j) at in
-    at ∙ end_some (literal_at (classes_in c.args.masks.now) (rule_with c.args.left.now c.args.target.now c.args.right.now) c.args.j) c.args.frame.now c.args.i (sym (by_left (classes_in c.args.masks.now) c.args.left.now c.args.target.now c.args.right.now c.args.j c.args.frame.now c.args.i found _ (sym e ∙ (sym c.starts_choice-rest.ensures ∙ c.in-Next.is)) _ c.ends_choice.ensures) ∙ c.if-not-ends_choice.false)
+    at ∙ end_some (literal_at (classes_in c.args.masks.now) (rule_with c.args.left.now c.args.target.now c.args.right.now) c.args.j) c.args.frame.now c.args.i (sym (by_left (classes_in c.args.masks.now) c.args.left.now c.args.target.now c.args.right.now c.args.j c.args.frame.now c.args.i found _ (sym e ∙ (sym c.starts_choice.ensures ∙ c.in-Some.is)) _ c.ends_choice.ensures) ∙ c.if-not-ends_choice.false)

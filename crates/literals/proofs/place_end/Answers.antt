@@ -3,7 +3,6 @@
 use mathlib.Core.Path.{ap, ◌∙◌}
 use native.Mathlib.Omega.{arith}
 use lib.ListN.{length}
-use borrow.Author.Rules.{rules}
 use Rattle.image.proofs.Entries.{entry_shaped}
 use Rattle.image.proofs.Tests.{valid_long}
 use Rattle.literals.proofs.Places.{masks-room, left-some, right-some, literal-end}

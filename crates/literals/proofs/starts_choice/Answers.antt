@@ -1,7 +1,6 @@
 -- `literals::starts_choice` meets its contract: a choice that starts the frame is one run of it.
 -- Assumes nothing.
 use mathlib.Core.Path.{◌∙◌}
-use borrow.Author.Rules.{rules}
 use Rattle.classes.specs.Masks.{classes_in}
 use Rattle.literals.proofs.Matching.{begins_past, begins_run}
 use Rattle.literals.proofs.starts_choice.Goals as goal

@@ -1,36 +1,39 @@
--- `measures::count_row` meets its contract.
+-- `measures::count_row` meets its contract: the names under the letters passed are counted.
 -- Assumes nothing.
-use Rattle.measures.proofs.Counting.{Counting, counting-begin, counting-next, counting_end, count_fits, capped_low, capped_high}
-use Rattle.automaton.specs.Automaton.{rows_of}
-use Rattle.automaton.specs.Totals.{total}
-use Prim.Native.Nat.{◌-◌}
+use mathlib.Core.Path.{◌≡◌, ap, ◌∙◌, subst}
+use Prim.Native.Nat.{ℕ, ◌+◌}
 use native.Mathlib.Omega.{arith}
-use borrow.Author.Rules.{rules}
+use Rattle.automaton.specs.Automaton.{val_of}
+use Rattle.states.proofs.Parts.{slice_at, slice_end}
+use Rattle.measures.proofs.Counting.{Counting, counting-begin, counting-next, counting_end, count_fits}
 use Rattle.measures.proofs.count_row.Goals as goal
 
-pub row_cells-c-requires : goal.row_cells-c-requires
-row_cells-c-requires c = record { laid = c.requires.laid; state = c.requires.inside }
-
-pub first-e-requires : goal.first-e-requires
-first-e-requires c = (c.row_cells-c.ensures.order, c.row_cells-c.ensures.within)
-
-pub loop-i-init : goal.loop-i-init
-loop-i-init c = counting-begin _ _ _ _ _ _ _ _ c.requires c.row_cells-c.ensures c.first-e.ensures c.one_if-s.ensures
-
-pub bounds-words-i : goal.bounds-words-i
-bounds-words-i c = let w = c.row_cells-c.ensures.within in let m = c.first-e.ensures.most in omega arith
+pub loop-x-init : goal.loop-x-init
+loop-x-init c =
+    let z : c.row_cells-c.result.from ≡ c.row_cells-c.result.from + 0 = omega arith in
+    subst (λ (i : ℕ). Counting c.args.words.now c.args.q c.row_cells-c.result.from c.first-e.result i c.from-s.result) z
+    (counting-begin _ _ _ _ _ _ _ _ c.requires c.row_cells-c.ensures c.first-e.ensures c.from-s.ensures)
 
 pub count_at-s-requires : goal.count_at-s-requires
-count_at-s-requires c = count_fits _ _ _ _ c.requires _ _ _ _ c.loop-i.invariant (omega arith) _ c.val-x.ensures.0
+count_at-s-requires c =
+    let w = c.row_cells-c.ensures.within in
+    let m = c.first-e.ensures.most in
+    let s = slice_at c.args.words.now c.row_cells-c.result.from c.first-e.result c.loop-x.x-index (omega arith) c.loop-x-test.true in
+    count_fits _ _ _ _ c.requires _ _ _ _ c.loop-x.invariant s.1 _ (c.val.ensures.0 ∙ ap val_of s.0)
 
-pub overflow_add-s : goal.overflow_add-s
-overflow_add-s c = let g = counting-next _ _ _ _ c.requires _ _ _ _ c.loop-i.invariant (omega arith) _ c.val-x.ensures.0 _ c.count_at-s.ensures in let d = g.adding.small in let w = g.adding.within in omega arith
-
-pub loop-i-preserved : goal.loop-i-preserved
-loop-i-preserved c = counting-next _ _ _ _ c.requires _ _ _ _ c.loop-i.invariant (omega arith) _ c.val-x.ensures.0 _ c.count_at-s.ensures
-
-pub returns-then-s-lt1001 : goal.returns-then-s-lt1001
-returns-then-s-lt1001 c = capped_low c.loop-i.s (total (rows_of c.args.words.now) c.args.q) (counting_end _ _ _ _ _ _ _ _ c.requires c.loop-i.invariant (omega arith)) (omega arith)
+pub loop-x-preserved : goal.loop-x-preserved
+loop-x-preserved c =
+    let w = c.row_cells-c.ensures.within in
+    let m = c.first-e.ensures.most in
+    let s = slice_at c.args.words.now c.row_cells-c.result.from c.first-e.result c.loop-x.x-index (omega arith) c.loop-x-test.true in
+    let z : c.row_cells-c.result.from + c.loop-x.x-index + 1 ≡ c.row_cells-c.result.from + (c.loop-x.x-index + 1) = omega arith in
+    subst (λ (i : ℕ). Counting c.args.words.now c.args.q c.row_cells-c.result.from c.first-e.result i (c.loop-x.s + c.count_at-s.result)) z
+    (counting-next _ _ _ _ c.requires _ _ _ _ c.loop-x.invariant s.1 _ (c.val.ensures.0 ∙ ap val_of s.0) _ c.count_at-s.ensures)
 
 pub returns : goal.returns
-returns c = capped_high c.loop-i.s (total (rows_of c.args.words.now) c.args.q) (counting_end _ _ _ _ _ _ _ _ c.requires c.loop-i.invariant (omega arith)) (omega arith)
+returns c =
+    let w = c.row_cells-c.ensures.within in
+    let m = c.first-e.ensures.most in
+    let e = slice_end c.args.words.now c.row_cells-c.result.from c.first-e.result c.loop-x.x-index (omega arith) c.loop-x-test.false in
+    let t = counting_end _ _ _ _ _ _ _ _ c.requires c.loop-x.invariant e in
+    omega (arith, t)

@@ -1,13 +1,7 @@
 -- `minimality::key` meets its contract.
 -- Assumes nothing.
-use Rattle.minimality.proofs.Keys.{Hashing, hash_begin, hash_next, hash_end}
-use Prim.Native.Nat.{◌-◌}
-use native.Mathlib.Omega.{arith}
-use borrow.Author.Rules.{rules}
+use Rattle.minimality.proofs.Keys.{Hashing}
 use Rattle.minimality.proofs.key.Given as goal
 
-abbrev pub invariant-loop-i : goal.invariant-loop-i
-invariant-loop-i l = Hashing l.words l.a l.e l.h l.i
-
-abbrev pub decreases-loop-i : goal.decreases-loop-i
-decreases-loop-i l = l.e - l.i
+abbrev pub invariant-loop-x : goal.invariant-loop-x
+invariant-loop-x l = Hashing l.cells l.h l.x-index

@@ -1,11 +1,11 @@
 -- `passes::right_pass` meets its contract, by the loop invariant `Passing`: the states of the positions from i on are remembered.
 -- Assumes nothing.
 use Prim.Native.Nat.{◌+◌, ◌-◌, ◌≤◌, ◌<◌}
-use mathlib.Core.Path.{◌≡◌, refl}
+use mathlib.Core.Path.{refl}
 use native.Mathlib.Omega.{arith}
 use lib.ListN.{length}
 use Rattle.passes.specs.Passes.{rows_at, right_on}
-use Rattle.passes.proofs.Passing.{Passing, go_on, stop, finished, right_start, right_state, right_steps}
+use Rattle.passes.proofs.Passing.{go_on, stop, finished, right_start, right_state, right_steps}
 use Rattle.speech.specs.Places.{frame_size}
 use Rattle.passes.proofs.right_pass.Goals as goal
 
@@ -17,9 +17,6 @@ pub look_up-at-requires : goal.look_up-at-requires
 look_up-at-requires c = let l = c.requires.5 (c.loop-i.i - 1) (omega arith) in
     (omega arith, omega (arith, c.loop-i.invariant.2))
 
-pub shape_of-states-then-count-wide16 : goal.shape_of-states-then-count-wide16
-shape_of-states-then-count-wide16 c = c.loop-i.invariant.3.room
-
 pub returns-then-count-wide16 : goal.returns-then-count-wide16
 returns-then-count-wide16 c = let a = c.args in
     let k = c.loop-i in
@@ -28,10 +25,7 @@ returns-then-count-wide16 c = let a = c.args in
     let b : a.count ≤ r.result.state = omega (arith, c.wide16.ensures.0) in
     stop (right_on (rows_at a.words.now a.rows a.count) a.steps a.frame.now) a.count _ _ _ (k.i - 1) r.result.state
     (right_state a.words.now a.rows a.count a.frame.now a.steps k.at k.i p.here p.looked (omega arith) (omega arith) r.result r.ensures)
-    (omega arith) (omega arith) b _ _ refl
-
-pub bounds-states-i : goal.bounds-states-i
-bounds-states-i c = omega (arith, c.loop-i.invariant.3.room)
+    (omega arith) (omega arith) b _
 
 pub loop-i-preserved : goal.loop-i-preserved
 loop-i-preserved c = let a = c.args in
@@ -48,11 +42,8 @@ loop-i-preserved c = let a = c.args in
           b (omega arith) (λ j l m d. (omega arith, omega arith)),
     )
 
-pub shape_of-states : goal.shape_of-states
-shape_of-states c = c.loop-i.invariant.3.room
-
 pub returns : goal.returns
 returns c = let a = c.args in
     let k = c.loop-i in
     finished (right_on (rows_at a.words.now a.rows a.count) a.steps a.frame.now) a.count (length a.frame.now - 1) 1 (a.steps + frame_size)
-    k.invariant.3 (omega arith) (omega arith) (omega arith) (omega (arith, k.invariant.2)) _ refl refl
+    k.invariant.3 (omega arith) (omega arith) (omega arith) (omega (arith, k.invariant.2))

@@ -2,7 +2,6 @@
 -- Assumes nothing.
 use lib.ListN.{length}
 use borrow.Rule.Slice.PartMut.{mid_len}
-use borrow.Author.Tests.{not-true, not-false}
 use Rattle.rules.proofs.Memory.{put_tail}
 use Rattle.speech.specs.Words.{word_at}
 use Rattle.reading.proofs.WordReading.{part_frame, part_long, part_inside, part_bound}
@@ -14,10 +13,6 @@ use Rattle.passes.proofs.run_word.Goals as goal
 pub find_word-part-requires : goal.find_word-part-requires
 find_word-part-requires c = let p = c.requires in
     (p.1, p.3.inside, p.3.ends)
-
-pub bounds-found-from : goal.bounds-found-from
-bounds-found-from c = let p = c.requires in
-    omega (arith, p.3.inside, p.1.sound.short, p.5.found)
 
 pub returns-then-part-ne0 : goal.returns-then-part-ne0
 returns-then-part-ne0 c = let a = c.args in

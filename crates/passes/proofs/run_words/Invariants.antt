@@ -1,13 +1,9 @@
 -- `passes::run_words` meets its contract: one word more at each turn.
 -- Assumes nothing.
-use mathlib.Core.Path.{sym, ◌∙◌}
 use Prim.Native.Nat.{◌+◌, ◌-◌}
 use lib.ListN.{length}
-use borrow.Author.Tests.{not-true, not-false}
-use borrow.Author.Rules.{rules}
 use Rattle.passes.specs.Passes.{memory}
-use Rattle.passes.proofs.WordsPassed.{PassedTo, passed-begin, passed-word, passed-next, passed-bad, passed-end}
-use native.Mathlib.Omega.{arith}
+use Rattle.passes.proofs.WordsPassed.{PassedTo}
 use Rattle.passes.proofs.run_words.Given as goal
 
 abbrev pub invariant-loop-from : goal.invariant-loop-from

@@ -1,11 +1,10 @@
 -- The loop that lays the patterns of a side.
 -- Assumes nothing.
-use Prim.Native.Nat.{◌-◌, ◌<◌}
+use Prim.Native.Nat.{◌<◌}
 use native.Mathlib.Omega.{arith}
-use borrow.Author.Rules.{rules}
 use Rattle.image.specs.Image.{total_of}
 use Rattle.image.proofs.Literals.{total_is, literals_few}
-use Rattle.patterns.proofs.Laying.{Laying, begin, fits, lens_room, next, finished, laid_at}
+use Rattle.patterns.proofs.Laying.{begin, fits, lens_room, next, finished, laid_at}
 use Rattle.patterns.proofs.Symbols.{long}
 use Rattle.patterns.proofs.lay_side.Goals as goal
 
@@ -31,12 +30,6 @@ pub loop-i-preserved : goal.loop-i-preserved
 loop-i-preserved c = let h : c.loop-i.i < total_of c.args.image.now = omega (arith, c.requires.1, c.loop-i-test.true) in
     let e = c.put_pattern-len.ensures in
     next _ _ c.requires.0 _ _ c.requires.2 _ _ _ c.loop-i.invariant h _ e.0 _ e.1
-
-pub shape_of-pats : goal.shape_of-pats
-shape_of-pats c = c.loop-i.invariant.ps_len
-
-pub shape_of-lens : goal.shape_of-lens
-shape_of-lens c = c.loop-i.invariant.ls_len
 
 pub returns : goal.returns
 returns c = finished _ _ c.requires.0 _ _ c.requires.2 _ _ (laid_at _ (omega (arith, c.requires.1, c.loop-i.invariant.reached)) c.loop-i.invariant)

@@ -1,6 +1,5 @@
 -- `patterns::put_left` meets its contract: what the right context leaves of j is the left one's.
 -- Assumes nothing.
-use borrow.Author.Rules.{rules}
 use Rattle.classes.specs.Masks.{classes_in}
 use Rattle.patterns.proofs.Symbols.{put-choice}
 use Rattle.patterns.proofs.put_left.Goals as goal

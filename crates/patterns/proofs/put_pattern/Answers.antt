@@ -3,7 +3,6 @@
 use mathlib.Core.Path.{refl, ap}
 use native.Mathlib.Omega.{arith}
 use lib.ListN.{length}
-use borrow.Author.Rules.{rules}
 use Rattle.image.proofs.Tests.{valid_long}
 use Rattle.literals.proofs.Places as P
 use Rattle.patterns.proofs.Symbols as S

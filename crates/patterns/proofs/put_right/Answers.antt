@@ -1,7 +1,6 @@
 -- `patterns::put_right` meets its contract: the letters of the right context and then the target, each from its end on.
 -- Assumes nothing.
 use mathlib.Core.Path.{sym}
-use borrow.Author.Rules.{rules}
 use Rattle.classes.specs.Masks.{classes_in}
 use Rattle.classes.proofs.Ordinal.{choice_long}
 use Rattle.patterns.proofs.Symbols.{put_both}

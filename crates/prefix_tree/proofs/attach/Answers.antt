@@ -1,11 +1,8 @@
 -- The words of a new node are laid, and its parent leads to it.
 -- Assumes nothing.
-use borrow.Author.Rules.{rules}
 use native.Mathlib.Omega.{arith}
 use lib.ListN.{length-set}
 use Rattle.prefix_tree.proofs.Attaching.{laid}
-use Rattle.prefix_tree.proofs.attach.Reads as reads
-use Rattle.prefix_tree.proofs.attach.Lts as lts
 use Rattle.prefix_tree.proofs.attach.Goals as goal
 
 pub bounds-tree-to-2 : goal.bounds-tree-to-2

@@ -8,13 +8,6 @@ use Rattle.tables.specs.Siblings.{seek}
 use Rattle.prefix_tree.specs.Tree.{next_of, symbol_of}
 use Rattle.prefix_tree.proofs.Growing.{chain_of}
 use Rattle.prefix_tree.proofs.Stepping as S
-use borrow.Author.Rules.{rules}
-use Rattle.prefix_tree.proofs.descend.Reads as reads
-use Rattle.prefix_tree.proofs.descend.Lts as lts
-use Rattle.numbers.proofs.wide16.Reads as wide16-reads
-use Rattle.passes.proofs.look_up.Reads as look-up-reads
-use Rattle.prefix_tree.proofs.attach.Reads as attach-reads
-use Rattle.prefix_tree.proofs.find.Reads as find-reads
 use Rattle.prefix_tree.proofs.descend.Goals as goal
 
 pub find-child-requires : goal.find-child-requires
@@ -35,7 +28,7 @@ pub returns-then-count-wide16 : goal.returns-then-count-wide16
 returns-then-count-wide16 c = let a = c.args in
     let e = c.find-child.ensures ∙ ap (λ (s : ℕ). seek (length a.tree.now) (next_of a.tree.now) (symbol_of a.tree.now) s a.c) c.wide16-first.ensures.0 in
     let n = c.look_up-next.ensures.next in
-    S.out a.words.now a.rows a.count a.tree.now a.p a.c _ e (omega (arith, c.if-child-ne0.false)) (omega (arith, n, c.if-count-wide16.true, c.wide16.ensures.0)) _ _
+    S.out a.words.now a.rows a.count a.tree.now a.p a.c _ e (omega (arith, c.if-child-ne0.false)) (omega (arith, n, c.if-count-wide16.true, c.wide16.ensures.0))
 
 pub returns : goal.returns
 returns c = let a = c.args in

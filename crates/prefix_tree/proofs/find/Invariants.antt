@@ -1,14 +1,8 @@
 -- The search along a chain of children.
 -- Assumes nothing.
-use mathlib.Core.Path.{sym, subst}
-use native.Mathlib.Omega.{arith}
-use borrow.Author.Rules.{rules}
 use lib.ListN.{length}
 use Rattle.tables.proofs.Siblings as S
 use Rattle.prefix_tree.specs.Tree.{next_of, symbol_of}
-use Rattle.prefix_tree.proofs.find.Reads as reads
-use Rattle.prefix_tree.proofs.find.Lts as lts
-use Rattle.numbers.proofs.wide16.Reads as wide16-reads
 use Rattle.prefix_tree.proofs.find.Given as goal
 
 abbrev pub invariant-loop-k : goal.invariant-loop-k

@@ -1,5 +1,6 @@
 -- `reading::read_valid` meets its contract: the name's judgement, then its reading with too few words for a list.
 -- Assumes nothing.
+use Rattle.std.proofs.lemmas.Result.{err_from_is_err_and}
 use Rattle.speech.proofs.Lookup.{says_nothing, unsaid_none}
 use Rattle.reading.proofs.Plain.{said_refused, said_sound}
 use Rattle.speech.proofs.Call.{found_sound}
@@ -15,10 +16,10 @@ use borrow.Author.Rules.{rules}
 use Rattle.reading.proofs.read_valid.Goals as goal
 
 pub read_sound-requires : goal.read_sound-requires
-read_sound-requires c = (c.requires, unsaid_none (0 ∷ []) c.args.name.now (omega (arith, size_is)) (found_sound c.args.name.now _ c.judge_name-judged.ensures c.in-Accepted.is))
+read_sound-requires c = (c.requires, unsaid_none (0 ∷ []) c.args.name.now (omega (arith, size_is)) (found_sound c.args.name.now _ c.judge_name.ensures c.in_ok-judge_name.was))
 
-pub returns-in-Refused : goal.returns-in-Refused
-returns-in-Refused c = said_refused c.args.image.now c.requires no_list _ refl c.args.name.now c.args.phones.now c.args.numbers.now _ c.judge_name-judged.ensures _ c.in-Refused.is
+pub returns-in_err-judge_name : goal.returns-in_err-judge_name
+returns-in_err-judge_name c = let p = err_from_is_err_and c.from_residual.result c.from_residual.ensures.1 in rw (p.1, p.2) (said_refused c.args.image.now c.requires no_list _ refl c.args.name.now c.args.phones.now c.args.numbers.now _ c.judge_name.ensures _ c.in_err-judge_name.was)
 
-pub returns-in-Accepted : goal.returns-in-Accepted
-returns-in-Accepted c = said_sound c.args.image.now c.requires no_list _ refl c.args.name.now c.args.phones.now c.args.numbers.now _ c.judge_name-judged.ensures c.in-Accepted.is _ (c.read_sound.ensures ∙ ap (λ (m : Str → Str). delivered (answered (plain_words (classes_of c.args.image.now) (entries_of c.args.image.now) c.args.name.now m) 0) c.args.phones.now c.args.numbers.now) (says_nothing (0 ∷ []) (omega (arith, size_is))))
+pub returns : goal.returns
+returns c = said_sound c.args.image.now c.requires no_list _ refl c.args.name.now c.args.phones.now c.args.numbers.now _ c.judge_name.ensures c.in_ok-judge_name.was _ (c.read_sound.ensures ∙ ap (λ (m : Str → Str). delivered (answered (plain_words (classes_of c.args.image.now) (entries_of c.args.image.now) c.args.name.now m) 0) c.args.phones.now c.args.numbers.now) (says_nothing (0 ∷ []) (omega (arith, size_is))))

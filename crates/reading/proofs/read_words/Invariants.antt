@@ -7,7 +7,7 @@ use lib.ListN.{length}
 use Rattle.exceptions.specs.Judging.{says_of}
 use Rattle.image.specs.Image.{entries_of, classes_of}
 use Rattle.fitting.specs.Reading.{plain}
-use Rattle.reading.proofs.NameReading.{WordsRead, words_read_begin, words_read_word, words_read_next, words_read_stop, words_read_end, not_rules_by}
+use Rattle.reading.proofs.NameReading.{WordsRead, words_read_begin, words_read_word, words_read_next, words_read_stop, words_read_end}
 use native.Mathlib.Omega.{arith}
 use Rattle.reading.proofs.read_words.Given as goal
 

@@ -2,7 +2,6 @@
 -- Assumes nothing.
 use native.Mathlib.Omega.{arith}
 use Rattle.rule_bytes.proofs.Copies.{four_stored}
-use borrow.Author.Rules.{rules}
 use Rattle.rule_bytes.proofs.put_four.Goals as goal
 
 pub returns : goal.returns

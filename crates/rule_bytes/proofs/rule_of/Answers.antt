@@ -1,7 +1,6 @@
 -- `rule_bytes::rule_of` meets its contract: the parts of its bytes are its fields.
 -- Assumes nothing.
 use mathlib.Core.Path.{◌∙◌}
-use borrow.Author.Rules.{rules}
 use Rattle.rule_bytes.proofs.Fields.{rule_is}
 use Rattle.rule_bytes.proofs.rule_of.Goals as goal
 

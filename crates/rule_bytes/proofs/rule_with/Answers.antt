@@ -1,7 +1,6 @@
 -- `rule_bytes::rule_with` meets its contract: each array is filled with its field.
 -- Assumes nothing.
 use mathlib.Core.Path.{◌∙◌}
-use borrow.Author.Rules.{rules}
 use Rattle.rules.specs.Limits.{max_context, max_target, max_phones}
 use Rattle.rule_bytes.proofs.Copies.{first_over}
 use Rattle.rule_bytes.proofs.rule_with.Goals as goal

@@ -8,6 +8,6 @@ pub returns : goal.returns
 returns c =
     record {
       answer = c.speak_words-answer.ensures;
-      tree = Z.restored c.args.tree.now _ _ c.requires.1 (search rules) c.clear_words.ensures;
-      kept = Z.restored c.args.kept.now _ _ c.requires.2 (search rules) c.clear_parts.ensures;
+      tree = Z.restored c.args.tree.now _ _ c.requires.1 (search rules) (c.fill.ensures.after (λ y e. e));
+      kept = Z.restored c.args.kept.now _ _ c.requires.2 (search rules) (c.fill-2.ensures.after (λ y e. e));
     }

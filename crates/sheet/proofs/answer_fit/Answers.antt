@@ -3,7 +3,6 @@
 use mathlib.Core.Path.{refl}
 use native.Mathlib.Omega.{arith}
 use Rattle.sheet.proofs.Answered as A
-use borrow.Author.Rules.{rules}
 use Rattle.sheet.proofs.answer_fit.Goals as goal
 
 pub judge_sheet-p-requires : goal.judge_sheet-p-requires

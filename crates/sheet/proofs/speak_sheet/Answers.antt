@@ -4,7 +4,6 @@ use mathlib.Core.Path.{refl, sym, ◌∙◌}
 use borrow.Author.Tests.{not-true, not-false}
 use Rattle.tables.specs.Words.{compiled_from}
 use Rattle.sheet.proofs.Whole as W
-use borrow.Author.Rules.{rules}
 use Rattle.sheet.proofs.speak_sheet.Goals as goal
 
 pub returns-then-not-size : goal.returns-then-not-size

@@ -5,7 +5,6 @@ use mathlib.Core.Path.{refl, sym, ap, ◌∙◌}
 use Prim.Native.Nat.{◌+◌, ◌*◌}
 use native.Mathlib.Omega.{arith}
 use lib.Seq.{length-take-le}
-use borrow.Author.Tests.{not-true, not-false}
 use Rattle.rules.specs.Limits.{max_names}
 use Rattle.exceptions.specs.Judging.{listing_of, says_of}
 use Rattle.fitting.specs.Fitting.{Str}
@@ -15,7 +14,6 @@ use Rattle.prefix_tree.specs.Tree.{node_size}
 use Rattle.sheet.specs.Sheet.{alone, judged_sheet, names_through}
 use Rattle.sheet.proofs.Zeros as Z
 use Rattle.sheet.proofs.Whole as W
-use borrow.Author.Rules.{rules}
 use Rattle.sheet.proofs.speak_sound.Goals as goal
 
 pub overflow_add-nodes : goal.overflow_add-nodes

@@ -5,14 +5,13 @@ use Prim.Native.Nat.{ℕ, ◌+◌}
 use Rattle.prefix_tree.specs.Tree.{Room}
 use Rattle.speech.proofs.Call.{found_refused, found_sound}
 use Rattle.sheet_name.proofs.Settling as S
-use borrow.Author.Rules.{rules}
 use Rattle.sheet_name.proofs.judge_name.Goals as goal
 
 pub judge_sound-requires : goal.judge_sound-requires
 judge_sound-requires c = let a = c.args in
-    let s = found_sound a.name.now _ c.judge_name-judged.ensures c.in-Accepted.is in
+    let s = found_sound a.name.now _ c.judge_name-judged.ensures c.in-Ok.is in
     (c.requires.0, c.requires.1, c.requires.2, s, c.requires.3, subst (λ (k : ℕ). Room a.tree.now (a.nodes + k)) (S.room-short a.name.now s.short) c.requires.4, c.requires.5, c.requires.6, c.requires.7)
 
-pub returns-in-Refused : goal.returns-in-Refused
-returns-in-Refused c = let a = c.args in
-    S.sent-none a.words.now a.sets.now a.left_states a.right_states a.fit a.image.now a.list.now a.name.now a.tree.now a.nodes a.steps c.requires.3 _ _ (found_refused a.name.now _ c.judge_name-judged.ensures _ c.in-Refused.is)
+pub returns-in-Err : goal.returns-in-Err
+returns-in-Err c = let a = c.args in
+    S.sent-none a.words.now a.sets.now a.left_states a.right_states a.fit a.image.now a.list.now a.name.now a.tree.now a.nodes a.steps c.requires.3 _ _ (found_refused a.name.now _ c.judge_name-judged.ensures _ c.in-Err.is)

@@ -3,7 +3,6 @@
 use mathlib.Core.Path.{◌≡◌, sym, ◌∙◌}
 use Prim.Native.Nat.{◌-◌}
 use native.Mathlib.Omega.{arith}
-use borrow.Author.Rules.{rules}
 use Rattle.sheet_name.proofs.Settling.{parts_below, parts_past}
 use Rattle.sheet_name.proofs.parts_in.Goals as goal
 

@@ -1,45 +1,20 @@
 -- How reading ended, settled for the sheet.
 -- Assumes nothing.
-use mathlib.Core.Path.{subst}
+use mathlib.Core.Path.{◌≡◌, subst}
 use native.Mathlib.Omega.{arith}
-use borrow.Author.Tests.{not-true, not-false}
+use Rattle.std.specs.Prelude.{ℕ, Option, Some, IfSome, Result}
 use Rattle.speech.specs.Places.{frame_size, EndsBy}
-use Rattle.sheet_name.proofs.Settling as S
-use borrow.Author.Rules.{rules}
+use Rattle.speech.specs.declared.Unread.{Unread}
+use Rattle.sheet_name.specs.declared.Judged.{Judged}
 use Rattle.sheet_name.proofs.settle.Goals as goal
 
-pub returns-then-stale : goal.returns-then-stale
-returns-then-stale c = let a = c.args in
-    S.settled-stale a.x a.stale (not-true a.x.usable c.if-not-x.true) c.if-stale.true
-
-pub returns-else-stale : goal.returns-else-stale
-returns-else-stale c = let a = c.args in
-    S.settled-bad a.x a.stale (not-true a.x.usable c.if-not-x.true) c.if-stale.false
+ends : {x : Option Judged} {j : Judged} {r : Result ℕ Unread} → IfSome x (λ j. EndsBy frame_size j.reached) → x ≡ Some j → j.reached ≡ r → EndsBy frame_size r
+ends h a b = subst (EndsBy frame_size) b (subst (λ (o : Option Judged). IfSome o (λ j. EndsBy frame_size j.reached)) a h)
 
 pub overflow_add-result : goal.overflow_add-result
-overflow_add-result c = let e = subst (EndsBy frame_size) c.in-Rules.is (c.requires (not-false c.args.x.usable c.if-not-x.false)) in
+overflow_add-result c = let e = ends c.requires c.in-Some.is c.in-Ok.is in
     omega arith
 
 pub overflow_cast-result : goal.overflow_cast-result
-overflow_cast-result c = let e = subst (EndsBy frame_size) c.in-Rules.is (c.requires (not-false c.args.x.usable c.if-not-x.false)) in
+overflow_cast-result c = let e = ends c.requires c.in-Some.is c.in-Ok.is in
     omega arith
-
-pub overflow_add-result-in-Uncovered : goal.overflow_add-result-in-Uncovered
-overflow_add-result-in-Uncovered c = let e = subst (EndsBy frame_size) c.in-Uncovered.is (c.requires (not-false c.args.x.usable c.if-not-x.false)) in
-    omega arith
-
-pub overflow_cast-result-in-Uncovered : goal.overflow_cast-result-in-Uncovered
-overflow_cast-result-in-Uncovered c = let e = subst (EndsBy frame_size) c.in-Uncovered.is (c.requires (not-false c.args.x.usable c.if-not-x.false)) in
-    omega arith
-
-pub returns-in-Rules : goal.returns-in-Rules
-returns-in-Rules c = let a = c.args in
-    S.settled-to a.x a.stale (not-false a.x.usable c.if-not-x.false) _ c.in-Rules.is
-
-pub returns-in-Uncovered : goal.returns-in-Uncovered
-returns-in-Uncovered c = let a = c.args in
-    S.settled-to a.x a.stale (not-false a.x.usable c.if-not-x.false) _ c.in-Uncovered.is
-
-pub returns-in-BadTables : goal.returns-in-BadTables
-returns-in-BadTables c = let a = c.args in
-    S.settled-to a.x a.stale (not-false a.x.usable c.if-not-x.false) _ c.in-BadTables.is

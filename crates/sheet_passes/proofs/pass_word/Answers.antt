@@ -3,17 +3,12 @@
 use native.Mathlib.Omega.{arith}
 use lib.ListN.{length}
 use borrow.Rule.Slice.PartMut.{mid_len}
-use borrow.Author.Tests.{not-true, not-false}
 use Rattle.rules.proofs.Memory.{put_tail}
 use Rattle.speech.specs.Words.{word_at}
 use Rattle.reading.proofs.WordReading.{part_frame, part_long, part_inside, part_bound}
 use Rattle.passes.proofs.WordsPassed.{part_symbols}
 use Rattle.sheet_passes.proofs.OneWord as W
 use borrow.Author.Rules.{rules}
-use Rattle.sheet_passes.proofs.pass_word.Reads as reads
-use Rattle.sheet_passes.proofs.pass_word.Lts as lts
-use Rattle.reading.proofs.words.find_word.Reads as find-word-reads
-use Rattle.sheet_passes.proofs.pass_frame.Reads as pass-frame-reads
 use Rattle.sheet_passes.proofs.pass_word.Goals as goal
 
 pub returns-then-part-ne0 : goal.returns-then-part-ne0

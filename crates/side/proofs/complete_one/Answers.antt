@@ -2,7 +2,6 @@
 -- Assumes nothing.
 use Rattle.side.proofs.Parts.{symbols_rest}
 use Rattle.side.proofs.Levels.{raised_old, raised_new}
-use borrow.Author.Rules.{rules}
 use Rattle.side.proofs.complete_one.Goals as goal
 
 pub returns-then-q-top : goal.returns-then-q-top

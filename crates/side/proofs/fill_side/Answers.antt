@@ -1,12 +1,9 @@
 -- Numbering, own sets, then the states by length: in the end every row and set is finished.
 -- Assumes nothing.
-use Prim.Native.Nat.{◌+◌, ◌-◌, ◌*◌, ◌≤◌}
-use mathlib.Core.Path.{◌∙◌}
+use Prim.Native.Nat.{◌*◌, ◌≤◌}
 use lib.ListN.{length}
-use Rattle.rules.specs.Limits.{max_pattern}
 use Rattle.tables.specs.Words.{row_size, set_size}
 use Rattle.side.proofs.Filling as F
-use borrow.Author.Rules.{rules}
 use native.Mathlib.Omega.{arith}
 use Rattle.side.proofs.fill_side.Goals as goal
 
@@ -39,13 +36,6 @@ complete_level-requires c = let o = c.own_sets in
 pub loop-d-preserved : goal.loop-d-preserved
 loop-d-preserved c = let pre = c.requires in
     F.fill-next _ _ _ _ _ _ pre.0 c.number_all-count.ensures.count _ _ _ _ _ (omega (arith, c.loop-d-test.true)) c.loop-d.invariant c.complete_level.ensures
-
-pub shape_of-rows : goal.shape_of-rows
-shape_of-rows c = c.loop-d.invariant.rows_past.len ∙ c.number_all-count.auto.rows
-
-pub shape_of-sets : goal.shape_of-sets
-shape_of-sets c = let o = c.own_sets in
-    c.loop-d.invariant.sets_past.len ∙ o.auto.sets ∙ c.clear_sets.auto.sets
 
 pub returns : goal.returns
 returns c = let o = c.own_sets in

@@ -1,10 +1,9 @@
 -- The loop that puts each place into the set of its pattern's state.
 -- Assumes nothing.
-use Prim.Native.Nat.{◌+◌, ◌-◌, ◌*◌, ◌≤◌}
+use Prim.Native.Nat.{◌+◌, ◌*◌, ◌≤◌}
 use lib.ListN.{length}
 use Rattle.tables.specs.Words.{set_size}
 use Rattle.side.proofs.Filling as F
-use borrow.Author.Rules.{rules}
 use native.Mathlib.Omega.{arith}
 use Rattle.side.proofs.own_sets.Goals as goal
 
@@ -14,11 +13,11 @@ loop-i-init c = let pre = c.requires in
 
 pub overflow_add-e : goal.overflow_add-e
 overflow_add-e c = let pre = c.requires in
-    omega (arith, c.wide.ensures.0, pre.0.few, pre.0.short c.loop-i.i (omega arith))
+    omega (arith, c.from.ensures, pre.0.few, pre.0.short c.loop-i.i (omega arith))
 
 pub state_of-q-requires : goal.state_of-q-requires
 state_of-q-requires c = let pre = c.requires in
-    F.own-asks _ _ _ _ _ _ pre.0 pre.1 pre.2 pre.3 pre.4 _ _ c.loop-i.invariant (omega arith) _ c.wide.ensures.0
+    F.own-asks _ _ _ _ _ _ pre.0 pre.1 pre.2 pre.3 pre.4 _ _ c.loop-i.invariant (omega arith) _ c.from.ensures
 
 pub put_place-requires : goal.put_place-requires
 put_place-requires c = let pre = c.requires in
@@ -27,10 +26,7 @@ put_place-requires c = let pre = c.requires in
 
 pub loop-i-preserved : goal.loop-i-preserved
 loop-i-preserved c = let pre = c.requires in
-    F.own-another _ _ _ _ _ c.args.rows.now pre.0 pre.1 pre.2 pre.3 pre.4 _ _ c.loop-i.invariant (omega arith) _ c.wide.ensures.0 _ _ c.state_of-q.ensures.0 c.state_of-q.ensures.1 c.put_place.ensures
-
-pub shape_of-sets : goal.shape_of-sets
-shape_of-sets c = c.loop-i.invariant.sets_past.len
+    F.own-another _ _ _ _ _ c.args.rows.now pre.0 pre.1 pre.2 pre.3 pre.4 _ _ c.loop-i.invariant (omega arith) _ c.from.ensures _ _ c.state_of-q.ensures.0 c.state_of-q.ensures.1 c.put_place.ensures
 
 pub returns : goal.returns
 returns c = let pre = c.requires in

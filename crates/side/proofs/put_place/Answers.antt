@@ -2,7 +2,6 @@
 -- Assumes nothing.
 use Rattle.side.proofs.Writing.{one}
 use native.Mathlib.Omega.{arith}
-use borrow.Author.Rules.{rules}
 use Rattle.side.proofs.put_place.Goals as goal
 
 pub returns : goal.returns

@@ -1,29 +1,27 @@
 -- `speech::phone_count` meets its contract: after k parts their phones are counted.
 -- Assumes nothing.
-use Prim.Native.Nat.{◌-◌}
 use mathlib.Core.Path.{refl}
 use native.Mathlib.Omega.{arith}
-use borrow.Author.Rules.{rules}
 use lib.ListN.{length}
 use Rattle.rules.specs.Limits.{max_listed_phones}
 use Rattle.speech.specs.Places.{part_at}
 use Rattle.speech.specs.Speech.{phones_in}
-use Rattle.speech.proofs.Counted.{phone_count, phones_sum, Counted, counted_begin, counted_next, counted_end}
+use Rattle.speech.proofs.Counted.{phone_count, phones_sum, counted_begin, counted_next, counted_end}
 use Rattle.speech.proofs.phone_count.Goals as goal
 
-pub loop-k-init : goal.loop-k-init
-loop-k-init c = counted_begin phone_count (λ x. length (phones_in x)) phones_sum max_listed_phones (part_at c.args.image.now c.args.list.now) c.args.parts.now
+pub loop-part-init : goal.loop-part-init
+loop-part-init c = counted_begin phone_count (λ x. length (phones_in x)) phones_sum max_listed_phones (part_at c.args.image.now c.args.list.now) c.args.parts.now
 
 pub part_phones-total-requires : goal.part_phones-total-requires
-part_phones-total-requires c = (c.requires.0, c.requires.1.1 c.loop-k.k (omega arith))
+part_phones-total-requires c = (c.requires.0, c.requires.1.1 c.loop-part.part-index (omega arith))
 
 pub overflow_add-total : goal.overflow_add-total
-overflow_add-total c = omega (arith, c.loop-k.invariant.small, c.requires.1.0, c.part_phones-total.ensures.1)
+overflow_add-total c = omega (arith, c.loop-part.invariant.small, c.requires.1.0, c.part_phones-total.ensures.1)
 
-pub loop-k-preserved : goal.loop-k-preserved
-loop-k-preserved c = let a = c.args in
-    let l = c.loop-k in
-    counted_next phone_count (λ x. length (phones_in x)) phones_sum max_listed_phones (part_at a.image.now a.list.now) a.parts.now l.k l.total _ l.invariant (omega arith) _ refl c.part_phones-total.ensures.0 c.part_phones-total.ensures.1
+pub loop-part-preserved : goal.loop-part-preserved
+loop-part-preserved c = let a = c.args in
+    let l = c.loop-part in
+    counted_next phone_count (λ x. length (phones_in x)) phones_sum max_listed_phones (part_at a.image.now a.list.now) a.parts.now l.part-index l.total _ l.invariant (omega arith) _ refl c.part_phones-total.ensures.0 c.part_phones-total.ensures.1
 
 pub returns : goal.returns
-returns c = counted_end phone_count (λ x. length (phones_in x)) phones_sum max_listed_phones (part_at c.args.image.now c.args.list.now) c.args.parts.now c.loop-k.k c.loop-k.total c.loop-k.invariant (omega arith)
+returns c = counted_end phone_count (λ x. length (phones_in x)) phones_sum max_listed_phones (part_at c.args.image.now c.args.list.now) c.args.parts.now c.loop-part.part-index c.loop-part.total c.loop-part.invariant (omega arith)

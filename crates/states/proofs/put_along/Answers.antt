@@ -1,15 +1,11 @@
 -- `states::put_along` meets its contract: the change of the name from place i on is made, from the last place back to the first.
 -- Assumes nothing.
 use native.Mathlib.Omega.{arith}
-use borrow.Author.Rules.{rules}
-use Rattle.states.proofs.Puts.{start_asks, start_gives, along_next, along_end, Along, along_begin, back_asks}
+use Rattle.states.proofs.Puts.{start_asks, start_gives, along_next, along_end, back_asks}
 use Rattle.states.proofs.put_along.Goals as goal
 
 pub intern_with_phones-placed-requires : goal.intern_with_phones-placed-requires
 intern_with_phones-placed-requires c = start_asks _ _ _ _ c.requires.0 _ c.requires.1 _ c.wide16-last.ensures.0
-
-pub loop-i-init : goal.loop-i-init
-loop-i-init c = along_begin _ _ _ _ _ _
 
 pub intern_with_successor-placed-requires : goal.intern_with_successor-placed-requires
 intern_with_successor-placed-requires c = let s = start_gives _ _ _ _ c.requires.0 _ c.requires.1 _ c.wide16-last.ensures.0 _ _ c.intern_with_phones-placed.ensures in
@@ -17,10 +13,6 @@ intern_with_successor-placed-requires c = let s = start_gives _ _ _ _ c.requires
 
 pub loop-i-preserved : goal.loop-i-preserved
 loop-i-preserved c = along_next _ _ _ _ _ _ _ _ _ c.loop-i.invariant (omega arith) _ _ c.wide-c.ensures.0 c.wide16-q.ensures.0 _ _ c.intern_with_successor-placed.ensures
-
-pub shape_of-words : goal.shape_of-words
-shape_of-words c = let s = start_gives _ _ _ _ c.requires.0 _ c.requires.1 _ c.wide16-last.ensures.0 _ _ c.intern_with_phones-placed.ensures in
-    (along_end _ _ _ _ _ _ _ _ _ c.loop-i.invariant (omega arith) _ c.requires.0 c.requires.1 s).long
 
 pub returns : goal.returns
 returns c = let s = start_gives _ _ _ _ c.requires.0 _ c.requires.1 _ c.wide16-last.ensures.0 _ _ c.intern_with_phones-placed.ensures in

@@ -2,13 +2,11 @@
 -- unless all words are passed.
 -- Assumes nothing.
 use mathlib.Core.Path.{◌≡◌, refl, sym, ap, ◌∙◌}
-use Prim.Native.Nat.{ℕ, ◌+◌, ◌-◌, ◌≤◌, ◌<◌}
+use Prim.Native.Nat.{◌+◌, ◌-◌}
 use native.Mathlib.Omega.{arith}
-use borrow.Author.Rules.{rules}
-use mathlib.Core.Option.{Option}
-use lib.Count.{count_trailing_zeros, trailing_le}
+use lib.Count.{trailing_le}
 use Rattle.tables.specs.Words.{set_size}
-use Rattle.tables.specs.SetWords.{lowest_from, meet_word}
+use Rattle.tables.specs.SetWords.{meet_word}
 use Rattle.tables.proofs.SetWords.{from_found, from_next, from_end}
 use Rattle.table_reading.specs.Letters.{found_of}
 use Rattle.table_reading.proofs.lowest_of_all.Invariants.{lowest_at}

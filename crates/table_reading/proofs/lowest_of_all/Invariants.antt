@@ -1,16 +1,12 @@
 -- `table_reading::lowest_of_all` meets its contract. The loop's invariant: the lowest place from word j on is the lowest from word k on, and word k has one
 -- unless all words are passed.
 -- Assumes nothing.
-use mathlib.Core.Path.{◌≡◌, refl, sym, ap, ◌∙◌}
-use Prim.Native.Nat.{ℕ, ◌+◌, ◌-◌, ◌≤◌, ◌<◌}
-use native.Mathlib.Omega.{arith}
-use borrow.Author.Rules.{rules}
+use mathlib.Core.Path.{◌≡◌}
+use Prim.Native.Nat.{ℕ, ◌-◌, ◌≤◌, ◌<◌}
 use mathlib.Core.Option.{Option}
-use lib.Count.{count_trailing_zeros, trailing_le}
+use lib.Count.{count_trailing_zeros}
 use Rattle.tables.specs.Words.{set_size}
 use Rattle.tables.specs.SetWords.{lowest_from, meet_word}
-use Rattle.tables.proofs.SetWords.{from_found, from_next, from_end}
-use Rattle.table_reading.specs.Letters.{found_of}
 use Rattle.table_reading.proofs.lowest_of_all.Given as goal
 
 -- the lowest place from word j on
@@ -19,6 +15,3 @@ lowest_at a j = lowest_from a j (set_size - j)
 
 abbrev pub invariant-loop-j : goal.invariant-loop-j
 invariant-loop-j l = (l.j ≤ set_size) × (lowest_at (meet_word l.sets l.s l.t) l.j ≡ lowest_at (meet_word l.sets l.s l.t) l.k) × (l.k < set_size → count_trailing_zeros 64 (meet_word l.sets l.s l.t l.k) < 64)
-
-abbrev pub decreases-loop-j : goal.decreases-loop-j
-decreases-loop-j l = l.j

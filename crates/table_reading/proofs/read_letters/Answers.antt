@@ -1,28 +1,16 @@
 -- `table_reading::read_letters` meets its contract, by the loop invariant `Gone`: the rules applied so far, then the reading from i, are the whole reading.
 -- Assumes nothing.
-use Prim.Native.Nat.{ℕ, ◌+◌, ◌-◌}
-use mathlib.Core.Path.{◌≡◌, refl, sym, ap, ◌∙◌, subst}
-use mathlib.Core.List.{List}
-use mathlib.Core.Logic.{◌⊎◌, ⊎_elim}
-use borrow.Author.Rules.{rules}
+use Prim.Native.Nat.{ℕ, ◌+◌}
+use mathlib.Core.Path.{refl, sym, ap, ◌∙◌, subst}
 use native.Mathlib.Omega.{arith}
-use lib.ListN.{length, set, length-set}
-use denote.Enum.Declared.{tag_of}
+use lib.ListN.{set, length-set}
 use Rattle.image.proofs.Tests.{valid_long, valid_count}
 use Rattle.image.proofs.Entries.{entry_shaped}
-use Rattle.fitting.specs.Reading.{nothing}
+use Rattle.std.specs.Prelude.{Option, Ok}
 use Rattle.table_reading.specs.Letters.{choice_of}
 use Rattle.table_reading.specs.declared.Chosen.{Chosen}
-use Rattle.table_reading.specs.declared.Chosen.TheVariants.{Rule, Nothing, Unusable}
-use Rattle.table_reading.specs.contracts.Chosen.{the_type}
 use Rattle.table_reading.proofs.Choosing.{Gone, begin, by_states, next, unusable_here, none_here, done}
 use Rattle.table_reading.proofs.read_letters.Goals as goal
-
--- an answer that is neither unusable nor a rule
-none_left : (image : List ℕ) (x : Chosen) → (x ≡ Unusable → ⊥) → ((p n k : ℕ) → x ≡ Rule p n k → ⊥) → choice_of image x ≡ nothing
-none_left image (Rule p n k) u r = absurd (r p n k refl)
-none_left image Nothing u r = refl
-none_left image Unusable u r = absurd (u refl)
 
 pub literal_total-total-requires : goal.literal_total-total-requires
 literal_total-total-requires c = valid_long c.args.image.now c.requires.0
@@ -46,31 +34,25 @@ overflow_mul-t c = omega (arith, c.wide16.ensures.0, c.requires.3.rights c.loop-
 pub overflow_add-t : goal.overflow_add-t
 overflow_add-t c = omega (arith, c.wide16.ensures.0, c.requires.3.rights c.loop-i.i (omega (arith, c.loop-i.invariant.0.behind)) (omega arith))
 
-pub choose-choice-requires : goal.choose-choice-requires
-choose-choice-requires c = let l = c.requires.3.lefts c.loop-i.i (omega (arith, c.loop-i.invariant.0.behind)) (omega arith) in
+pub choose-requires : goal.choose-requires
+choose-requires c = let l = c.requires.3.lefts c.loop-i.i (omega (arith, c.loop-i.invariant.0.behind)) (omega arith) in
     let r = c.requires.3.rights c.loop-i.i (omega (arith, c.loop-i.invariant.0.behind)) (omega arith) in
     (omega (arith, c.wide16-s.ensures.0), omega (arith, c.wide16.ensures.0), c.requires.0, c.literal_total-total.ensures.0, omega (arith, c.loop-i.invariant.0.behind), omega arith)
 
-pub shape_of-parts-in-Unusable : goal.shape_of-parts-in-Unusable
-shape_of-parts-in-Unusable c = c.loop-i.invariant.1
-
-pub returns-in-Unusable : goal.returns-in-Unusable
-returns-in-Unusable c = let a = c.args in
+pub returns-in_default : goal.returns-in_default
+returns-in_default c = let a = c.args in
     let k = c.loop-i in
     unusable_here a.image.now a.sets.now a.right_sets a.left.now a.right.now a.frame.now c.requires.0 k.parts k.count k.i k.invariant.0 (omega arith)
-    (sym (by_states a.image.now a.sets.now a.right_sets a.left.now a.right.now a.frame.now k.i _ _ c.wide16-s.ensures.0 c.wide16.ensures.0 _ c.choose-choice.ensures) ∙ ap (choice_of a.image.now) c.in-Unusable.is)
-
-pub shape_of-parts-in_default-choice : goal.shape_of-parts-in_default-choice
-shape_of-parts-in_default-choice c = c.loop-i.invariant.1
+    (sym (by_states a.image.now a.sets.now a.right_sets a.left.now a.right.now a.frame.now k.i _ _ c.wide16-s.ensures.0 c.wide16.ensures.0 _ c.in_default.ensures))
 
 pub returns-in_default-choice : goal.returns-in_default-choice
 returns-in_default-choice c = let a = c.args in
     let k = c.loop-i in
     none_here a.image.now a.sets.now a.right_sets a.left.now a.right.now a.frame.now c.requires.0 k.parts k.count k.i k.invariant.0 (omega arith)
-    (sym (by_states a.image.now a.sets.now a.right_sets a.left.now a.right.now a.frame.now k.i _ _ c.wide16-s.ensures.0 c.wide16.ensures.0 _ c.choose-choice.ensures) ∙ none_left a.image.now c.choose-choice.result c.in_default.not-Unusable c.in_default-choice.not-Rule)
+    (sym (by_states a.image.now a.sets.now a.right_sets a.left.now a.right.now a.frame.now k.i _ _ c.wide16-s.ensures.0 c.wide16.ensures.0 _ c.in-Ok.ensures) ∙ ap (λ (x : Option Chosen). choice_of a.image.now (Ok x)) c.in_default-choice.is)
 
 pub part_of-requires : goal.part_of-requires
-part_of-requires c = let h = c.choose-choice.ensures.inside _ _ _ c.in-Rule.is in
+part_of-requires c = let h = c.in-Ok.ensures.inside _ (ap Ok c.in-Some.is) in
     (omega (arith, h.0, valid_count c.args.image.now c.requires.0), omega (arith, h.1.0))
 
 pub offset_bounds-parts-count : goal.offset_bounds-parts-count
@@ -83,26 +65,22 @@ pub overflow_add-count : goal.overflow_add-count
 overflow_add-count c = omega (arith, c.loop-i.invariant.0.behind)
 
 pub loop-i-smaller : goal.loop-i-smaller
-loop-i-smaller c = let h = c.choose-choice.ensures.inside _ _ _ c.in-Rule.is in
+loop-i-smaller c = let h = c.in-Ok.ensures.inside _ (ap Ok c.in-Some.is) in
     let w = entry_shaped c.args.image.now c.requires.0 _ h.0 in
     omega (arith, h.1.1, w.target-least, c.loop-i.invariant.0.near)
 
 pub loop-i-preserved : goal.loop-i-preserved
 loop-i-preserved c = let a = c.args in
     let k = c.loop-i in
-    let e = c.in-Rule.is in
-    let h = c.choose-choice.ensures.inside _ _ _ e in
+    let h = c.in-Ok.ensures.inside _ (ap Ok c.in-Some.is) in
     let w = entry_shaped a.image.now c.requires.0 _ h.0 in (
       subst (λ (x : ℕ). Gone a.image.now a.sets.now a.right_sets a.left.now a.right.now a.frame.now (set k.parts k.count c.part_of.result) (k.count + 1) x) (sym h.1.1)
           (next a.image.now a.sets.now a.right_sets a.left.now a.right.now a.frame.now c.requires.0 k.parts k.count k.i k.invariant.0 (omega arith)
           _ _
-          (sym (by_states a.image.now a.sets.now a.right_sets a.left.now a.right.now a.frame.now k.i _ _ c.wide16-s.ensures.0 c.wide16.ensures.0 _ c.choose-choice.ensures) ∙ ap (choice_of a.image.now) e)
+          (sym (by_states a.image.now a.sets.now a.right_sets a.left.now a.right.now a.frame.now k.i _ _ c.wide16-s.ensures.0 c.wide16.ensures.0 _ c.in-Ok.ensures) ∙ ap (λ (x : Option Chosen). choice_of a.image.now (Ok x)) c.in-Some.is)
           h.0 _ c.part_of.ensures _ refl w.target-least w.target-most),
       length-set k.parts k.count _ ∙ k.invariant.1,
     )
-
-pub shape_of-parts : goal.shape_of-parts
-shape_of-parts c = c.loop-i.invariant.1
 
 pub returns : goal.returns
 returns c = let a = c.args in

@@ -1,14 +1,8 @@
 -- `table_reading::read_words` meets its contract: one word more at each turn.
 -- Assumes nothing.
-use mathlib.Core.Path.{sym, ap, ◌∙◌}
 use Prim.Native.Nat.{◌+◌, ◌-◌}
 use lib.ListN.{length}
-use borrow.Author.Rules.{rules}
-use Rattle.reading.proofs.NameWords.{frame_length}
-use Rattle.reading.proofs.NameReading.{not_rules_by}
-use Rattle.reading.proofs.WordReading.{part_inside}
-use Rattle.table_reading.proofs.WordsRead.{NameGoing, name_begin, name_word, name_bounded, name-next, name_stop, name-end, few_so_far}
-use native.Mathlib.Omega.{arith}
+use Rattle.table_reading.proofs.WordsRead.{NameGoing}
 use Rattle.table_reading.proofs.read_words.Given as goal
 
 abbrev pub invariant-loop-from : goal.invariant-loop-from

@@ -6,7 +6,6 @@ use native.Mathlib.Omega.{arith}
 use lib.Bits.{bit_and, and_le_r}
 use lib.Count.{ones-le}
 use lib.ListN.{get_or}
-use borrow.Author.Rules.{rules}
 use Rattle.tables.proofs.SetWords.{ones_all}
 use Rattle.table_reading.proofs.shared_in.Goals as goal
 

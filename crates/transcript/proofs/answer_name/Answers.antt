@@ -1,21 +1,20 @@
 -- `transcript::answer_name` meets its contract: 65 letters are answered as a longer name is.
 -- Assumes nothing.
 use Rattle.rules.specs.Memory.{over}
-use Rattle.transcript.proofs.Spoken.{answered_none, answered_name}
+use Rattle.transcript.proofs.Spoken.{answered}
+use Rattle.transcript.specs.Names.{answer_to, name_in}
 use Rattle.answer_lines.proofs.Told.{length_refusal}
 use Rattle.rules.specs.declared.Refusal.TheVariants.{BadLine}
 use lib.ListN.{length, drop}
 use Prim.Native.Nat.{ℕ}
 use mathlib.Core.List.{List}
 use mathlib.Core.Path.{sym, ap, ◌∙◌}
-use native.Mathlib.Omega.{arith}
-use borrow.Author.Rules.{rules}
 use Rattle.transcript.proofs.answer_name.Goals as goal
 
-pub returns-then-end-eq0 : goal.returns-then-end-eq0
-returns-then-end-eq0 c = let a = c.args in
-    let h = c.name_in-end in
-    let e = answered_none a.image.now a.words.now a.sets.now (drop a.at a.text.now) h.new.frame h.result c.requires.0 h.ensures.name c.if-end-eq0.true in
+pub returns-in_default : goal.returns-in_default
+returns-in_default c = let a = c.args in
+    let h = c.name_in in
+    let e = ap (λ o. answer_to a.image.now a.words.now a.sets.now (name_in o h.new.frame)) (sym c.in_default.is) ∙ answered a.image.now a.words.now a.sets.now (drop a.at a.text.now) h.new.frame c.requires.0 h.result h.ensures.name in
     let s = c.refusal_line-len in
     record {
       next = c.next_line-next.ensures;
@@ -25,8 +24,8 @@ returns-then-end-eq0 c = let a = c.args in
 
 pub returns : goal.returns
 returns c = let a = c.args in
-    let h = c.name_in-end in
-    let e = answered_name a.image.now a.words.now a.sets.now (drop a.at a.text.now) h.new.frame h.result c.requires.0 h.ensures.name (omega (arith, c.if-end-eq0.false)) in
+    let h = c.name_in in
+    let e = ap (λ o. answer_to a.image.now a.words.now a.sets.now (name_in o h.new.frame)) (sym c.in-Some.is) ∙ answered a.image.now a.words.now a.sets.now (drop a.at a.text.now) h.new.frame c.requires.0 h.result h.ensures.name in
     let s = c.speak-len in
     record {
       next = c.next_line-next.ensures;

@@ -1,39 +1,35 @@
 -- `transcript::name_in` meets its contract, by what the report of a line tells.
 -- Assumes nothing.
-use Rattle.transcript.proofs.NameLine.{wrong, right}
-use Rattle.transcript.proofs.NameLine.{name_in_bad, name_in_other, name_in_long, name_in_short, some}
+use Rattle.transcript.proofs.NameLine.{name_in_bad, name_in_other, name_in_kept, some}
 use borrow.Author.Tests.{eq-eqb, ne_eqb}
 use native.Mathlib.Omega.{arith}
-use borrow.Author.Rules.{rules}
 use Rattle.transcript.proofs.name_in.Goals as goal
 
-pub returns-then-not-line : goal.returns-then-not-line
-returns-then-not-line c =
-    record {
-      end = omega arith;
-      name = name_in_bad c.args.text.now c.args.at c.read_line-line.result c.args.frame.now c.read_line-line.new.frame c.read_line-line.ensures.line c.read_line-line.ensures.bytes c.requires (wrong _ c.if-not-line.true);
-    }
+pub returns-in_err-line : goal.returns-in_err-line
+returns-in_err-line c =
+    let r = c.read_line in
+    rw c.from_residual.ensures (record { end = tt; name = name_in_bad c.args.text.now c.args.at c.args.frame.now r.new.frame r.ensures.bytes c.requires c.in_err-line.ensures.line })
 
 pub returns-then-frame-ne3 : goal.returns-then-frame-ne3
 returns-then-frame-ne3 c =
+    let r = c.read_line in
     record {
-      end = omega arith;
-      name = name_in_other c.args.text.now c.args.at c.read_line-line.result c.args.frame.now c.read_line-line.new.frame c.read_line-line.ensures.line c.read_line-line.ensures.bytes c.requires (right _ c.if-not-line.false) (ne_eqb _ 3 c.if-frame-ne3.true);
-    }
-
-pub returns-then-n-gt67 : goal.returns-then-n-gt67
-returns-then-n-gt67 c =
-    record {
-      end = omega arith;
-      name = name_in_long c.args.text.now c.args.at c.read_line-line.result c.args.frame.now c.read_line-line.new.frame c.read_line-line.ensures.line c.read_line-line.ensures.bytes c.requires (right _ c.if-not-line.false) (eq-eqb _ 3 c.if-frame-ne3.false) c.if-n-gt67.true;
+      end = tt;
+      name = name_in_other c.args.text.now c.args.at c.args.frame.now r.new.frame r.ensures.bytes c.requires c.in_ok-line.line c.in_ok-line.ensures.line (ne_eqb _ 3 c.if-frame-ne3.true);
     }
 
 pub overflow_sub-result : goal.overflow_sub-result
-overflow_sub-result c = omega (arith, some c.args.text.now c.args.at c.read_line-line.result c.args.frame.now c.read_line-line.new.frame c.read_line-line.ensures.line c.read_line-line.ensures.bytes c.requires (right _ c.if-not-line.false) (eq-eqb _ 3 c.if-frame-ne3.false))
+overflow_sub-result c =
+    let r = c.read_line in
+    omega (arith, c.min.ensures, some c.args.text.now c.args.at c.args.frame.now r.new.frame r.ensures.bytes c.requires c.in_ok-line.line c.in_ok-line.ensures.line (eq-eqb _ 3 c.if-frame-ne3.false))
 
 pub returns : goal.returns
 returns c =
+    let r = c.read_line in
+    let l = c.in_ok-line in
+    let t = eq-eqb _ 3 c.if-frame-ne3.false in
+    let n = some c.args.text.now c.args.at c.args.frame.now r.new.frame r.ensures.bytes c.requires l.line l.ensures.line t in
     record {
-      end = omega arith;
-      name = name_in_short c.args.text.now c.args.at c.read_line-line.result c.args.frame.now c.read_line-line.new.frame c.read_line-line.ensures.line c.read_line-line.ensures.bytes c.requires (right _ c.if-not-line.false) (eq-eqb _ 3 c.if-frame-ne3.false) c.if-n-gt67.false;
+      end = (omega (arith, c.min.ensures, n), omega (arith, c.min.ensures));
+      name = name_in_kept c.args.text.now c.args.at c.args.frame.now r.new.frame r.ensures.bytes c.requires l.line l.ensures.line t c.min.result c.min.ensures;
     }

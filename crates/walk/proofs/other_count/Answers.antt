@@ -1,9 +1,7 @@
 -- `walk::other_count` meets its contract.
 -- Assumes nothing.
 use native.Mathlib.Omega.{arith}
-use borrow.Author.Tests.{not-true, not-false}
 use Rattle.walk.proofs.Walked.{count_differs}
-use borrow.Author.Rules.{rules}
 use Rattle.walk.proofs.other_count.Goals as goal
 
 pub returns-then-not-long : goal.returns-then-not-long

@@ -3,7 +3,6 @@
 use Rattle.reading.proofs.NameWords.{frame_length, frame_part}
 use lib.ListN.{length, replicate}
 use mathlib.Core.Path.{sym, ap, ◌∙◌}
-use borrow.Author.Rules.{rules}
 use Rattle.walk.proofs.walk_sound.Goals as goal
 
 pub slice_bounds-walk_frame-end : goal.slice_bounds-walk_frame-end

@@ -8,7 +8,6 @@ use lib.Dec.{eqb}
 use Rattle.image.proofs.Tests.{valid_long}
 use Rattle.tables.specs.Words.{edits_in}
 use Rattle.walk.proofs.Walked.{fit_true, tests_fit}
-use borrow.Author.Rules.{rules}
 use Rattle.walk.proofs.walk_tables.Goals as goal
 
 pub edit_count-requires : goal.edit_count-requires

@@ -3,7 +3,6 @@
 use Prim.Native.Nat.{ℕ, ◌^◌, ◌<◌}
 use mathlib.Core.Path.{ap, ◌∙◌}
 use native.Mathlib.Omega.{arith}
-use borrow.Author.Rules.{rules}
 use lib.Dec.{leb}
 use Rattle.classes.proofs.Shapes.{shaped_odd, shaped_high, shaped_rest}
 use Rattle.classes.proofs.masks.mask_shaped.Goals as goal

@@ -1,7 +1,6 @@
 -- `classes::masks::rank_in` meets its contract.
 -- Assumes nothing.
 use native.Mathlib.Omega.{arith}
-use borrow.Author.Rules.{rules}
 use Rattle.classes.proofs.Letters.{shifted_some, rank_is, rank_few}
 use Rattle.classes.proofs.masks.rank_in.Goals as goal
 

@@ -1,6 +1,5 @@
 -- `classes::masks::without_first` meets its contract.
 -- Assumes nothing.
-use borrow.Author.Rules.{rules}
 use Rattle.classes.proofs.Letters.{letters_clear, clear_less}
 use Rattle.classes.proofs.masks.without_first.Goals as goal
 

@@ -1,7 +1,6 @@
 -- `classes::runs::cap` meets its contract.
 -- Assumes nothing.
 use native.Mathlib.Omega.{arith}
-use borrow.Author.Rules.{rules}
 use Rattle.classes.proofs.Scan.{cap_low, cap_high}
 use Rattle.classes.proofs.runs.cap.Goals as goal
 

@@ -1,14 +1,12 @@
 -- `classes::runs::grown` meets its contract.
 -- Assumes nothing.
 use Prim.Native.Nat.{ℕ, ◌*◌, ◌≤◌}
-use mathlib.Core.Path.{◌≡◌, sym, ap, ◌∙◌}
+use mathlib.Core.Path.{sym, ap, ◌∙◌}
 use native.Mathlib.Nat.{mul-le-mul, mul-one}
 use native.Mathlib.Omega.{arith}
-use borrow.Author.Rules.{rules}
 use Rattle.classes.specs.Counting.{capped}
 use Rattle.classes.proofs.Standing.{alone_long}
 use Rattle.classes.proofs.Scan.{cap_few}
-use borrow.Author.Rules.{rules}
 use Rattle.classes.proofs.runs.grown.Goals as goal
 
 pub returns-then-symbol-lt-FIRST_CLASS : goal.returns-then-symbol-lt-FIRST_CLASS

@@ -1,6 +1,5 @@
 -- `classes::runs::literal_count` meets its contract.
 -- Assumes nothing.
-use borrow.Author.Rules.{rules}
 use Rattle.classes.specs.Expansion.{size}
 use Rattle.classes.specs.Masks.{classes_in}
 use Rattle.classes.proofs.Scan.{cap_both}

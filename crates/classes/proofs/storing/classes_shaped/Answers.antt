@@ -1,11 +1,8 @@
 -- `classes::storing::classes_shaped` meets its contract: the classes from c on decide.
 -- Assumes nothing.
-use Prim.Native.Nat.{◌-◌, ◌≤◌}
-use mathlib.Core.Path.{◌≡◌, sym, ◌∙◌}
-use borrow.Author.Tests.{not-true, not-false}
+use mathlib.Core.Path.{sym, ◌∙◌}
 use native.Mathlib.Omega.{arith}
-use borrow.Author.Rules.{rules}
-use Rattle.classes.specs.Masks.{classes_in, classes_shaped, classes_shaped_from}
+use Rattle.classes.specs.Masks.{classes_in}
 use Rattle.classes.proofs.Scan.{shaped_begin, shaped_class, shaped_on, shaped_off, shaped_end}
 use Rattle.classes.proofs.storing.classes_shaped.Goals as goal
 

@@ -1,16 +1,9 @@
 -- `classes::storing::classes_shaped` meets its contract: the classes from c on decide.
 -- Assumes nothing.
 use Prim.Native.Nat.{◌-◌, ◌≤◌}
-use mathlib.Core.Path.{◌≡◌, sym, ◌∙◌}
-use borrow.Author.Tests.{not-true, not-false}
-use native.Mathlib.Omega.{arith}
-use borrow.Author.Rules.{rules}
+use mathlib.Core.Path.{◌≡◌}
 use Rattle.classes.specs.Masks.{classes_in, classes_shaped, classes_shaped_from}
-use Rattle.classes.proofs.Scan.{shaped_begin, shaped_class, shaped_on, shaped_off, shaped_end}
 use Rattle.classes.proofs.storing.classes_shaped.Given as goal
 
 abbrev pub invariant-loop-c : goal.invariant-loop-c
 invariant-loop-c l = (64 ≤ l.c) × ((l.c ≤ 96) × (classes_shaped (classes_in l.masks) ≡ classes_shaped_from (classes_in l.masks) l.c (96 - l.c)))
-
-abbrev pub decreases-loop-c : goal.decreases-loop-c
-decreases-loop-c l = 96 - l.c

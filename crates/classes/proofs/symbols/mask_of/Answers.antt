@@ -2,7 +2,6 @@
 -- Assumes nothing.
 use Prim.Native.Nat.{◌^◌}
 use mathlib.Core.Path.{ap, ◌∙◌}
-use borrow.Author.Rules.{rules}
 use lib.Bits.{bit_or}
 use Rattle.classes.proofs.Standing.{mask_letter, mask_class, mask_none}
 use Rattle.classes.proofs.symbols.mask_of.Goals as goal

@@ -2,7 +2,6 @@
 -- Assumes nothing.
 use mathlib.Core.Path.{ap, ◌∙◌}
 use native.Mathlib.Omega.{arith}
-use borrow.Author.Rules.{rules}
 use Rattle.numbers.specs.Bits.{bit}
 use Rattle.classes.proofs.Standing.{stands_alone, stands_bit, stands_high}
 use Rattle.classes.proofs.symbols.stands_for.Goals as goal

@@ -15,23 +15,23 @@ returns-then-f-ne5 c = let a = c.args in
       bytes = told.1;
     }
 
-pub returns-in-Bytes : goal.returns-in-Bytes
-returns-in-Bytes c = let a = c.args in
+pub returns-in-Ok : goal.returns-in-Ok
+returns-in-Ok c = let a = c.args in
     let n = c.lent-n.result in
     let h : n ≤ length a.out.now = omega (arith, c.lent-n.ensures.1.1, c.requires) in
     let told = written a.f.now a.image.now a.out.now _ _ n _ c.if-f-ne5.false c.lent-n.ensures.0 c.four_at.ensures.0
-    (gives_file n a.image.now c.write_in-written.result a.out.now _ h c.write_in-written.ensures _ c.in-Bytes.is) in
+    (gives_file n a.image.now c.write_in-written.result a.out.now _ h c.write_in-written.ensures _ c.in-Ok.is) in
     record {
       len = told.0;
       bytes = told.1;
     }
 
-pub returns-in-Refused : goal.returns-in-Refused
-returns-in-Refused c = let a = c.args in
+pub returns-in-Err : goal.returns-in-Err
+returns-in-Err c = let a = c.args in
     let n = c.lent-n.result in
     let h : n ≤ length a.out.now = omega (arith, c.lent-n.ensures.1.1, c.requires) in
     let told = written a.f.now a.image.now a.out.now _ _ n _ c.if-f-ne5.false c.lent-n.ensures.0 c.four_at.ensures.0
-    (gives_unwritten n a.image.now c.write_in-written.result a.out.now _ h c.write_in-written.ensures _ _ _ c.in-Refused.is c.refusal_line.ensures.len c.refusal_line.ensures.bytes) in
+    (gives_unwritten n a.image.now c.write_in-written.result a.out.now _ h c.write_in-written.ensures _ _ _ c.in-Err.is c.refusal_line.ensures.len c.refusal_line.ensures.bytes) in
     record {
       len = told.0;
       bytes = told.1;

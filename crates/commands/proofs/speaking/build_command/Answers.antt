@@ -17,18 +17,18 @@ returns-then-f-ne9 c = let a = c.args in
     both_not (eqb (length a.f.now) 9) (build_effects (built_in (lent_of (four 1 a.f.now) (length a.words.now)) (lent_of (four 5 a.f.now) (length a.sets.now)) a.image.now a.words.now a.sets.now)) a.words.now a.sets.now a.out.now _ _
     (ne_eqb (length a.f.now) 9 c.if-f-ne9.true) c.malformed.ensures.len c.malformed.ensures.bytes
 
-pub returns-in-Accepted : goal.returns-in-Accepted
+pub returns-in-Ok : goal.returns-in-Ok
 unfolding built_by
-returns-in-Accepted c = let a = c.args in
+returns-in-Ok c = let a = c.args in
     let b = c.build_lent-answer in
     both_built (eqb (length a.f.now) 9) a.words.now a.sets.now a.out.now _ _ (eq-eqb (length a.f.now) 9 c.if-f-ne9.false) _ _
     (built_in (lent_of (four 1 a.f.now) (length a.words.now)) (lent_of (four 5 a.f.now) (length a.sets.now)) a.image.now a.words.now a.sets.now) (reply_of b.result) b.ensures
-    (gives_states b.result _ _ a.out.now _ c.in-Accepted.is _ _ c.state_count-l.ensures c.state_count-r.ensures c.states_line.ensures.len c.states_line.ensures.bytes)
+    (gives_states b.result _ _ a.out.now _ c.in-Ok.is _ _ c.state_count-l.ensures c.state_count-r.ensures c.states_line.ensures.len c.states_line.ensures.bytes)
 
-pub returns-in-Refused : goal.returns-in-Refused
+pub returns-in-Err : goal.returns-in-Err
 unfolding built_by
-returns-in-Refused c = let a = c.args in
+returns-in-Err c = let a = c.args in
     let b = c.build_lent-answer in
     both_built (eqb (length a.f.now) 9) a.words.now a.sets.now a.out.now _ _ (eq-eqb (length a.f.now) 9 c.if-f-ne9.false) _ _
     (built_in (lent_of (four 1 a.f.now) (length a.words.now)) (lent_of (four 5 a.f.now) (length a.sets.now)) a.image.now a.words.now a.sets.now) (reply_of b.result) b.ensures
-    (gives_unbuilt b.result _ _ a.out.now _ _ c.in-Refused.is c.refusal_line.ensures.len c.refusal_line.ensures.bytes)
+    (gives_unbuilt b.result _ _ a.out.now _ _ c.in-Err.is c.refusal_line.ensures.len c.refusal_line.ensures.bytes)

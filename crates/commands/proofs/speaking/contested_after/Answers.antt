@@ -6,5 +6,5 @@ use Rattle.answer_lines.proofs.Told.{spoken_within}
 use Rattle.commands.proofs.speaking.contested_after.Goals as goal
 
 pub overflow_cast-result : goal.overflow_cast-result
-overflow_cast-result c = let w = spoken_within c.args.speech _ _ _ c.in-Spoken.is 256 64 c.requires in
+overflow_cast-result c = let w = spoken_within c.args.speech _ c.in-Ok.is 256 64 c.requires in
     omega (arith, w.1, w.2)

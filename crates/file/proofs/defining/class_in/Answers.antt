@@ -2,8 +2,7 @@
 -- Assumes nothing.
 use mathlib.Core.Path.{refl}
 use native.Mathlib.Omega.{arith}
-use Rattle.file.proofs.ClassTests.{class_short, class_under, class_over, class_length, class_letters}
-use borrow.Author.Rules.{rules}
+use Rattle.file.proofs.ClassTests.{class_short, class_under, class_over, class_length, class_told}
 use Rattle.file.proofs.defining.class_in.Goals as goal
 
 pub returns-then-f-le-LETTERS : goal.returns-then-f-le-LETTERS
@@ -19,4 +18,4 @@ pub returns-then-f-end : goal.returns-then-f-end
 returns-then-f-end c = class_length c.args.low c.args.f.now _ (omega arith) c.if-f-end.true
 
 pub returns : goal.returns
-returns c = class_letters c.args.low c.args.f.now c.requires c.if-symbol-low.false c.if-symbol-gt-MAX_SYMBOL.false _ (omega arith) c.if-f-end.false _ refl c.class_mask.result c.class_mask.ensures
+returns c = class_told c.args.low c.args.f.now c.requires c.if-symbol-low.false c.if-symbol-gt-MAX_SYMBOL.false _ (omega arith) c.if-f-end.false _ refl _ c.class_mask.ensures

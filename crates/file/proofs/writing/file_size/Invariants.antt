@@ -1,19 +1,12 @@
 -- `file::writing::file_size` meets its contract. The loop's invariant: the sizes of the lines so far are added up.
 -- Assumes nothing.
-use Prim.Native.Nat.{◌+◌, ◌-◌}
-use native.Mathlib.Omega.{arith}
+use Prim.Native.Nat.{◌+◌}
 use lib.ListN.{length}
 use Rattle.image.specs.Image.{classes_of}
-use Rattle.image.proofs.Lent.{masks-size}
-use Rattle.image.proofs.Tests.{valid_long, valid_count}
 use Rattle.file_format.specs.Layout.{head_line_size}
 use Rattle.file_format.specs.File.{class_lines}
-use Rattle.file.proofs.FileBytes.{Sized, sized_start, sized_next, sized_end, classes_few}
-use borrow.Author.Rules.{rules}
+use Rattle.file.proofs.FileBytes.{Sized}
 use Rattle.file.proofs.writing.file_size.Given as goal
 
 abbrev pub invariant-loop-i : goal.invariant-loop-i
 invariant-loop-i l = Sized l.image (head_line_size + length (class_lines (classes_of l.image))) l.n l.i
-
-abbrev pub decreases-loop-i : goal.decreases-loop-i
-decreases-loop-i l = l.count - l.i

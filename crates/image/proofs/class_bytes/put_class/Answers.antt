@@ -2,8 +2,6 @@
 -- Assumes nothing.
 use Rattle.image.proofs.Lent.{part_back, part_long}
 use native.Mathlib.Omega.{arith}
-use borrow.Author.Rules.{rules}
-use borrow.Author.Rules.{rules}
 use Rattle.image.proofs.class_bytes.put_class.Goals as goal
 
 pub put_mask-requires : goal.put_mask-requires

@@ -1,14 +1,11 @@
 -- `image::class_bytes::put_classes` meets its contract.
 -- Assumes nothing.
-use mathlib.Core.Path.{◌≡◌, sym, ap, ap₂, ◌∙◌}
+use mathlib.Core.Path.{sym, ap₂, ◌∙◌}
 use mathlib.Core.List.{List, ◌++◌, append_assoc}
 use Prim.Native.Nat.{ℕ, ◌+◌}
 use lib.ListN.{length, take, drop}
 use lib.Seq.{take-length, drop-drop}
 use Rattle.image.specs.Image.{class_start}
-use native.Mathlib.Omega.{arith}
-use borrow.Author.Rules.{rules}
-use borrow.Author.Rules.{rules}
 use Rattle.image.proofs.class_bytes.put_classes.Goals as goal
 
 pub returns : goal.returns

@@ -1,32 +1,29 @@
 -- `image::table::has_run` meets its contract: entries are tested one after the other.
 -- Assumes nothing.
-use Prim.Native.Nat.{ℕ, suc, ◌+◌, ◌-◌, ◌*◌, ◌≤◌}
-use mathlib.Core.Path.{◌≡◌, sym, ap, ◌∙◌}
-use lib.ListN.{length, drop}
-use Rattle.classes.specs.Ordinal.{origin_run}
-use Rattle.image.specs.Image.{origin_size, table_start, origins_at}
-use Rattle.image.proofs.Origins.{rest_run, rest_first, rest_place, rest_ordinal, rest_on, rest_end}
+use Prim.Native.Nat.{◌+◌, ◌*◌}
+use mathlib.Core.Path.{sym, ◌∙◌}
+use Rattle.image.specs.Image.{origin_size, table_start}
+use Rattle.image.proofs.Origins.{rest_first, rest_place, rest_ordinal, rest_on, rest_end}
 use native.Mathlib.Omega.{arith}
-use borrow.Author.Rules.{rules}
 use Rattle.image.proofs.table.has_run.Goals as goal
 
 pub loop-j-init : goal.loop-j-init
-loop-j-init c = (omega arith, rest_first c.args.image.now (table_start + origin_size * c.args.p) c.args.q c.args.n)
+loop-j-init c = rest_first c.args.image.now (table_start + origin_size * c.args.p) c.args.q c.args.n
 
 pub two_at-requires : goal.two_at-requires
 two_at-requires c = omega (arith, c.requires.0, c.requires.1)
 
 pub returns-then-wide16-q : goal.returns-then-wide16-q
-returns-then-wide16-q c = sym (c.loop-j.invariant.1 ∙ rest_place c.args.image.now (table_start + origin_size * c.args.p) c.args.q c.args.n c.loop-j.j (omega arith) (λ e. c.if-wide16-q.true (c.wide16.ensures.0 ∙ (c.two_at.ensures ∙ e))))
+returns-then-wide16-q c = sym (c.loop-j.invariant ∙ rest_place c.args.image.now (table_start + origin_size * c.args.p) c.args.q c.args.n c.loop-j.j (omega arith) (λ e. c.if-wide16-q.true (c.wide16.ensures.0 ∙ (c.two_at.ensures ∙ e))))
 
 pub two_at-requires-in-loop-j : goal.two_at-requires-in-loop-j
 two_at-requires-in-loop-j c = omega (arith, c.requires.0, c.requires.1)
 
 pub returns-then-wide16-j : goal.returns-then-wide16-j
-returns-then-wide16-j c = sym (c.loop-j.invariant.1 ∙ rest_ordinal c.args.image.now (table_start + origin_size * c.args.p) c.args.q c.args.n c.loop-j.j (omega arith) (sym c.two_at.ensures ∙ (sym c.wide16.ensures.0 ∙ c.if-wide16-q.false)) (λ e. c.if-wide16-j.true (c.wide16-in-loop-j.ensures.0 ∙ (c.two_at-in-loop-j.ensures ∙ e))))
+returns-then-wide16-j c = sym (c.loop-j.invariant ∙ rest_ordinal c.args.image.now (table_start + origin_size * c.args.p) c.args.q c.args.n c.loop-j.j (omega arith) (sym c.two_at.ensures ∙ (sym c.wide16.ensures.0 ∙ c.if-wide16-q.false)) (λ e. c.if-wide16-j.true (c.wide16-in-loop-j.ensures.0 ∙ (c.two_at-in-loop-j.ensures ∙ e))))
 
 pub loop-j-preserved : goal.loop-j-preserved
-loop-j-preserved c = (omega arith, c.loop-j.invariant.1 ∙ rest_on c.args.image.now (table_start + origin_size * c.args.p) c.args.q c.args.n c.loop-j.j (omega arith) (sym c.two_at.ensures ∙ (sym c.wide16.ensures.0 ∙ c.if-wide16-q.false)) (sym c.two_at-in-loop-j.ensures ∙ (sym c.wide16-in-loop-j.ensures.0 ∙ c.if-wide16-j.false)))
+loop-j-preserved c = c.loop-j.invariant ∙ rest_on c.args.image.now (table_start + origin_size * c.args.p) c.args.q c.args.n c.loop-j.j (omega arith) (sym c.two_at.ensures ∙ (sym c.wide16.ensures.0 ∙ c.if-wide16-q.false)) (sym c.two_at-in-loop-j.ensures ∙ (sym c.wide16-in-loop-j.ensures.0 ∙ c.if-wide16-j.false))
 
 pub returns : goal.returns
-returns c = sym (c.loop-j.invariant.1 ∙ rest_end c.args.image.now (table_start + origin_size * c.args.p) c.args.q c.args.n c.loop-j.j c.loop-j-test.false)
+returns c = sym (c.loop-j.invariant ∙ rest_end c.args.image.now (table_start + origin_size * c.args.p) c.args.q c.args.n c.loop-j.j c.loop-j-test.false)

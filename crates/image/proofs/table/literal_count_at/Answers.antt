@@ -5,7 +5,6 @@ use Rattle.image.proofs.Entries.{held_slot_inside, held_left_field, held_right_f
 use Rattle.image.proofs.Lent.{masks_long, count_by}
 use Rattle.image.proofs.ClassFree.{class_free_count}
 use native.Mathlib.Omega.{arith}
-use borrow.Author.Rules.{rules}
 use Rattle.image.proofs.table.literal_count_at.Goals as goal
 
 pub without_classes-requires : goal.without_classes-requires

@@ -2,10 +2,8 @@
 -- Assumes nothing.
 use mathlib.Core.Path.{◌∙◌}
 use native.Mathlib.Omega.{arith}
-use borrow.Author.Rules.{rules}
 use Rattle.image.proofs.Literals.{total_few, literal_is}
 use Rattle.image.proofs.Tests.{valid_long}
-use borrow.Author.Rules.{rules}
 use Rattle.image.proofs.table.ordinal_at.Goals as goal
 
 pub overflow_mul-p : goal.overflow_mul-p

@@ -3,11 +3,9 @@
 use Prim.Native.Nat.{ℕ, ◌<◌}
 use mathlib.Core.Path.{sym, subst, ◌∙◌}
 use native.Mathlib.Omega.{arith}
-use borrow.Author.Rules.{rules}
 use Rattle.image.specs.Image.{count_of}
 use Rattle.image.proofs.Literals.{total_few, literal_is}
 use Rattle.image.proofs.Tests.{valid_long}
-use borrow.Author.Rules.{rules}
 use Rattle.image.proofs.table.owner_at.Goals as goal
 
 pub overflow_mul-p : goal.overflow_mul-p

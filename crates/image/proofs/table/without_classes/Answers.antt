@@ -1,8 +1,6 @@
 -- `image::table::without_classes` meets its contract.
 -- Assumes nothing.
 use mathlib.Core.Path.{sym, ◌∙◌}
-use borrow.Author.Rules.{rules}
-use borrow.Author.Tests.{not-true, not-false}
 use Rattle.image.proofs.table.without_classes.Goals as goal
 
 pub returns-then-not-no_class_at : goal.returns-then-not-no_class_at

@@ -1,6 +1,10 @@
 -- `write_from` and `write_under` meet their contracts: the own entry, then one successor after another.
 -- Assumes nothing.
 use Rattle.std.proofs.Common.{arith}
+use mathlib.Core.Path.{◌≡◌, ap, ◌∙◌}
+use Prim.Native.Nat.{◌+◌}
+use Rattle.automaton.specs.Automaton.{key_of, val_of}
+use Rattle.states.proofs.Parts.{slice_at, slice_end}
 use Rattle.readout.proofs.Descent.{from_own, from_none, from_under, from_all, descending_begin, descending_end, step_asks, descending_next}
 use Rattle.readout.proofs.writing.+write_from_write_under.Goals as goal
 
@@ -16,16 +20,29 @@ write_from-write_under-requires t c = (omega arith, from_under _ _ _ _ _ _ _ c.r
 pub write_from-returns : goal.write_from-returns
 write_from-returns t c = from_all _ _ _ _ _ _ _ c.requires _ _ _ c.write_own-to.ensures c.if-left-eq0.false _ _ _ c.write_under.ensures
 
-pub write_under-loop-i-init : goal.write_under-loop-i-init
-write_under-loop-i-init t c = descending_begin _ _ _ _ _ _ _ _ c.requires.0 c.requires.1 _ _ _ c.row_cells-s.ensures c.first-end.ensures
+pub write_under-loop-cell-init : goal.write_under-loop-cell-init
+write_under-loop-cell-init t c =
+    let z : c.row_cells-s.result.from + 0 ≡ c.row_cells-s.result.from = omega arith in
+    rw z (descending_begin _ _ _ _ _ _ _ _ c.requires.0 c.requires.1 _ _ _ c.row_cells-s.ensures c.first-end.ensures)
 
 pub write_under-write_from-to-requires : goal.write_under-write_from-to-requires
 write_under-write_from-to-requires t c =
-    (omega arith, step_asks _ _ _ _ _ _ _ _ c.requires.0 c.requires.1 _ _ _ _ _ _ c.loop-i.invariant c.loop-i-test.true _ _ c.letter.ensures c.val-next.ensures.0)
+    let w = c.row_cells-s.ensures.within in
+    let m = c.first-end.ensures.most in
+    let s = slice_at c.args.words.now c.row_cells-s.result.from c.first-end.result c.loop-cell.cell-index (omega arith) c.loop-cell-test.true in
+    (omega arith, step_asks _ _ _ _ _ _ _ _ c.requires.0 c.requires.1 _ _ _ _ _ _ c.loop-cell.invariant s.1 _ _ (c.letter.ensures ∙ ap key_of s.0) (c.val-next.ensures.0 ∙ ap val_of s.0))
 
-pub write_under-loop-i-preserved : goal.write_under-loop-i-preserved
-write_under-loop-i-preserved t c =
-    descending_next _ _ _ _ _ _ _ _ c.requires.0 c.requires.1 _ _ _ _ _ _ c.loop-i.invariant c.loop-i-test.true _ _ c.letter.ensures c.val-next.ensures.0 _ _ _ c.write_from-to.ensures
+pub write_under-loop-cell-preserved : goal.write_under-loop-cell-preserved
+write_under-loop-cell-preserved t c =
+    let w = c.row_cells-s.ensures.within in
+    let m = c.first-end.ensures.most in
+    let s = slice_at c.args.words.now c.row_cells-s.result.from c.first-end.result c.loop-cell.cell-index (omega arith) c.loop-cell-test.true in
+    let z : c.row_cells-s.result.from + (c.loop-cell.cell-index + 1) ≡ c.row_cells-s.result.from + c.loop-cell.cell-index + 1 = omega arith in
+    rw z (descending_next _ _ _ _ _ _ _ _ c.requires.0 c.requires.1 _ _ _ _ _ _ c.loop-cell.invariant s.1 _ _ (c.letter.ensures ∙ ap key_of s.0) (c.val-next.ensures.0 ∙ ap val_of s.0) _ _ _ c.write_from-to.ensures)
 
 pub write_under-returns : goal.write_under-returns
-write_under-returns t c = descending_end _ _ _ _ _ _ _ _ c.requires.0 c.requires.1 _ _ _ _ _ _ c.loop-i.invariant c.loop-i-test.false
+write_under-returns t c =
+    let w = c.row_cells-s.ensures.within in
+    let m = c.first-end.ensures.most in
+    let e = slice_end c.args.words.now c.row_cells-s.result.from c.first-end.result c.loop-cell.cell-index (omega arith) c.loop-cell-test.false in
+    descending_end _ _ _ _ _ _ _ _ c.requires.0 c.requires.1 _ _ _ _ _ _ c.loop-cell.invariant e

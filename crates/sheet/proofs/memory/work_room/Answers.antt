@@ -7,7 +7,6 @@ use native.Mathlib.Omega.{arith}
 use lib.ListN.{length}
 use borrow.Author.Tests.{le-leb, lt-leb}
 use Rattle.rules.specs.Limits.{max_name, max_names}
-use borrow.Author.Rules.{rules}
 use Rattle.sheet.proofs.memory.work_room.Goals as goal
 
 pub returns-then-most-sheet : goal.returns-then-most-sheet

@@ -1,7 +1,0 @@
--- `checklist::ruleset::first_fitting` ends: each turn leaves fewer places.
--- Assumes nothing.
-use Prim.Native.Nat.{◌-◌}
-use Rattle.checklist.proofs.ruleset.first_fitting.Given as goal
-
-abbrev pub decreases-loop-p : goal.decreases-loop-p
-decreases-loop-p l = l.n - l.p

@@ -1,7 +1,0 @@
--- `checklist::ruleset::highest_number` ends: each turn leaves fewer places.
--- Assumes nothing.
-use Prim.Native.Nat.{◌-◌}
-use Rattle.checklist.proofs.ruleset.highest_number.Given as goal
-
-abbrev pub decreases-loop-p : goal.decreases-loop-p
-decreases-loop-p l = l.n - l.p

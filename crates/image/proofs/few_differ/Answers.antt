@@ -1,8 +1,0 @@
--- `image::few_differ` meets its contract.
--- Assumes nothing.
-use mathlib.Core.Path.{refl}
-use borrow.Author.Rules.{rules}
-use Rattle.image.proofs.few_differ.Goals as goal
-
-pub numbers_differ-requires : goal.numbers_differ-requires
-numbers_differ-requires c = (c.requires.0, (c.requires.1.0, (c.requires.1.1, refl)))
