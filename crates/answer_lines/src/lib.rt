@@ -34,7 +34,7 @@ fn put_spoken(out: &mut [u8], w: Writer, steps: usize, phones: &[u8], numbers: &
 {
     let front = put_front(&mut *out, w, steps, phones.len());
     let said = writer::put_all(&mut *out, front, phones);
-    let count = writer::put(&mut *out, said, numbers::low(numbers.len()));
+    let count = writer::put(&mut *out, said, (numbers.len() % 256) as u8);
     lines::put_numbers(out, count, numbers)
 }
 

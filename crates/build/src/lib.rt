@@ -4,28 +4,29 @@
 ghost use Rattle.std.specs.Prelude.{◌≡◌, ◌+◌, ◌*◌, ◌/◌, ◌≤◌, ◌<◌, true, false, length};
 ghost use Rattle.rules.specs.Memory.{over};
 ghost use Rattle.rules.specs.Refusals.{reply_of};
-ghost use Rattle.image.specs.Image.{valid, total_of, edits_of, literals_of};
+ghost use Rattle.image.specs.Image.{total_of, edits_of, literals_of};
 ghost use Rattle.tables.specs.States.{left_states, right_states};
 ghost use Rattle.tables.specs.Words.{head_words, row_size, set_size, words_head, rows_of, sets_of, built_words, built_sets, words_for, sets_for, building, built_from, built};
 ghost use Rattle.patterns.specs.Sides.{side_table, Scratch};
 ghost use Rattle.build.specs.Counting.{Counted};
 
+use image::ruleset::Ruleset;
 use rules::Refusal;
 
 // ---- one side
 
 // How many states a side has.
-fn count_side(image: &[u8], n: usize, right: bool, pats: &mut [u8], lens: &mut [u8]) -> usize
-    requires { (valid image.now ≡ true) × (n ≡ total_of image.now) × Scratch pats.old lens.old }
-    ensures { Counted image.now right result pats.new lens.new }
+fn count_side(rules: Ruleset<'_>, n: usize, right: bool, pats: &mut [u8], lens: &mut [u8]) -> usize
+    requires { (n ≡ total_of rules.bytes.now) × Scratch pats.old lens.old }
+    ensures { Counted rules.entry.bytes.now right result pats.new lens.new }
 {
-    patterns::lay_side(image, n, right, pats, lens);
+    patterns::lay_side(rules, n, right, pats, lens);
     count::count_states(pats, lens, n)
 }
 
 // The rows and the sets of a side, from where the lent parts start, and how many states it has.
 fn fill_part(
-    image: &[u8],
+    rules: Ruleset<'_>,
     n: usize,
     right: bool,
     pats: &mut [u8],
@@ -33,12 +34,12 @@ fn fill_part(
     rows: &mut [u16],
     sets: &mut [u64],
 ) -> usize
-    requires { (valid image.now ≡ true) × (n ≡ total_of image.now) × (row_size * (side_table image.now right).count ≤ length rows.old) × (set_size * (side_table image.now right).count ≤ length sets.old) × Scratch pats.old lens.old }
-    ensures rows { rows.new ≡ over (rows_of (side_table image.now right)) rows.old }
-    ensures sets { sets.new ≡ over (sets_of (side_table image.now right)) sets.old }
-    ensures count { Counted image.now right result pats.new lens.new }
+    requires { (n ≡ total_of rules.bytes.now) × (row_size * (side_table rules.bytes.now right).count ≤ length rows.old) × (set_size * (side_table rules.bytes.now right).count ≤ length sets.old) × Scratch pats.old lens.old }
+    ensures rows { rows.new ≡ over (rows_of (side_table rules.entry.bytes.now right)) rows.old }
+    ensures sets { sets.new ≡ over (sets_of (side_table rules.entry.bytes.now right)) sets.old }
+    ensures count { Counted rules.entry.bytes.now right result pats.new lens.new }
 {
-    patterns::lay_side(image, n, right, pats, lens);
+    patterns::lay_side(rules, n, right, pats, lens);
     side::fill_side(rows, sets, pats, lens, n)
 }
 
@@ -58,19 +59,19 @@ fn put_counts(words: &mut [u16], edits: u32, left: u16, right: u16)
 // The left table after the head, directly after it the right table, and the head with the edit count and the counts that the fillings gave; the left
 // sets, then the right sets.
 fn fill(
-    image: &[u8],
+    rules: Ruleset<'_>,
     n: usize,
     pats: &mut [u8],
     lens: &mut [u8],
     words: &mut [u16],
     sets: &mut [u64],
 )
-    requires { (valid image.now ≡ true) × (n ≡ total_of image.now) × (words_for (literals_of image.now) ≤ length words.old) × (sets_for (literals_of image.now) ≤ length sets.old) × Scratch pats.old lens.old }
-    ensures words { words.new ≡ over (built_words (edits_of image.now) (literals_of image.now)) words.old }
-    ensures sets { sets.new ≡ over (built_sets (literals_of image.now)) sets.old }
+    requires { (n ≡ total_of rules.bytes.now) × (words_for (literals_of rules.bytes.now) ≤ length words.old) × (sets_for (literals_of rules.bytes.now) ≤ length sets.old) × Scratch pats.old lens.old }
+    ensures words { words.new ≡ over (built_words (edits_of rules.entry.bytes.now) (literals_of rules.entry.bytes.now)) words.old }
+    ensures sets { sets.new ≡ over (built_sets (literals_of rules.entry.bytes.now)) sets.old }
 {
     let l = fill_part(
-        image,
+        rules,
         n,
         false,
         pats,
@@ -80,21 +81,21 @@ fn fill(
     );
     let a = tables::HEAD + tables::ROW * l;
     let b = tables::SET * l;
-    let r = fill_part(image, n, true, pats, lens, &mut words[a..], &mut sets[b..]);
-    put_counts(words, image::edit_count(image), l as u16, r as u16);
+    let r = fill_part(rules, n, true, pats, lens, &mut words[a..], &mut sets[b..]);
+    put_counts(words, rules.edit_count(), l as u16, r as u16);
 }
 
 // No fewer than the states of both sides: each has one for the empty string, and each symbol of a pattern gives one at most.
-fn most_states(image: &[u8], n: usize) -> usize
-    requires { (valid image.now ≡ true) × (n ≡ total_of image.now) }
-    ensures { ((side_table image.now false).count + (side_table image.now true).count ≤ result) × (result ≤ left_states + right_states) }
+fn most_states(rules: Ruleset<'_>, n: usize) -> usize
+    requires { (n ≡ total_of rules.bytes.now) }
+    ensures { ((side_table rules.entry.bytes.now false).count + (side_table rules.entry.bytes.now true).count ≤ result) × (result ≤ left_states + right_states) }
 {
     let mut most: usize = 2;
     for i in 0..n {
-        let place = image::table::owner_at(image, i);
-        let left = image::left_at(image, place);
-        let target = image::target_at(image, place);
-        let right = image::right_at(image, place);
+        let place = rules.owner_at(i);
+        let left = rules.left_at(place);
+        let target = rules.target_at(place);
+        let right = rules.right_at(place);
         most += left.len() + target.len() + right.len();
     }
     most
@@ -102,18 +103,18 @@ fn most_states(image: &[u8], n: usize) -> usize
 
 // Counts the states, then builds the tables or says what is needed and touches no lent word.
 fn build_counted(
-    image: &[u8],
+    rules: Ruleset<'_>,
     n: usize,
     pats: &mut [u8],
     lens: &mut [u8],
     words: &mut [u16],
     sets: &mut [u64],
 ) -> Result<(), Refusal>
-    requires { (valid image.now ≡ true) × (n ≡ total_of image.now) × Scratch pats.old lens.old }
-    ensures { building (reply_of result) words.new sets.new ≡ built_from (edits_of image.now) (literals_of image.now) words.old sets.old }
+    requires { (n ≡ total_of rules.bytes.now) × Scratch pats.old lens.old }
+    ensures { building (reply_of result) words.new sets.new ≡ built_from (edits_of rules.entry.bytes.now) (literals_of rules.entry.bytes.now) words.old sets.old }
 {
-    let l = count_side(image, n, false, pats, lens);
-    let r = count_side(image, n, true, pats, lens);
+    let l = count_side(rules, n, false, pats, lens);
+    let r = count_side(rules, n, true, pats, lens);
     let needed = tables::HEAD + tables::ROW * (l + r);
     let places = tables::SET * (l + r);
     if words.len() < needed {
@@ -122,48 +123,47 @@ fn build_counted(
     if sets.len() < places {
         return Err(Refusal::SetsRoom(places));
     }
-    fill(image, n, pats, lens, words, sets);
+    fill(rules, n, pats, lens, words, sets);
     Ok(())
 }
 
 // Builds the tables with scratch memory for the patterns of one side at a time. Memory that has room for any ruleset of so many symbols
 // is filled at once; only where it has less are the states counted first.
 fn build_with(
-    image: &[u8],
+    rules: Ruleset<'_>,
     pats: &mut [u8],
     lens: &mut [u8],
     words: &mut [u16],
     sets: &mut [u64],
 ) -> Result<(), Refusal>
-    requires { (valid image.now ≡ true) × Scratch pats.old lens.old }
-    ensures { building (reply_of result) words.new sets.new ≡ built_from (edits_of image.now) (literals_of image.now) words.old sets.old }
+    requires { Scratch pats.old lens.old }
+    ensures { building (reply_of result) words.new sets.new ≡ built_from (edits_of rules.entry.bytes.now) (literals_of rules.entry.bytes.now) words.old sets.old }
 {
-    let n = image::table::literal_total(image);
-    let most = most_states(image, n);
+    let n = rules.literal_total();
+    let most = most_states(rules, n);
     if tables::HEAD + tables::ROW * most <= words.len() && tables::SET * most <= sets.len() {
-        fill(image, n, pats, lens, words, sets);
+        fill(rules, n, pats, lens, words, sets);
         return Ok(());
     }
-    build_counted(image, n, pats, lens, words, sets)
+    build_counted(rules, n, pats, lens, words, sets)
 }
 
-// Builds the tables of an image that is known to be a ruleset. The scratch arrays are made once: with the tree of a count they take 7.7 KB
+// Builds the tables of a ruleset. The scratch arrays are made once: with the tree of a count they take 7.7 KB
 // of stack, of the 32 KB that a call may have.
-fn build_valid(image: &[u8], words: &mut [u16], sets: &mut [u64]) -> Result<(), Refusal>
-    requires { valid image.now ≡ true }
-    ensures { building (reply_of result) words.new sets.new ≡ built_from (edits_of image.now) (literals_of image.now) words.old sets.old }
+fn build_valid(rules: Ruleset<'_>, words: &mut [u16], sets: &mut [u64]) -> Result<(), Refusal>
+    ensures { building (reply_of result) words.new sets.new ≡ built_from (edits_of rules.entry.bytes.now) (literals_of rules.entry.bytes.now) words.old sets.old }
 {
     let mut pats = [0u8; rules::MAX_PATTERN * rules::MAX_RULES];
     let mut lens = [0u8; rules::MAX_RULES];
-    build_with(image, &mut pats, &mut lens, words, sets)
+    build_with(rules, &mut pats, &mut lens, words, sets)
 }
 
 // Builds the tables of an image.
 pub fn build(image: &[u8], words: &mut [u16], sets: &mut [u64]) -> Result<(), Refusal>
     ensures { building (reply_of result) words.new sets.new ≡ built image.now words.old sets.old }
 {
-    if !image::is_ruleset(image) {
+    let Some(rules) = Ruleset::judge(image) else {
         return Err(Refusal::NotRuleset(0));
-    }
-    build_valid(image, words, sets)
+    };
+    build_valid(rules, words, sets)
 }

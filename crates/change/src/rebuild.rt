@@ -82,7 +82,7 @@ fn apply_or_restore(words: &mut [u32], name: &[u8], groups: &[u32], saved: &mut 
     ensures { Rebuilt words.old name.now groups.now words.new result }
 {
     let n = exceptions::start_of(words);
-    let end = numbers::wide32(words[n + 1]);
+    let end = words[n + 1] as usize;
     save(words, n, end, saved);
     if apply(words, n, name, groups) {
         return true;

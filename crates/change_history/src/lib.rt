@@ -18,7 +18,7 @@ fn end_of(from: usize, n: usize, len: usize) -> usize
     requires { from ≤ len }
     ensures { result ≡ from + min n (len - from) }
 {
-    from + numbers::smaller(n, len - from)
+    from + n.min(len - from)
 }
 
 // The change of this kind.
@@ -67,8 +67,8 @@ pub fn replay(
     ensures { Replayed list.old code.now text.now answers.old places.old (reply_of result) list.new answers.new places.new }
 {
     exceptions::clear(&mut *list)?;
-    let room = numbers::smaller(answers.len(), places.len());
-    let n = numbers::smaller(code.len() / CHANGE_WORDS, room);
+    let room = answers.len().min(places.len());
+    let n = (code.len() / CHANGE_WORDS).min(room);
     replay_all(list, code, text, answers, places, n);
     Ok(())
 }

@@ -1,7 +1,7 @@
 // The items on the file and the edits. What cannot be printed is lost.
-ghost use Rattle.std.specs.Prelude.{◌≡◌, true, ◌<◌, ◌≤◌, length};
+ghost use Rattle.std.specs.Prelude.{◌<◌, ◌≤◌, length};
 ghost use Rattle.rules.specs.Limits.{max_rules};
-ghost use Rattle.image.specs.Image.{valid, image_size};
+ghost use Rattle.image.specs.Image.{image_size};
 
 use crate::printing::verdict;
 use crate::refused::{Outcome, accepted};
@@ -80,10 +80,12 @@ const RULE_FOR_A: Rule = Rule {
 // The rule of the highest number leaves and is added again at its place; an empty ruleset gets a rule. `last` is the last number before all
 // that.
 #[tactic(auto, using(image::proofs::Tests::valid_long, image::proofs::Tests::valid_count))]
-pub fn edit(rt: &impl Print, image: &mut [u8])
-    requires { valid image.old ≡ true }
-{
-    let rules = Ruleset { image };
+pub fn edit(rt: &impl Print, image: &mut [u8]) {
+    // Memory that is no ruleset has nothing to edit.
+    let Some(judged) = image::ruleset::Ruleset::judge(image) else {
+        return;
+    };
+    let rules = Ruleset { image: judged };
     let last = rules.last_issued();
     let Some(place) = rules.newest() else {
         let _ = println!(rt; "none   a rule leaves: {}", Tried(0));

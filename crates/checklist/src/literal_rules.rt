@@ -4,7 +4,6 @@ ghost use Rattle.image.specs.Image.{count_of, total_of};
 
 use crate::ruleset::Ruleset;
 use classes::ordinals;
-use image::table;
 use rules::{MAX_CONTEXT, Rule};
 
 // A literal rule, and the place of its rule.
@@ -14,25 +13,24 @@ pub struct Literal {
     pub place: usize,
 }
 
-#[tactic(auto, using(image::proofs::Tests::valid_long, image::proofs::Tests::valid_count))]
 impl<'a> Ruleset<'a> {
     // How many literal rules there are.
     pub fn literal_count(&self) -> usize
-        ensures { (result ≡ total_of self.now.image.now) × (result < 65536) }
+        ensures { (result ≡ total_of self.now.image.bytes.now) × (result < 65536) }
     {
-        table::literal_total(self.image)
+        self.image.literal_total()
     }
 
     // The literal rule at a place of the literal list: its rule with the letters of its ordinal in place of classes.
     pub fn literal_at(&self, p: usize) -> Literal
-        requires { p < total_of self.now.image.now }
-        ensures { result.place < count_of self.now.image.now }
+        requires { p < total_of self.now.image.bytes.now }
+        ensures { result.place < count_of self.now.image.bytes.now }
     {
-        let place = table::owner_at(self.image, p);
-        let ordinal = table::ordinal_at(self.image, p);
-        let masks = image::class_bytes::masks(self.image);
-        let left = image::left_at(self.image, place);
-        let right = image::right_at(self.image, place);
+        let place = self.image.owner_at(p);
+        let ordinal = self.image.ordinal_at(p);
+        let masks = self.image.masks();
+        let left = self.image.left_at(place);
+        let right = self.image.right_at(place);
         let mut rule = self.rule_at(place);
         rule.left = [0; MAX_CONTEXT];
         rule.right = [0; MAX_CONTEXT];
@@ -43,10 +41,9 @@ impl<'a> Ruleset<'a> {
 
     // Whether that is the last of several literal rules of its rule.
     pub fn is_last_literal(&self, p: usize) -> bool
-        requires { p < total_of self.now.image.now }
+        requires { p < total_of self.now.image.bytes.now }
     {
         let n = self.literal_count();
-        table::ordinal_at(self.image, p) != 0
-            && (p + 1 == n || table::ordinal_at(self.image, p + 1) == 0)
+        self.image.ordinal_at(p) != 0 && (p + 1 == n || self.image.ordinal_at(p + 1) == 0)
     }
 }

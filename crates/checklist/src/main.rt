@@ -43,7 +43,8 @@ fn prepare(
 fn try_names<'a>(rt: &impl Print, image: &'a [u8], words: &'a [u16], sets: &'a [u64])
     requires { valid image.now ≡ true }
 {
-    let rules = Ruleset { image };
+    let rules = image::ruleset::Ruleset { bytes: image };
+    let rules = Ruleset { image: rules };
     let tables = Tables { rules, words, sets };
     items::try_item(rt, Item::SilentEnd, tables);
     items::try_item(rt, Item::TwoFitting, tables);

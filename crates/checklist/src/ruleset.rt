@@ -1,42 +1,39 @@
 // The ruleset that is tried: its rules by their places, and where they fit.
-ghost use Rattle.std.specs.Prelude.{◌≡◌, true, ◌<◌, IfSome};
-ghost use Rattle.image.specs.Image.{valid, count_of};
+ghost use Rattle.std.specs.Prelude.{◌≡◌, ◌<◌, IfSome};
+ghost use Rattle.image.specs.Image.{count_of};
 
 use rules::Rule;
 
-// A valid ruleset.
 #[derive(Clone, Copy)]
 pub struct Ruleset<'a> {
-    pub image: &'a [u8],
-    ghost sound: { valid image.now ≡ true },
+    pub image: image::ruleset::Ruleset<'a>,
 }
 
-#[tactic(auto, using(image::proofs::Tests::valid_long, image::proofs::Tests::valid_count))]
 impl<'a> Ruleset<'a> {
     // How many rules there are.
     pub fn count(&self) -> usize
-        ensures { result ≡ count_of self.now.image.now }
+        ensures { result ≡ count_of self.now.image.bytes.now }
     {
-        image::rule_count(self.image)
+        self.image.rule_count()
     }
 
     // The last number issued.
     pub fn last_issued(&self) -> u16 {
-        image::last_issued(self.image)
+        self.image.last_issued()
     }
 
     // The rule at a place.
     pub fn rule_at(&self, place: usize) -> Rule
-        requires { place < count_of self.now.image.now }
+        requires { place < count_of self.now.image.bytes.now }
     {
-        image::rule_at(self.image, place).rule
+        self.image.rule_at(place).rule
     }
 
     // Its number.
     pub fn number_at(&self, place: usize) -> u16
-        requires { place < count_of self.now.image.now }
+        requires { place < count_of self.now.image.bytes.now }
     {
-        image::number_at(self.image, place)
+        self.image.number_at(place)
     }
 
     // The rule that has a number.
@@ -51,7 +48,7 @@ impl<'a> Ruleset<'a> {
 
     // The place of the rule with the highest number.
     pub fn newest(&self) -> Option<usize>
-        ensures { IfSome result (λ p. p < count_of self.now.image.now) }
+        ensures { IfSome result (λ p. p < count_of self.now.image.bytes.now) }
     {
         let n = self.count();
         if n == 0 {
@@ -68,9 +65,9 @@ impl<'a> Ruleset<'a> {
 
     // Whether the rule at a place fits at a position of a framed name.
     pub fn fits(&self, place: usize, frame: &[u8], i: usize) -> bool
-        requires { place < count_of self.now.image.now }
+        requires { place < count_of self.now.image.bytes.now }
     {
-        i <= frame.len() && fitting::fits_at(self.image, place, frame, i)
+        i <= frame.len() && fitting::fits_at(self.image.bytes, place, frame, i)
     }
 
     // The number of the first rule in order that fits there.

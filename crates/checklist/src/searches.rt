@@ -118,7 +118,7 @@ impl<'a> Ruleset<'a> {
         second: Literal,
         longer: bool,
     ) -> Option<Found>
-        requires { (first.place < count_of self.now.image.now) × (second.place < count_of self.now.image.now) }
+        requires { (first.place < count_of self.now.image.bytes.now) × (second.place < count_of self.now.image.bytes.now) }
     {
         if second.place <= first.place {
             return None;
@@ -172,7 +172,7 @@ impl<'a> Ruleset<'a> {
 
     // The last literal rule of a rule with classes, in the shortest name in which it could fit.
     fn try_last(&self, tried: &mut Tried, p: usize) -> Option<Found>
-        requires { p < total_of self.now.image.now }
+        requires { p < total_of self.now.image.bytes.now }
     {
         if !self.is_last_literal(p) {
             return None;

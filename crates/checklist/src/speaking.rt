@@ -27,7 +27,7 @@ impl<'a> Tables<'a> {
         let mut phones = [0; 256];
         let mut numbers = [0; 64];
         let answer = compiled::speak_valid(
-            self.rules.image,
+            self.rules.image.bytes,
             self.words,
             self.sets,
             name.as_slice(),
@@ -43,7 +43,12 @@ impl<'a> Ruleset<'a> {
     pub fn read(&self, name: &Name) -> Came {
         let mut phones = [0; 256];
         let mut numbers = [0; 64];
-        let speech = reading::read_valid(self.image, name.as_slice(), &mut phones, &mut numbers);
+        let speech = reading::read_valid(
+            self.image.bytes,
+            name.as_slice(),
+            &mut phones,
+            &mut numbers,
+        );
         Came::new(speech, phones, numbers)
     }
 }

@@ -55,7 +55,7 @@ pub fn is_letter_in(mask: u64, d: usize, letter: u8) -> bool
     if 63 < letter {
         return false;
     }
-    let y = numbers::wide64(letter);
+    let y = u64::from(letter);
     if !numbers::has_bit(mask, y) {
         return false;
     }
@@ -94,7 +94,7 @@ pub fn class_mask(letters: &[u8]) -> Option<u64>
         if rules::MAX_LETTER < c {
             return None;
         }
-        mask = numbers::with_bit(mask, numbers::wide64(c));
+        mask = numbers::with_bit(mask, u64::from(c));
         low = c + 1;
     }
     Some(mask)

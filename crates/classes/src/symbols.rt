@@ -13,7 +13,7 @@ fn mask_of(masks: &[u8], symbol: u8) -> u64
     ensures { letters_in result ≡ letters (classes_in masks.now) symbol }
 {
     if symbol < rules::FIRST_CLASS {
-        return numbers::with_bit(0, numbers::wide64(symbol));
+        return numbers::with_bit(0, u64::from(symbol));
     }
     if symbol <= rules::MAX_SYMBOL {
         return mask_at(masks, symbol);
@@ -33,7 +33,7 @@ pub fn stands_for(masks: &[u8], symbol: u8, letter: u8) -> bool
         return false;
     }
     let mask = mask_of(masks, symbol);
-    numbers::has_bit(mask, numbers::wide64(letter))
+    numbers::has_bit(mask, u64::from(letter))
 }
 
 // How many letters a symbol stands for.

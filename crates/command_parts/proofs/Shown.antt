@@ -5,10 +5,9 @@ use mathlib.Core.Path.{◌≡◌, sym, ◌∙◌, subst}
 use mathlib.Core.Bool.{Bool, true, false}
 use mathlib.Core.List.{List, ◌∷◌}
 use native.Mathlib.Omega.{arith}
-use borrow.Author.Tests.{le-ltb, lt-ltb, eq-eqb, leb-true, eqb-true}
+use borrow.Author.Tests.{le-ltb, lt-ltb, eq-eqb}
 use lib.ListN.{length, get_or, take, drop, set}
 use lib.Dec.{eqb, ltb}
-use Rattle.rules.proofs.Cases.{and_l, and_r}
 use Rattle.rules.specs.Memory.{over}
 use Rattle.numbers.specs.Numbers.{bytes4}
 use Rattle.lines.specs.Printed.{printed}
@@ -39,13 +38,6 @@ pub edits_shown : (edits n len : ℕ) (out out' : List ℕ) → edits ≡ n → 
 edits_shown edits n len out out' e g = subst (λ (x : ℕ). Gives (printed (10 ∷ bytes4 x)) len out out') e g
 
 -- a part that is asked for
-module _ (f : List ℕ) (n : ℕ) (p : inside f n ≡ true) where
-  pub inside_size : length f ≡ 6
-  inside_size = eqb-true (length f) 6 (and_l (eqb (length f) 6) _ p)
-
-  pub inside_end : four 1 f + get_or f 5 0 ≤ n
-  inside_end = leb-true (four 1 f + get_or f 5 0) n (and_r (eqb (length f) 6) _ p)
-
 module _ (bytes : List ℕ → List ℕ) (f xs : List ℕ) (len : ℕ) (out out' : List ℕ) where
   abbrev asked : List ℕ
   asked = take (get_or f 5 0) (drop (four 1 f) xs)

@@ -74,7 +74,7 @@ pub fn reply_line(answer: Result<(), Refusal>, image: &[u8], out: &mut [u8]) -> 
     ensures bytes { out.new ≡ over (reply_line (reply_of answer) (last_of image.now)) out.old }
 {
     match answer {
-        Ok(()) => last_line(numbers::wide16(image::last_issued(image)), out),
+        Ok(()) => last_line(usize::from(image::last_issued(image)), out),
         Err(x) => lines::refusal_line(x, out),
     }
 }

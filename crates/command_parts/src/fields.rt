@@ -8,7 +8,7 @@ pub fn two_at(f: &[u8], at: usize) -> usize
     requires { at + 1 < length f.now }
     ensures { (result ≡ two at f.now) × (result < 65536) }
 {
-    numbers::wide16(numbers::two_at(f, at))
+    usize::from(numbers::two_at(f, at))
 }
 
 // Four bytes.

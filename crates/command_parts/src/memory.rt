@@ -63,7 +63,7 @@ pub fn is_inside(f: &[u8], n: usize) -> bool
     if f.len() != 6 {
         return false;
     }
-    fields::four_at(f, 1) + numbers::wide(f[5]) <= n
+    fields::four_at(f, 1) + usize::from(f[5]) <= n
 }
 
 // 1A, index (4), count (1): so many words are shown.
@@ -76,7 +76,7 @@ pub fn show_words(f: &[u8], words: &[u16], out: &mut [u8]) -> usize
         return answers::malformed(out);
     }
     let i = fields::four_at(f, 1);
-    let end = i + numbers::wide(f[5]);
+    let end = i + usize::from(f[5]);
     words_line(&words[i..end], out)
 }
 
@@ -125,7 +125,7 @@ pub fn show_sets(f: &[u8], sets: &[u64], out: &mut [u8]) -> usize
         return answers::malformed(out);
     }
     let i = fields::four_at(f, 1);
-    let end = i + numbers::wide(f[5]);
+    let end = i + usize::from(f[5]);
     sets_line(&sets[i..end], out)
 }
 
@@ -185,7 +185,7 @@ fn edits_line(edits: u32, out: &mut [u8]) -> usize
 {
     let start = writer::begin(0);
     let kind = writer::put(&mut *out, start, 10);
-    let body = writer::put_four(&mut *out, kind, numbers::wide32(edits));
+    let body = writer::put_four(&mut *out, kind, edits as usize);
     writer::end(out, body)
 }
 

@@ -645,17 +645,6 @@ keep_set ws m i k a =
     }
 
 -- row i lies from a to e and moves to b
-pub move_fits : (ws m : List ℕ) (i k a e b : ℕ) → KeepAsks ws m i k → a ≡ get_or ws i 0 → e ≡ get_or ws (i + 1) 0 → b ≡ get_or ws k 0
-    → ((b ≤ a) × (a + (e - a) ≤ length ws) × ((j : ℕ) → j < e - a → key_of (get_or ws (a + j) 0) < 64 → val_of (get_or ws (a + j) 0) < length m)) × (a ≤ e) × (b + (e - a) ≤ 16777216)
-move_fits ws m i k a e b q x y z =
-    let s : i + 1 ≡ suc i = omega arith in
-    let y' : e ≡ get_or ws (suc i) 0 = y ∙ ap (λ (t : ℕ). get_or ws t 0) s in
-    let d = q.down in
-    let o = q.order in
-    let w = q.within in
-    let sm = q.small in
-    ((omega arith, omega arith, λ j h g. q.leads (a + j) (omega arith) (omega arith) g), omega arith, omega arith)
-
 pub moved-of : (ws m : List ℕ) (i k a e b : ℕ) (v : List ℕ) → a ≡ get_or ws i 0 → e ≡ get_or ws (i + 1) 0 → b ≡ get_or ws k 0 → Written (moved_of m ws a) b (e - a) ws v → Moved ws m i k (set v (k + 1) (b + (e - a)))
 moved-of ws m i k a e b v x y z w =
     let s : i + 1 ≡ suc i = omega arith in

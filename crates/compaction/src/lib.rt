@@ -78,7 +78,7 @@ fn renumbered(marks: &[u16], x: u32) -> u32
         return x;
     }
     let v = states::val(x);
-    states::cell(k, numbers::wide16(marks[v]))
+    states::cell(k, usize::from(marks[v]))
 }
 
 // The cells from a on move down to b, their successors by their new numbers.
@@ -96,9 +96,9 @@ fn move_row(words: &mut [u32], marks: &[u16], i: usize, k: usize)
     requires { KeepAsks words.old marks.now i k }
     ensures { Moved words.old marks.now i k words.new }
 {
-    let a = numbers::wide32(words[i]);
-    let e = numbers::wide32(words[i + 1]);
-    let b = numbers::wide32(words[k]);
+    let a = words[i] as usize;
+    let e = words[i + 1] as usize;
+    let b = words[k] as usize;
     move_cells(words, marks, a, b, e - a);
     words[k + 1] = (b + (e - a)) as u32;
 }

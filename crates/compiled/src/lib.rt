@@ -11,20 +11,12 @@ ghost use Rattle.speech.specs.Places.{Unsaid};
 ghost use Rattle.speech.specs.Speech.{listed_or};
 ghost use Rattle.tables.specs.Words.{compiled_from};
 ghost use Rattle.tables.specs.Walk.{walk_through, walkedAs, walk_said};
-ghost use Rattle.walk.specs.Walked.{walked_of, compiled_with};
+ghost use Rattle.walk.specs.Walked.{walked_of};
 ghost use Rattle.compiled.specs.Compiling.{compiled_of};
 
+use passes::Compiled;
 use rules::Refusal;
 use walk::WalkAnswer;
-
-// The two lent tables, and their state counts.
-#[derive(Drop)]
-pub struct Compiled<'a> {
-    pub words: &'a [u16],
-    pub sets: &'a [u64],
-    pub left_states: usize,
-    pub right_states: usize,
-}
 
 // The state count that stands at a place of the words; 0 where they are too short.
 pub fn state_count(words: &[u16], at: usize) -> usize
@@ -33,7 +25,7 @@ pub fn state_count(words: &[u16], at: usize) -> usize
     if words.len() <= at {
         return 0;
     }
-    numbers::wide16(words[at])
+    usize::from(words[at])
 }
 
 // The lent tables with their state counts as read from the words. Whether they are usable is the walk's to say, with 16 and 22.
@@ -50,33 +42,7 @@ pub fn compile<'a>(words: &'a [u16], sets: &'a [u64]) -> Compiled<'a>
     }
 }
 
-// The thin entry: a sound name that is not on the list is sent through a compiled ruleset, which is taken apart for the covered walk. The
-// image is known valid, and the list one, or too few words for any.
-fn speak<'a>(
-    compiled: Compiled<'a>,
-    image: &[u8],
-    list: &[u32],
-    name: &[u8],
-    phones: &mut [u8],
-    numbers: &mut [u16],
-) -> WalkAnswer
-    requires { (valid image.now ≡ true) × Unsaid list.now name.now }
-    ensures { walked_of result phones.new numbers.new ≡ walkedAs (walk_through (compiled_with compiled.entry.words.now compiled.entry.sets.now compiled.entry.left_states compiled.entry.right_states) (edits_of image.now) (literals_of image.now) name.now (says_of list.now)) phones.old numbers.old }
-{
-    walk::walk_tables(
-        compiled.words,
-        compiled.sets,
-        compiled.left_states,
-        compiled.right_states,
-        image,
-        list,
-        name,
-        phones,
-        numbers,
-    )
-}
-
-// Plain parameters only: the words are compiled, and the sound name that is not on the list is sent through, under the same conditions.
+// A sound name that is not on the list is sent through the compiled ruleset of lent words. The image is known valid, and the list one, or too few words for any.
 fn speak_words<'a>(
     words: &'a [u16],
     sets: &'a [u64],
@@ -90,7 +56,7 @@ fn speak_words<'a>(
     ensures { walked_of result phones.new numbers.new ≡ walkedAs (walk_through (compiled_from words.now sets.now) (edits_of image.now) (literals_of image.now) name.now (says_of list.now)) phones.old numbers.old }
 {
     let compiled = compile(words, sets);
-    speak(compiled, image, list, name, phones, numbers)
+    walk::walk_tables(&compiled, image, list, name, phones, numbers)
 }
 
 // The walk of a name, for a caller that knows the image valid and has no list.

@@ -11,6 +11,7 @@ ghost use Rattle.image.specs.Image.{image_size, rules_in, classes_of, ledger_of,
 ghost use Rattle.edits.specs.Ledger.{Edit, place_of, judged};
 ghost use Rattle.edits.specs.Edits.{edited};
 
+use image::ruleset::Ruleset;
 use rules::{Numbered, Refusal, Rule};
 
 // The place of the rule numbered `number` among the first `count`.
@@ -40,27 +41,26 @@ fn literals_of(image: &[u8], rule: Rule) -> usize
 }
 
 // The answer of Add(rule, p): the limit of 512 counts literal rules.
-fn judge_add(image: &[u8], rule: Rule, p: usize) -> Result<(), Refusal>
-    requires { valid image.now ≡ true }
-    ensures { reply_of result ≡ judged (ledger_of image.now) (Edit.Add rule p) }
+fn judge_add(rules: Ruleset<'_>, rule: Rule, p: usize) -> Result<(), Refusal>
+    ensures { reply_of result ≡ judged (ledger_of rules.entry.bytes.now) (Edit.Add rule p) }
 {
     if !rules::well_shaped(rule) {
         return Err(Refusal::Shape(0));
     }
-    let n = literals_of(image, rule);
+    let n = literals_of(rules.bytes, rule);
     if n == 0 {
         return Err(Refusal::BadClass(0));
     }
-    if image::rule_count(image) < p {
+    if rules.rule_count() < p {
         return Err(Refusal::Place(0));
     }
-    if rules::MAX_RULES < image::table::literal_total(image) + n {
+    if rules::MAX_RULES < rules.literal_total() + n {
         return Err(Refusal::Full(0));
     }
-    if rules::MAX_NUMBER <= image::last_issued(image) {
+    if rules::MAX_NUMBER <= rules.last_issued() {
         return Err(Refusal::LastIssued(0));
     }
-    if rules::MAX_EDITS <= image::edit_count(image) {
+    if rules::MAX_EDITS <= rules.edit_count() {
         return Err(Refusal::EditsSpent(0));
     }
     Ok(())
@@ -73,7 +73,7 @@ pub fn add_rule(image: &mut [u8], rule: Rule, p: usize) -> Result<(), Refusal>
     if !image::is_ruleset(image) {
         return Err(Refusal::NotRuleset(0));
     }
-    judge_add(image, rule, p)?;
+    judge_add(Ruleset { bytes: image }, rule, p)?;
     let last = image::last_issued(image);
     let number = last + 1;
     slots::insert(image, p, Numbered { number, rule }, number);
@@ -138,7 +138,8 @@ pub fn set_class(image: &mut [u8], symbol: u8, letters: &[u8]) -> Result<(), Ref
     let Some(mask) = classes::masks::class_mask(letters) else {
         return Err(Refusal::BadClass(0));
     };
-    if image::class_bytes::in_use(image, symbol) {
+    let rules = Ruleset { bytes: image };
+    if rules.in_use(symbol) {
         return Err(Refusal::BadClass(0));
     }
     image::class_bytes::put_class(image, symbol, mask);

@@ -38,7 +38,7 @@ pub fn start_of(words: &[u32]) -> usize
     requires { list_size ≤ length words.now }
     ensures { result ≡ start_of words.now }
 {
-    numbers::wide32(words[START])
+    words[START] as usize
 }
 
 // Whether the memory is a list (refusal 17).

@@ -38,7 +38,7 @@ fn put_class(out: &mut [u8], w: Writer, pairs: &[u8], symbol: u8, mask: u64) -> 
     let a = writer::put_from(&mut *out, w, pairs, file_format::CLASS_TYPE);
     let b = writer::put_from(&mut *out, a, pairs, symbol);
     let n = classes::masks::size_in(mask);
-    let c = writer::put_from(&mut *out, b, pairs, numbers::low(n));
+    let c = writer::put_from(&mut *out, b, pairs, n as u8);
     put_letters(out, c, pairs, mask)
 }
 

@@ -31,7 +31,7 @@ fn class_in(f: &[u8], low: u8) -> Option<u64>
     if rules::MAX_SYMBOL < symbol {
         return None;
     }
-    let end = file_format::LETTERS + numbers::wide(f[file_format::LETTER_COUNT]);
+    let end = file_format::LETTERS + usize::from(f[file_format::LETTER_COUNT]);
     if f.len() != end + 1 {
         return None;
     }

@@ -26,7 +26,7 @@ fn head_in(f: &[u8], next: usize) -> Option<Head>
     if f[file_format::EDITION] != file_format::FIRST_EDITION {
         return None;
     }
-    let count = numbers::wide16(numbers::two_at(f, file_format::COUNT));
+    let count = usize::from(numbers::two_at(f, file_format::COUNT));
     if rules::MAX_RULES < count {
         return None;
     }

@@ -14,6 +14,7 @@ ghost use Rattle.rules.specs.Refusals.{reply_of, report_of};
 ghost use Rattle.image.specs.Image.{outcome};
 ghost use Rattle.file.specs.Loading.{loaded, filing, filed};
 
+use image::ruleset::Ruleset;
 use rules::Refusal;
 
 // A file read into lent memory, which holds its ruleset afterwards. The whole file is judged before the first byte is stored: refusals 0,
@@ -33,13 +34,13 @@ pub fn read_file(file: &[u8], image: &mut [u8]) -> Result<(), Refusal>
 pub fn write_file(image: &[u8], out: &mut [u8]) -> Result<usize, Refusal>
     ensures { filing (report_of result) out.new ≡ filed image.now out.old }
 {
-    if !image::is_ruleset(image) {
+    let Some(rules) = Ruleset::judge(image) else {
         return Err(Refusal::NotRuleset(0));
-    }
-    let needed = writing::file_size(image);
+    };
+    let needed = writing::file_size(rules);
     if out.len() < needed {
         return Err(Refusal::FileRoom(needed));
     }
-    writing::write_ruleset(image, out);
+    writing::write_ruleset(rules, out);
     Ok(needed)
 }

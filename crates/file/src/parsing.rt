@@ -45,10 +45,10 @@ pub fn frame_size(file: &[u8], at: usize) -> usize
     requires { rule_frame (decoded (drop at file.now)) ≡ true }
     ensures { (result ≡ length (decoded (drop at file.now))) × (result ≤ longest_frame) }
 {
-    let l = numbers::wide(frames::byte_at(file, at, file_format::LEFT_LEN));
-    let t = numbers::wide(frames::byte_at(file, at, file_format::TARGET_LEN));
-    let r = numbers::wide(frames::byte_at(file, at, file_format::RIGHT_LEN));
-    let p = numbers::wide(frames::byte_at(file, at, file_format::PHONES_LEN));
+    let l = usize::from(frames::byte_at(file, at, file_format::LEFT_LEN));
+    let t = usize::from(frames::byte_at(file, at, file_format::TARGET_LEN));
+    let r = usize::from(frames::byte_at(file, at, file_format::RIGHT_LEN));
+    let p = usize::from(frames::byte_at(file, at, file_format::PHONES_LEN));
     file_format::FRONT + (l + (t + (r + p))) + 1
 }
 
@@ -98,8 +98,8 @@ pub fn total_with(before: usize, masks: &[u8], rule: Rule) -> Option<usize>
 {
     let left = rule.left;
     let right = rule.right;
-    let l = numbers::wide(rule.left_len);
-    let r = numbers::wide(rule.right_len);
+    let l = usize::from(rule.left_len);
+    let r = usize::from(rule.right_len);
     let count = classes::runs::literal_count(masks, &left[..l], &right[..r]);
     if count < 1 {
         return None;

@@ -1,8 +1,8 @@
 // A ruleset written line after line, and the bytes that its file needs.
-ghost use Rattle.std.specs.Prelude.{◌≡◌, true, ◌∷◌, [], ◌+◌, ◌*◌, ◌%◌, ◌<◌, ◌≤◌, length};
+ghost use Rattle.std.specs.Prelude.{◌≡◌, ◌∷◌, [], ◌+◌, ◌*◌, ◌%◌, ◌<◌, ◌≤◌, length};
 ghost use Rattle.rules.specs.Limits.{max_rules};
 ghost use Rattle.rules.specs.Memory.{over, over_at};
-ghost use Rattle.image.specs.Image.{valid, count_of, entry_at, entries_of};
+ghost use Rattle.image.specs.Image.{count_of, entry_at, entries_of};
 ghost use Rattle.frames.specs.Output.{output, Sent, digit_pairs};
 ghost use Rattle.file_format.specs.Layout.{longest_frame, line_size, head_line_size};
 ghost use Rattle.file_format.specs.File.{head_line, rule_line, rule_lines, encode};
@@ -11,6 +11,7 @@ ghost use Rattle.file.specs.Loading.{ruleset_in, number_bytes, length_bytes, fie
 use crate::class_writing;
 use frames::writer;
 use frames::writer::Writer;
+use image::ruleset::Ruleset;
 
 // The bytes of the line of a rule's frame without its fields: two digits each, and 0A.
 const FRONT_LINE: usize = 2 * (file_format::FRONT + 1) + 1;
@@ -21,7 +22,7 @@ fn put_length(out: &mut [u8], w: Writer, pairs: &[u8], field: &[u8]) -> Writer
     ensures next { result.at ≡ w.at + 2 }
     ensures sent { Sent (length field.now % 256 ∷ []) (output w out.old) (output result out.new) }
 {
-    writer::put_from(out, w, pairs, numbers::low(field.len()))
+    writer::put_from(out, w, pairs, (field.len() % 256) as u8)
 }
 
 // The lengths of a rule's fields.
@@ -96,16 +97,16 @@ fn put_body(
 }
 
 // The line of the rule at a place from `at` on, and where it ends.
-fn write_rule(image: &[u8], place: usize, pairs: &[u8], out: &mut [u8], at: usize) -> usize
-    requires { (valid image.now ≡ true) × ((place < count_of image.now) × ((pairs.now ≡ digit_pairs) × (at + length (rule_line (entry_at image.now place)) ≤ length out.old))) }
-    ensures next { result ≡ at + length (rule_line (entry_at image.now place)) }
-    ensures bytes { out.new ≡ over_at at (rule_line (entry_at image.now place)) out.old }
+fn write_rule(rules: Ruleset<'_>, place: usize, pairs: &[u8], out: &mut [u8], at: usize) -> usize
+    requires { (place < count_of rules.bytes.now) × ((pairs.now ≡ digit_pairs) × (at + length (rule_line (entry_at rules.bytes.now place)) ≤ length out.old)) }
+    ensures next { result ≡ at + length (rule_line (entry_at rules.entry.bytes.now place)) }
+    ensures bytes { out.new ≡ over_at at (rule_line (entry_at rules.entry.bytes.now place)) out.old }
 {
-    let number = image::number_at(image, place);
-    let left = image::left_at(image, place);
-    let target = image::target_at(image, place);
-    let right = image::right_at(image, place);
-    let phones = image::phones_at(image, place);
+    let number = rules.number_at(place);
+    let left = rules.left_at(place);
+    let target = rules.target_at(place);
+    let right = rules.right_at(place);
+    let phones = rules.phones_at(place);
     let start = writer::begin(at);
     let body = put_body(&mut *out, start, pairs, number, left, target, right, phones);
     writer::end(out, body)
@@ -120,57 +121,55 @@ fn write_head(out: &mut [u8], count: usize, last: u16)
     let kind = writer::put(&mut *out, start, file_format::HEAD_TYPE);
     let edition = writer::put(&mut *out, kind, file_format::FIRST_EDITION);
     let counted = writer::put_two(&mut *out, edition, count);
-    let body = writer::put_two(&mut *out, counted, numbers::wide16(last));
+    let body = writer::put_two(&mut *out, counted, usize::from(last));
     writer::end(out, body);
 }
 
 // The lines of a ruleset's rules from `from` on.
-fn write_rules(image: &[u8], pairs: &[u8], out: &mut [u8], from: usize)
-    requires { (valid image.now ≡ true) × ((pairs.now ≡ digit_pairs) × (from + length (rule_lines (entries_of image.now)) ≤ length out.old)) }
-    ensures { out.new ≡ over_at from (rule_lines (entries_of image.now)) out.old }
+fn write_rules(rules: Ruleset<'_>, pairs: &[u8], out: &mut [u8], from: usize)
+    requires { (pairs.now ≡ digit_pairs) × (from + length (rule_lines (entries_of rules.bytes.now)) ≤ length out.old) }
+    ensures { out.new ≡ over_at from (rule_lines (entries_of rules.entry.bytes.now)) out.old }
 {
-    let count = image::rule_count(image);
+    let count = rules.rule_count();
     let mut at = from;
     for i in 0..count {
-        at = write_rule(image, i, pairs, &mut *out, at);
+        at = write_rule(rules, i, pairs, &mut *out, at);
     }
 }
 
 // A ruleset's file, at the front of lent bytes.
-pub fn write_ruleset(image: &[u8], out: &mut [u8])
-    requires { (valid image.now ≡ true) × (length (encode (ruleset_in image.now)) ≤ length out.old) }
-    ensures { out.new ≡ over (encode (ruleset_in image.now)) out.old }
+pub fn write_ruleset(rules: Ruleset<'_>, out: &mut [u8])
+    requires { length (encode (ruleset_in rules.bytes.now)) ≤ length out.old }
+    ensures { out.new ≡ over (encode (ruleset_in rules.entry.bytes.now)) out.old }
 {
-    let count = image::rule_count(image);
-    let last = image::last_issued(image);
+    let count = rules.rule_count();
+    let last = rules.last_issued();
     write_head(&mut *out, count, last);
     let pairs = writer::digit_pairs();
-    let at = class_writing::write_classes(image::class_bytes::masks(image), &pairs, &mut *out);
-    write_rules(image, &pairs, out, at);
+    let at = class_writing::write_classes(rules.masks(), &pairs, &mut *out);
+    write_rules(rules, &pairs, out, at);
 }
 
 // The bytes of the line of the rule at a place.
-fn rule_size(image: &[u8], place: usize) -> usize
-    requires { (valid image.now ≡ true) × (place < count_of image.now) }
-    ensures { (result ≡ length (rule_line (entry_at image.now place))) × (result ≤ line_size longest_frame) }
+fn rule_size(rules: Ruleset<'_>, place: usize) -> usize
+    requires { place < count_of rules.bytes.now }
+    ensures { (result ≡ length (rule_line (entry_at rules.entry.bytes.now place))) × (result ≤ line_size longest_frame) }
 {
-    let left = image::left_at(image, place);
-    let target = image::target_at(image, place);
-    let right = image::right_at(image, place);
-    let phones = image::phones_at(image, place);
+    let left = rules.left_at(place);
+    let target = rules.target_at(place);
+    let right = rules.right_at(place);
+    let phones = rules.phones_at(place);
     FRONT_LINE + 2 * (left.len() + (target.len() + (right.len() + phones.len())))
 }
 
 // The bytes of a ruleset's file.
-pub fn file_size(image: &[u8]) -> usize
-    requires { valid image.now ≡ true }
-    ensures { result ≡ length (encode (ruleset_in image.now)) }
+pub fn file_size(rules: Ruleset<'_>) -> usize
+    ensures { result ≡ length (encode (ruleset_in rules.entry.bytes.now)) }
 {
-    let count = image::rule_count(image);
-    let mut n: usize = class_writing::HEAD_LINE
-        + class_writing::classes_size(image::class_bytes::masks(image));
+    let count = rules.rule_count();
+    let mut n: usize = class_writing::HEAD_LINE + class_writing::classes_size(rules.masks());
     for i in 0..count {
-        n += rule_size(image, i);
+        n += rule_size(rules, i);
     }
     n
 }

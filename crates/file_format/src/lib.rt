@@ -65,10 +65,10 @@ pub fn body_size(f: &[u8]) -> usize
     requires { front_size ≤ length f.now }
     ensures { result ≡ body_size f.now }
 {
-    let l = numbers::wide(f[LEFT_LEN]);
-    let t = numbers::wide(f[TARGET_LEN]);
-    let r = numbers::wide(f[RIGHT_LEN]);
-    let p = numbers::wide(f[PHONES_LEN]);
+    let l = usize::from(f[LEFT_LEN]);
+    let t = usize::from(f[TARGET_LEN]);
+    let r = usize::from(f[RIGHT_LEN]);
+    let p = usize::from(f[PHONES_LEN]);
     FRONT + (l + (t + (r + p)))
 }
 
@@ -77,9 +77,9 @@ pub fn rule_in(f: &[u8]) -> Rule
     requires { body_size f.now ≤ length f.now }
     ensures { result ≡ rule_struct (rule_in f.now) }
 {
-    let target_at = FRONT + numbers::wide(f[LEFT_LEN]);
-    let right_at = target_at + numbers::wide(f[TARGET_LEN]);
-    let phones_at = right_at + numbers::wide(f[RIGHT_LEN]);
-    let end = phones_at + numbers::wide(f[PHONES_LEN]);
+    let target_at = FRONT + usize::from(f[LEFT_LEN]);
+    let right_at = target_at + usize::from(f[TARGET_LEN]);
+    let phones_at = right_at + usize::from(f[RIGHT_LEN]);
+    let end = phones_at + usize::from(f[PHONES_LEN]);
     rule_bytes::rule_from(f, LEFT_LEN, FRONT, target_at, right_at, phones_at, end)
 }

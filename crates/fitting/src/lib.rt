@@ -10,6 +10,8 @@ ghost use Rattle.fitting.specs.Fitting.{starts, same_by, starts_by, ends_by, fit
 ghost use Rattle.fitting.specs.Reading.{passing};
 ghost use Rattle.fitting.specs.Search.{FitAt};
 
+use image::ruleset::Ruleset;
+
 // A rule that fits, by its place, and how many rules fit there.
 #[derive(Clone, Copy)]
 pub struct Fit {
@@ -60,20 +62,20 @@ fn ends_by(masks: &[u8], context: &[u8], frame: &[u8], i: usize) -> bool
     same_by(masks, context, frame, i - context.len())
 }
 
-// Whether the rule at a place fits at `i`, with the image's masks in hand. The target is tested first: it decides soonest.
-fn fits_by(image: &[u8], masks: &[u8], place: usize, frame: &[u8], i: usize) -> bool
-    requires { (valid image.now ≡ true) × ((masks.now ≡ masks_in image.now) × ((place < count_of image.now) × (i ≤ length frame.now))) }
-    ensures { result ≡ fits_by (classes_of image.now) (entry_at image.now place).rule frame.now i }
+// Whether the rule at a place fits at `i`, with the ruleset's masks in hand. The target is tested first: it decides soonest.
+fn fits_by(rules: Ruleset<'_>, masks: &[u8], place: usize, frame: &[u8], i: usize) -> bool
+    requires { (masks.now ≡ masks_in rules.bytes.now) × ((place < count_of rules.bytes.now) × (i ≤ length frame.now)) }
+    ensures { result ≡ fits_by (classes_of rules.entry.bytes.now) (entry_at rules.entry.bytes.now place).rule frame.now i }
 {
-    let target = image::target_at(image, place);
+    let target = rules.target_at(place);
     if !starts_at(target, frame, i) {
         return false;
     }
-    let right = image::right_at(image, place);
+    let right = rules.right_at(place);
     if !starts_by(masks, right, frame, i + target.len()) {
         return false;
     }
-    let left = image::left_at(image, place);
+    let left = rules.left_at(place);
     ends_by(masks, left, frame, i)
 }
 
@@ -82,8 +84,8 @@ pub fn fits_at(image: &[u8], place: usize, frame: &[u8], i: usize) -> bool
     requires { (valid image.now ≡ true) × ((place < count_of image.now) × (i ≤ length frame.now)) }
     ensures { result ≡ fits_by (classes_of image.now) (entry_at image.now place).rule frame.now i }
 {
-    let masks = image::class_bytes::masks(image);
-    fits_by(image, masks, place, frame, i)
+    let rules = Ruleset { bytes: image };
+    fits_by(rules, rules.masks(), place, frame, i)
 }
 
 // The length of the target of the rule at a place.
@@ -91,25 +93,26 @@ pub fn target_len_at(image: &[u8], place: usize) -> usize
     requires { (valid image.now ≡ true) × (place < count_of image.now) }
     ensures { (result ≡ length (entry_at image.now place).rule.target) × ((1 ≤ result) × (result ≤ max_target)) }
 {
-    let target = image::target_at(image, place);
+    let rules = Ruleset { bytes: image };
+    let target = rules.target_at(place);
     target.len()
 }
 
 // How many of the rules from `from` on fit at `i`.
 fn count_fits(
-    image: &[u8],
+    rules: Ruleset<'_>,
     masks: &[u8],
     count: usize,
     frame: &[u8],
     i: usize,
     from: usize,
 ) -> usize
-    requires { (valid image.now ≡ true) × ((masks.now ≡ masks_in image.now) × ((count ≡ count_of image.now) × ((i ≤ length frame.now) × (from ≤ count)))) }
-    ensures { result ≡ passing (λ e. fits_by (classes_of image.now) e.rule frame.now i) (drop from (entries_of image.now)) }
+    requires { (masks.now ≡ masks_in rules.bytes.now) × ((count ≡ count_of rules.bytes.now) × ((i ≤ length frame.now) × (from ≤ count))) }
+    ensures { result ≡ passing (λ e. fits_by (classes_of rules.entry.bytes.now) e.rule frame.now i) (drop from (entries_of rules.entry.bytes.now)) }
 {
     let mut fitting = 0;
     for p in from..count {
-        if fits_by(image, masks, p, frame, i) {
+        if fits_by(rules, masks, p, frame, i) {
             fitting += 1;
         }
     }
@@ -121,10 +124,11 @@ pub fn first_fit(image: &[u8], count: usize, frame: &[u8], i: usize) -> Option<F
     requires { (valid image.now ≡ true) × ((count ≡ count_of image.now) × (i ≤ length frame.now)) }
     ensures { FitAt image.now frame.now i result }
 {
-    let masks = image::class_bytes::masks(image);
+    let rules = Ruleset { bytes: image };
+    let masks = rules.masks();
     for place in 0..count {
-        if fits_by(image, masks, place, frame, i) {
-            let fitting = count_fits(image, masks, count, frame, i, place);
+        if fits_by(rules, masks, place, frame, i) {
+            let fitting = count_fits(rules, masks, count, frame, i, place);
             return Some(Fit { place, fitting });
         }
     }

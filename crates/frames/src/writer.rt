@@ -59,8 +59,8 @@ pub fn put_two(out: &mut [u8], w: Writer, n: usize) -> Writer
     ensures next { result.at ≡ w.at + 4 }
     ensures sent { Sent (bytes2 n) (output w out.old) (output result out.new) }
 {
-    let high = put(&mut *out, w, numbers::low(n / 256));
-    put(out, high, numbers::low(n))
+    let high = put(&mut *out, w, (n / 256 % 256) as u8);
+    put(out, high, (n % 256) as u8)
 }
 
 // A field of four bytes.
@@ -104,7 +104,7 @@ pub fn put_from(out: &mut [u8], w: Writer, pairs: &[u8], b: u8) -> Writer
     ensures sum { SumKept w b result }
     ensures sent { Sent (b ∷ []) (output w out.old) (output result out.new) }
 {
-    let i = 2 * numbers::wide(b);
+    let i = 2 * usize::from(b);
     put_digits(out, w, b, pairs[i], pairs[i + 1])
 }
 

@@ -50,8 +50,8 @@ fn coded_rule(code: &[usize]) -> Rule
 fn letters_at(letters: &[u8], at: usize, n: usize) -> &[u8]
     ensures { result.now ≡ take n (drop at letters.now) }
 {
-    let start = numbers::smaller(at, letters.len());
-    let end = start + numbers::smaller(n, letters.len() - start);
+    let start = at.min(letters.len());
+    let end = start + n.min(letters.len() - start);
     &letters[start..end]
 }
 
@@ -111,8 +111,8 @@ pub fn replay(
     ensures { Replayed image.old code.now letters.now answers.old places.old (replaying (reply_of result) image.new answers.new places.new) }
 {
     image::clear(image)?;
-    let room = numbers::smaller(answers.len(), places.len());
-    let n = numbers::smaller(code.len() / EDIT_WORDS, room);
+    let room = answers.len().min(places.len());
+    let n = (code.len() / EDIT_WORDS).min(room);
     replay_all(image, code, letters, answers, places, n);
     Ok(())
 }

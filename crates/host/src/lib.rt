@@ -286,6 +286,7 @@ pub extern "C" fn pirrozketa_speak_many<'a>(
         *count = 0;
         return 17;
     }
-    *count = many::speak_all(image, list, words, sets, names, phones, numbers, replies);
+    let rules = image::ruleset::Ruleset { bytes: image };
+    *count = many::speak_all(rules, list, words, sets, names, phones, numbers, replies);
     rules::ACCEPTED
 }

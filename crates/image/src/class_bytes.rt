@@ -1,11 +1,10 @@
-// The letter classes that an image holds: where they lie, set one by one or all at once, and whether a rule uses one.
-ghost use Rattle.std.specs.Prelude.{◌≡◌, true, ◌++◌, ◌+◌, ◌-◌, ◌≤◌, length, take, drop, replicate};
+// The letter classes that an image holds: where they lie, set one by one or all at once.
+ghost use Rattle.std.specs.Prelude.{◌≡◌, ◌++◌, ◌+◌, ◌-◌, ◌≤◌, length, take, drop, replicate};
 ghost use Rattle.numbers.specs.Numbers.{bytes8};
 ghost use Rattle.rules.specs.Limits.{first_class, max_symbol};
 ghost use Rattle.rules.specs.Memory.{over_at};
 ghost use Rattle.classes.specs.Masks.{masks_size, mask_size, mask_start};
-ghost use Rattle.classes.specs.Setting.{list_uses};
-ghost use Rattle.image.specs.Image.{image_size, class_start, table_start, masks_in, entries_of, valid};
+ghost use Rattle.image.specs.Image.{image_size, class_start, table_start, masks_in};
 
 use crate::{CLASSES, TABLE, TOTAL};
 
@@ -39,20 +38,4 @@ pub fn put_class(image: &mut [u8], symbol: u8, mask: u64)
     ensures { image.new ≡ over_at class_start (take (mask_start symbol) (masks_in image.old) ++ (bytes8 mask ++ drop (mask_start symbol + mask_size) (masks_in image.old))) image.old }
 {
     classes::storing::put_mask(&mut image[CLASSES..TOTAL], symbol, mask);
-}
-
-// Whether a rule uses a class.
-pub fn in_use(image: &[u8], symbol: u8) -> bool
-    requires { valid image.now ≡ true }
-    ensures { result ≡ list_uses symbol (entries_of image.now) }
-{
-    let count = crate::rule_count(image);
-    for i in 0..count {
-        let left = crate::left_at(image, i);
-        let right = crate::right_at(image, i);
-        if classes::runs::uses(left, right, symbol) {
-            return true;
-        }
-    }
-    false
 }

@@ -9,6 +9,7 @@ ghost use Rattle.classes.specs.Ordinal.{origin, origin_run};
 ghost use Rattle.image.specs.State.{expandable};
 ghost use Rattle.image.specs.Image.{image_size, origin_size, total_start, table_start, count_of, total_of, classes_of, entries_of, entry_at, origins_of, origins_at, origin_bytes, Slots, no_class, without_classes, tabled, sound, valid, settled};
 
+use crate::ruleset::Ruleset;
 use crate::{ORIGIN, RULES, SLOT, TABLE, TOTAL};
 
 // ---- reading
@@ -18,7 +19,7 @@ pub fn literal_total(image: &[u8]) -> usize
     requires { image_size ≤ length image.now }
     ensures { (result ≡ total_of image.now) × (result < 65536) }
 {
-    numbers::wide16(numbers::two_at(image, TOTAL))
+    usize::from(numbers::two_at(image, TOTAL))
 }
 
 // The place of the rule that a literal rule comes from.
@@ -26,15 +27,8 @@ pub fn owner_at(image: &[u8], p: usize) -> usize
     requires { (valid image.now ≡ true) × (p < total_of image.now) }
     ensures { (result ≡ (get_or (origins_of image.now) p (origin 0 0)).place) × (result < count_of image.now) }
 {
-    numbers::wide16(numbers::two_at(image, TABLE + ORIGIN * p))
-}
-
-// Which of that rule's literal rules it is.
-pub fn ordinal_at(image: &[u8], p: usize) -> usize
-    requires { (valid image.now ≡ true) × (p < total_of image.now) }
-    ensures { result ≡ (get_or (origins_of image.now) p (origin 0 0)).ordinal }
-{
-    numbers::wide16(numbers::two_at(image, TABLE + ORIGIN * p + 2))
+    let rules = Ruleset { bytes: image };
+    rules.owner_at(p)
 }
 
 // Whether none of the four bytes of a context is a class, those past its length among them: so no length is read.
@@ -92,10 +86,10 @@ fn has_run(image: &[u8], p: usize, q: usize, n: usize) -> bool
     let from = TABLE + ORIGIN * p;
     for j in 0..n {
         let at = from + ORIGIN * j;
-        if numbers::wide16(numbers::two_at(image, at)) != q {
+        if usize::from(numbers::two_at(image, at)) != q {
             return false;
         }
-        if numbers::wide16(numbers::two_at(image, at + 2)) != j {
+        if usize::from(numbers::two_at(image, at + 2)) != j {
             return false;
         }
     }

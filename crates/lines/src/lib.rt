@@ -40,7 +40,7 @@ pub fn put_numbers(out: &mut [u8], w: Writer, numbers: &[u16]) -> Writer
 {
     let mut next = w;
     for &n in numbers {
-        next = writer::put_two(&mut *out, next, numbers::wide16(n));
+        next = writer::put_two(&mut *out, next, usize::from(n));
     }
     next
 }

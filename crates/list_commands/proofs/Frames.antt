@@ -28,9 +28,6 @@ module _ (f : List ℕ) where
   pub add_short : length f < 2 → false ≡ add_sized f
   add_short h = sym (lt-leb (2 + get_or f 1 0) (length f) (omega arith))
 
-  pub sized_end : add_sized f ≡ true → 2 + get_or f 1 0 ≤ length f
-  sized_end p = leb-true (2 + get_or f 1 0) (length f) p
-
   module _ (list after : List ℕ) (r : Reply) where
     pub cut_add : (n : ℕ) → n ≡ get_or f 1 0 → Changed (Add (take (2 + n - 2) (drop 2 f)) (take (length f - (2 + n)) (drop (2 + n) f))) list after r
         → Changed (addition f) list after r

@@ -32,7 +32,7 @@ fn add_sized(f: &[u8]) -> bool
     if f.len() < 2 {
         return false;
     }
-    2 + numbers::wide(f[1]) <= f.len()
+    2 + usize::from(f[1]) <= f.len()
 }
 
 // 20, name length (1), name, phones to the end.
@@ -40,7 +40,7 @@ fn add(f: &[u8], list: &mut [u32]) -> Result<(), Refusal>
     requires { add_sized f.now ≡ true }
     ensures { Changed (addition f.now) list.old list.new (reply_of result) }
 {
-    let end = 2 + numbers::wide(f[1]);
+    let end = 2 + usize::from(f[1]);
     change::add_name(list, &f[2..end], &f[end..])
 }
 

@@ -66,6 +66,6 @@ pub fn show_command(f: &[u8], text: &[u8], out: &mut [u8]) -> usize
         return answers::malformed(out);
     }
     let i = fields::four_at(f, 1);
-    let end = i + numbers::wide(f[5]);
+    let end = i + usize::from(f[5]);
     memory::bytes_line(&text[i..end], out)
 }

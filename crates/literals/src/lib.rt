@@ -10,6 +10,8 @@ ghost use Rattle.fitting.specs.Fitting.{ends, starts};
 ghost use Rattle.literals.specs.Matching.{matched, started, rule_with, end_of};
 ghost use Rattle.literals.specs.Places.{literal_entry};
 
+use image::ruleset::Ruleset;
+
 // What is left of `j` for the symbols before a run, where the letters of the frame from `to` on are choice `j` of it.
 fn match_choice(masks: &[u8], run: &[u8], j: usize, frame: &[u8], to: usize) -> Option<usize>
     requires { (masks_size ≤ length masks.now) × ((1 ≤ size (classes_in masks.now) run.now) × (to + length run.now ≤ length frame.now)) }
@@ -97,11 +99,12 @@ pub fn place_end(image: &[u8], p: usize, frame: &[u8], i: usize) -> usize
     requires { (valid image.now ≡ true) × ((p < total_of image.now) × (i < length frame.now)) }
     ensures { result ≡ end_of (literal_entry image.now p).rule frame.now i }
 {
-    let place = image::table::owner_at(image, p);
-    let j = image::table::ordinal_at(image, p);
-    let masks = image::class_bytes::masks(image);
-    let left = image::left_at(image, place);
-    let target = image::target_at(image, place);
-    let right = image::right_at(image, place);
+    let rules = Ruleset { bytes: image };
+    let place = rules.owner_at(p);
+    let j = rules.ordinal_at(p);
+    let masks = rules.masks();
+    let left = rules.left_at(place);
+    let target = rules.target_at(place);
+    let right = rules.right_at(place);
     literal_end(masks, left, target, right, j, frame, i)
 }

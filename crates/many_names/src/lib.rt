@@ -27,7 +27,7 @@ pub fn has_next(names: &[u8], at: usize, count: usize, limit: usize) -> bool
         return false;
     }
     let left = names.len() - at - 1;
-    if left < numbers::wide(names[at]) {
+    if left < usize::from(names[at]) {
         return false;
     }
     true
@@ -49,7 +49,7 @@ pub fn size_of(sheet: &[u8]) -> SheetSize
     let mut at: usize = 0;
     let mut count: usize = 0;
     while has_next(sheet, at, count, rules::MAX_NAMES) {
-        at = at + 1 + numbers::wide(sheet[at]);
+        at = at + 1 + usize::from(sheet[at]);
         count += 1;
     }
     let sound = at == sheet.len();
@@ -75,7 +75,7 @@ pub fn put_reply(replies: &mut [usize], at: usize, speech: Result<Spoken, Refusa
     requires { at + reply_size ≤ length replies.old }
     ensures { replies.new ≡ take at replies.old ++ (spoken_code (told_of speech) ∷ phones_or_place (told_of speech) ∷ numbers_given (told_of speech) ∷ steps ∷ contested_given (told_of speech) ∷ drop (at + reply_size) replies.old) }
 {
-    replies[at] = numbers::wide(codes::spoken_code(speech));
+    replies[at] = usize::from(codes::spoken_code(speech));
     replies[at + 1] = codes::phones_or_place(speech);
     replies[at + 2] = codes::numbers_given(speech);
     replies[at + 3] = steps;

@@ -13,7 +13,7 @@ fn count_at(counts: &[u16], x: usize) -> usize
     if x == 0 {
         return 0;
     }
-    numbers::wide16(counts[x])
+    usize::from(counts[x])
 }
 
 // The number of names from state q, 1,001 where it is more.
@@ -50,7 +50,7 @@ fn depth_at(depths: &[u16], x: usize) -> usize
     if x == 0 {
         return 0;
     }
-    numbers::wide16(depths[x]) + 1
+    usize::from(depths[x]) + 1
 }
 
 // The length of the longest name from state q, 65 where it is more.

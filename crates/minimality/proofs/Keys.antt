@@ -46,9 +46,6 @@ pub record Walking (ws : List ℕ) (t i : ℕ) : Type 0 where
   pub same : 0 < i → key_of (cells_of ws (i - 1)) ≡ key_of (cells_of ws t)
   pub passed : (j : ℕ) → j < t → key_of (cells_of ws j) ≡ key_of (cells_of ws t) → i ≤ j → Alike (rows_of ws) j t → ⊥
 
-pub walk_begin : (ws : List ℕ) (t from : ℕ) → LastWith ws t (key_of (cells_of ws t)) from → Walking ws t from
-walk_begin ws t from l = record { within = l.within; same = l.same; passed = λ j a b c x. let d = l.all j a b in absurd (omega arith) }
-
 pub walk_next : (ws : List ℕ) (t i : ℕ) (links : List ℕ) → Linked ws t links → Walking ws t i → 0 < i → (Alike (rows_of ws) (i - 1) t → ⊥) → (x : ℕ) → x ≡ get_or links (i - 1) 0 → Walking ws t x
 walk_next ws t i links ln w p ne x e =
     let b = w.within in
@@ -64,9 +61,6 @@ walk_next ws t i links ln w p ne x e =
           (λ h. let d = l.all j (omega arith) (k ∙ sym (w.same p)) in absurd (omega arith))
           (λ h. w.passed j a k h y));
     }
-
-pub walk_less : (ws : List ℕ) (t i : ℕ) (links : List ℕ) → Linked ws t links → Walking ws t i → 0 < i → (x : ℕ) → x ≡ get_or links (i - 1) 0 → x < i
-walk_less ws t i links ln w p x e = let b = w.within in let l = (ln (i - 1) (omega arith)).within in omega arith
 
 pub walk_no : (ws : List ℕ) (t i : ℕ) → Walking ws t i → 0 < i → Alike (rows_of ws) (i - 1) t → Decides (Fresh ws t) false
 walk_no ws t i w p a = let b = w.within in refuted (Fresh ws t) (λ x. x (i - 1) (omega arith) a)

@@ -27,7 +27,7 @@ fn offsets(words: &[u32], n: usize) -> bool
     if words[1] != automaton::FIRST_CELL {
         return false;
     }
-    if words.len() < numbers::wide32(words[n + 1]) {
+    if words.len() < words[n + 1] as usize {
         return false;
     }
     rising(words, n)
@@ -76,8 +76,8 @@ fn rows_good(words: &[u32], n: usize) -> bool
     ensures { Decides (RowsGood words.now n) result }
 {
     for q in 0..=n {
-        let a = numbers::wide32(words[q]);
-        let e = numbers::wide32(words[q + 1]);
+        let a = words[q] as usize;
+        let e = words[q + 1] as usize;
         if !row_good(q, &words[a..e]) {
             return false;
         }
@@ -91,7 +91,7 @@ fn key(cells: &[u32]) -> usize
 {
     let mut h: usize = 0;
     for &x in cells {
-        h = (h * 31 + numbers::wide32(x)) % 4093;
+        h = (h * 31 + x as usize) % 4093;
     }
     h
 }
@@ -115,7 +115,7 @@ fn walk(words: &[u32], links: &[u16], t: usize, from: usize) -> bool
         if states::same_rows(words, i - 1, t) {
             return false;
         }
-        i = numbers::wide16(links[i - 1]);
+        i = usize::from(links[i - 1]);
     }
     true
 }
@@ -129,7 +129,7 @@ fn apart(words: &[u32], heads: &mut [u16], links: &mut [u16], n: usize) -> bool
     for t in 0..=n {
         let h = row_key(words, n, t);
         let from = heads[h];
-        if !walk(words, links, t, numbers::wide16(from)) {
+        if !walk(words, links, t, usize::from(from)) {
             return false;
         }
         links[t] = from;

@@ -9,7 +9,7 @@ ghost use Rattle.packing.specs.Packing.{group_at, count};
 fn phone_at(phones: &[u8], k: usize) -> usize
     ensures { (result ≡ get_or phones.now k 0) × (result < 256) }
 {
-    phones.get(k).map_or(0, |&x| numbers::wide(x))
+    phones.get(k).map_or(0, |&x| usize::from(x))
 }
 
 // Three phones from 3 k on.

@@ -7,6 +7,15 @@ ghost use Rattle.speech.specs.Places.{Unsaid, frame_size};
 ghost use Rattle.tables.specs.Words.{row_size, needed_words};
 ghost use Rattle.passes.specs.Passes.{max_steps, Stepped, Symbols, rows_at, left_on, right_on, Passed, Both, Rows, memory, Sized, WordPassed, AllPassed};
 
+// A compiled ruleset: the two lent tables with their state counts.
+#[derive(Clone, Copy)]
+pub struct Compiled<'a> {
+    pub words: &'a [u16],
+    pub sets: &'a [u64],
+    pub left_states: usize,
+    pub right_states: usize,
+}
+
 // A state, and how many entries have been looked up.
 #[derive(Clone, Copy)]
 pub struct Step {
@@ -19,7 +28,7 @@ pub fn look_up(words: &[u16], rows: usize, s: Step, c: u8) -> Step
     requires { (rows + (row_size * s.state + c) < length words.now) × (s.steps < max_steps) }
     ensures { Stepped words.now rows s c result }
 {
-    let q = numbers::wide16(s.state);
+    let q = usize::from(s.state);
     let at = rows + (tables::ROW * q + c as usize);
     Step {
         state: words[at],
@@ -44,7 +53,7 @@ fn left_pass(
     for i in 0..frame.len() - 1 {
         at = look_up(words, rows, at, frame[i]);
         let state = at.state;
-        if count <= numbers::wide16(state) { // 16 in the left pass
+        if count <= usize::from(state) { // 16 in the left pass
             return None;
         }
         states[i + 1] = state;
@@ -68,7 +77,7 @@ pub fn right_pass(
     for i in (1..frame.len()).rev() {
         at = look_up(words, rows, at, frame[i]);
         let state = at.state;
-        if count <= numbers::wide16(state) { // 16 in the right pass
+        if count <= usize::from(state) { // 16 in the right pass
             return None;
         }
         states[i] = state;
@@ -78,22 +87,27 @@ pub fn right_pass(
 
 // The left pass, whose count goes on from `steps`, then the right pass, whose count goes on from the left's.
 fn run_passes(
-    words: &[u16],
-    left_states: usize,
-    right_states: usize,
+    compiled: &Compiled<'_>,
     frame: &[u8],
     steps: usize,
     left: &mut [u16],
     right: &mut [u16],
 ) -> Option<usize>
-    requires { (0 < left_states) × (0 < right_states) × (needed_words left_states right_states ≤ length words.now) × (2 ≤ length frame.now) × (length frame.now ≤ frame_size) × (steps + 2 * frame_size ≤ max_steps) × Symbols frame.now × (length frame.now ≤ length left.old) × (length frame.now ≤ length right.old) }
-    ensures { Both words.now left_states right_states frame.now (length frame.now - 2) steps left.new right.new result }
+    requires { (0 < compiled.now.left_states) × (0 < compiled.now.right_states) × (needed_words compiled.now.left_states compiled.now.right_states ≤ length compiled.now.words.now) × (2 ≤ length frame.now) × (length frame.now ≤ frame_size) × (steps + 2 * frame_size ≤ max_steps) × Symbols frame.now × (length frame.now ≤ length left.old) × (length frame.now ≤ length right.old) }
+    ensures { Both compiled.now.words.now compiled.now.left_states compiled.now.right_states frame.now (length frame.now - 2) steps left.new right.new result }
 {
-    let steps = left_pass(words, tables::HEAD, left_states, frame, steps, left)?;
+    let steps = left_pass(
+        compiled.words,
+        tables::HEAD,
+        compiled.left_states,
+        frame,
+        steps,
+        left,
+    )?;
     right_pass(
-        words,
-        tables::HEAD + tables::ROW * left_states,
-        right_states,
+        compiled.words,
+        tables::HEAD + tables::ROW * compiled.left_states,
+        compiled.right_states,
         frame,
         steps,
         right,
@@ -103,9 +117,7 @@ fn run_passes(
 // The passes of one word, where the list gives no part for it; that part, or 0, goes to `found`. Where the tables are not `fit`,
 // of other lengths or another edit count, no word can pass.
 fn run_word(
-    words: &[u16],
-    left_states: usize,
-    right_states: usize,
+    compiled: &Compiled<'_>,
     fit: bool,
     list: &[u32],
     name: &[u8],
@@ -117,8 +129,8 @@ fn run_word(
     left: &mut [u16],
     right: &mut [u16],
 ) -> Option<usize>
-    requires { (fit ≡ true → Rows (length words.now) left_states right_states) × Unsaid list.now name.now × (frame.now ≡ frame_of name.now) × WordOf name.now from end × (steps + 2 * frame_size ≤ max_steps) × Sized (memory found.old left.old right.old) }
-    ensures { WordPassed words.now left_states right_states fit list.now (word_at name.now from) from steps (memory found.old left.old right.old) (memory found.new left.new right.new) result }
+    requires { (fit ≡ true → Rows (length compiled.now.words.now) compiled.now.left_states compiled.now.right_states) × Unsaid list.now name.now × (frame.now ≡ frame_of name.now) × WordOf name.now from end × (steps + 2 * frame_size ≤ max_steps) × Sized (memory found.old left.old right.old) }
+    ensures { WordPassed compiled.now.words.now compiled.now.left_states compiled.now.right_states fit list.now (word_at name.now from) from steps (memory found.old left.old right.old) (memory found.new left.new right.new) result }
 {
     let part = reading::words::find_word(list, name, from, end);
     found[from] = part;
@@ -129,9 +141,7 @@ fn run_word(
         return None;
     }
     run_passes(
-        words,
-        left_states,
-        right_states,
+        compiled,
         &frame[from..end + 1],
         steps,
         &mut left[from..],
@@ -141,9 +151,7 @@ fn run_word(
 
 // The passes of the words in turn; the count of each word goes on from the one before.
 pub fn run_words(
-    words: &[u16],
-    left_states: usize,
-    right_states: usize,
+    compiled: &Compiled<'_>,
     fit: bool,
     list: &[u32],
     name: &[u8],
@@ -152,17 +160,15 @@ pub fn run_words(
     left: &mut [u16],
     right: &mut [u16],
 ) -> Option<usize>
-    requires { (fit ≡ true → Rows (length words.now) left_states right_states) × Unsaid list.now name.now × (frame.now ≡ frame_of name.now) × Sized (memory found.old left.old right.old) }
-    ensures { AllPassed words.now left_states right_states fit list.now name.now (memory found.new left.new right.new) result }
+    requires { (fit ≡ true → Rows (length compiled.now.words.now) compiled.now.left_states compiled.now.right_states) × Unsaid list.now name.now × (frame.now ≡ frame_of name.now) × Sized (memory found.old left.old right.old) }
+    ensures { AllPassed compiled.now.words.now compiled.now.left_states compiled.now.right_states fit list.now name.now (memory found.new left.new right.new) result }
 {
     let mut steps = 0;
     let mut from = 0;
     while from <= name.len() {
         let end = reading::words::word_end(name, from);
         steps = run_word(
-            words,
-            left_states,
-            right_states,
+            compiled,
             fit,
             list,
             name,

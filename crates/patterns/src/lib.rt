@@ -2,14 +2,16 @@
 // from their end.
 #![tactic(auto)]
 
-ghost use Rattle.std.specs.Prelude.{◌≡◌, ◌+◌, ◌/◌, ◌≤◌, ◌<◌, true, ◌++◌, reverse, length, get_or};
+ghost use Rattle.std.specs.Prelude.{◌≡◌, ◌+◌, ◌/◌, ◌≤◌, ◌<◌, ◌++◌, reverse, length, get_or};
 ghost use Rattle.rules.specs.Limits.{max_pattern};
 ghost use Rattle.classes.specs.Expansion.{size};
 ghost use Rattle.classes.specs.Masks.{masks_size, classes_in};
 ghost use Rattle.classes.specs.Ordinal.{choice_at};
-ghost use Rattle.image.specs.Image.{valid, total_of};
+ghost use Rattle.image.specs.Image.{total_of};
 ghost use Rattle.side.specs.Wrote.{Wrote};
 ghost use Rattle.patterns.specs.Sides.{Put, pattern_in, Scratch, Laid};
+
+use image::ruleset::Ruleset;
 
 // The symbols of `s` are stored from `at` on, the last one first.
 fn put_reversed(pats: &mut [u8], at: usize, s: &[u8])
@@ -63,29 +65,29 @@ fn put_right(
 
 // The pattern of a literal rule is stored from `at` on: its left context, or its target and right context from their end on. Gives its
 // length.
-fn put_pattern(pats: &mut [u8], at: usize, image: &[u8], p: usize, right: bool) -> usize
-    requires { (valid image.now ≡ true) × (p < total_of image.now) × (at + max_pattern ≤ length pats.old) }
-    ensures { Put pats.old at (pattern_in image.now right p) result pats.new }
+fn put_pattern(pats: &mut [u8], at: usize, rules: Ruleset<'_>, p: usize, right: bool) -> usize
+    requires { (p < total_of rules.bytes.now) × (at + max_pattern ≤ length pats.old) }
+    ensures { Put pats.old at (pattern_in rules.entry.bytes.now right p) result pats.new }
 {
-    let place = image::table::owner_at(image, p);
-    let j = image::table::ordinal_at(image, p);
-    let masks = image::class_bytes::masks(image);
-    let after = image::right_at(image, place);
+    let place = rules.owner_at(p);
+    let j = rules.ordinal_at(p);
+    let masks = rules.masks();
+    let after = rules.right_at(place);
     if right {
-        let target = image::target_at(image, place);
+        let target = rules.target_at(place);
         return put_right(pats, at, masks, target, after, j);
     }
-    let left = image::left_at(image, place);
+    let left = rules.left_at(place);
     put_left(pats, at, masks, left, after, j)
 }
 
 // Pattern i is laid from MAX_PATTERN i on, and its length is lens[i].
-pub fn lay_side(image: &[u8], n: usize, right: bool, pats: &mut [u8], lens: &mut [u8])
-    requires { (valid image.now ≡ true) × (n ≡ total_of image.now) × Scratch pats.old lens.old }
-    ensures { Laid image.now right pats.new lens.new }
+pub fn lay_side(rules: Ruleset<'_>, n: usize, right: bool, pats: &mut [u8], lens: &mut [u8])
+    requires { (n ≡ total_of rules.bytes.now) × Scratch pats.old lens.old }
+    ensures { Laid rules.entry.bytes.now right pats.new lens.new }
 {
     for i in 0..n {
-        let len = put_pattern(pats, rules::MAX_PATTERN * i, image, i, right);
+        let len = put_pattern(pats, rules::MAX_PATTERN * i, rules, i, right);
         lens[i] = len as u8;
     }
 }

@@ -41,7 +41,7 @@ fn find(tree: &[u16], s: usize, c: u16) -> usize
         if tree[at + 2] == c {
             return k;
         }
-        k = numbers::wide16(tree[at + 1]);
+        k = usize::from(tree[at + 1]);
     }
     k
 }
@@ -75,7 +75,7 @@ fn descend(
 {
     let q = p.node;
     let n = p.nodes;
-    let first = numbers::wide16(tree[NODE * q]);
+    let first = usize::from(tree[NODE * q]);
     let child = find(tree, first, c as u16);
     if child != 0 {
         return Some(SharedStep { node: child, ..p });
@@ -91,7 +91,7 @@ fn descend(
         c,
     );
     let entry = next.state;
-    if count <= numbers::wide16(entry) { // 16 in the left pass
+    if count <= usize::from(entry) { // 16 in the left pass
         return None;
     }
     attach(tree, q, n, c as u16, entry);

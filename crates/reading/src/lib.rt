@@ -13,6 +13,7 @@ ghost use Rattle.speech.specs.Words.{word, read_word, frame_of, word_at, WordOf}
 ghost use Rattle.speech.specs.Speech.{told_of, saying, answered, listed_or, delivered, plain_words, plain_said};
 ghost use Rattle.speech.specs.Places.{ReadBy, Unsaid, frame_size, parts_at, PartsSoFar, ReadOn};
 
+use image::ruleset::Ruleset;
 use rules::Refusal;
 use speech::{Spoken, Unread};
 
@@ -23,28 +24,28 @@ pub const MAX_FRAME: usize = rules::MAX_NAME + 2;
 pub const NO_LIST: [u32; 1] = [0];
 
 // The parts of the rules applied to a framed word, in order, from its first letter on.
-fn read_letters(image: &[u8], frame: &[u8], parts: &mut [u32]) -> Result<usize, Unread>
-    requires { (valid image.now ≡ true) × ((2 ≤ length frame.now) × ((length frame.now ≤ frame_size) × (length frame.now - 2 ≤ length parts.old))) }
-    ensures { ReadBy image.now (first_fit (classes_of image.now) (entries_of image.now) frame.now) (length frame.now - 2) parts.new result }
+fn read_letters(rules: Ruleset<'_>, frame: &[u8], parts: &mut [u32]) -> Result<usize, Unread>
+    requires { (2 ≤ length frame.now) × ((length frame.now ≤ frame_size) × (length frame.now - 2 ≤ length parts.old)) }
+    ensures { ReadBy rules.entry.bytes.now (first_fit (classes_of rules.entry.bytes.now) (entries_of rules.entry.bytes.now) frame.now) (length frame.now - 2) parts.new result }
 {
-    let count = image::rule_count(image);
+    let count = rules.rule_count();
     let n = frame.len() - 2;
     let mut k = 0;
     let mut i = 1;
     while i <= n {
-        let Some(fit) = fitting::first_fit(image, count, frame, i) else {
+        let Some(fit) = fitting::first_fit(rules.bytes, count, frame, i) else {
             return Err(Unread::Uncovered(i));
         };
         parts[k] = speech::part_of(fit.place, fit.fitting);
         k += 1;
-        i += fitting::target_len_at(image, fit.place);
+        i += fitting::target_len_at(rules.bytes, fit.place);
     }
     Ok(k)
 }
 
 // One word more, after `count` parts: the part that the list gives for it, or the rules applied to its letters.
 fn read_word(
-    image: &[u8],
+    rules: Ruleset<'_>,
     list: &[u32],
     name: &[u8],
     frame: &[u8],
@@ -53,34 +54,34 @@ fn read_word(
     parts: &mut [u32],
     count: usize,
 ) -> Result<usize, Unread>
-    requires { (valid image.now ≡ true) × Unsaid list.now name.now × (frame.now ≡ frame_of name.now) × WordOf name.now from end × PartsSoFar image.now list.now parts.old count from }
-    ensures { ReadOn image.now list.now (parts_at image.now list.now (take count parts.old)) (read_word (says_of list.now) (plain (classes_of image.now) (entries_of image.now)) (word from (word_at name.now from))) end parts.new result }
+    requires { Unsaid list.now name.now × (frame.now ≡ frame_of name.now) × WordOf name.now from end × PartsSoFar rules.bytes.now list.now parts.old count from }
+    ensures { ReadOn rules.entry.bytes.now list.now (parts_at rules.entry.bytes.now list.now (take count parts.old)) (read_word (says_of list.now) (plain (classes_of rules.entry.bytes.now) (entries_of rules.entry.bytes.now)) (word from (word_at name.now from))) end parts.new result }
 {
     let part = words::find_word(list, name, from, end);
     if part != 0 {
         parts[count] = part as u32;
         return Ok(count + 1);
     }
-    let read = read_letters(image, &frame[from..end + 1], &mut parts[count..]);
+    let read = read_letters(rules, &frame[from..end + 1], &mut parts[count..]);
     words::in_name(read, count, from)
 }
 
 // The words of a name that is not on the list, in turn.
 fn read_words(
-    image: &[u8],
+    rules: Ruleset<'_>,
     list: &[u32],
     name: &[u8],
     frame: &[u8],
     parts: &mut [u32],
 ) -> Result<usize, Unread>
-    requires { (valid image.now ≡ true) × Unsaid list.now name.now × (frame.now ≡ frame_of name.now) × (length parts.old ≡ frame_size) }
-    ensures { ReadOn image.now list.now [] (plain_words (classes_of image.now) (entries_of image.now) name.now (says_of list.now)) frame_size parts.new result }
+    requires { Unsaid list.now name.now × (frame.now ≡ frame_of name.now) × (length parts.old ≡ frame_size) }
+    ensures { ReadOn rules.entry.bytes.now list.now [] (plain_words (classes_of rules.entry.bytes.now) (entries_of rules.entry.bytes.now) name.now (says_of list.now)) frame_size parts.new result }
 {
     let mut count = 0;
     let mut from = 0;
     while from <= name.len() {
         let end = words::word_end(name, from);
-        count = read_word(image, list, name, frame, from, end, &mut *parts, count)?;
+        count = read_word(rules, list, name, frame, from, end, &mut *parts, count)?;
         from = end;
     }
     Ok(count)
@@ -88,21 +89,21 @@ fn read_words(
 
 // The plain reading of a sound name that is not on the list.
 fn read_sound(
-    image: &[u8],
+    rules: Ruleset<'_>,
     list: &[u32],
     name: &[u8],
     phones: &mut [u8],
     numbers: &mut [u16],
 ) -> Result<Spoken, Refusal>
-    requires { (valid image.now ≡ true) × Unsaid list.now name.now }
-    ensures { saying (told_of result) phones.new numbers.new ≡ delivered (answered (plain_words (classes_of image.now) (entries_of image.now) name.now (says_of list.now)) 0) phones.old numbers.old }
+    requires { Unsaid list.now name.now }
+    ensures { saying (told_of result) phones.new numbers.new ≡ delivered (answered (plain_words (classes_of rules.entry.bytes.now) (entries_of rules.entry.bytes.now) name.now (says_of list.now)) 0) phones.old numbers.old }
 {
     let mut frame = [0u8; MAX_FRAME];
     words::lay_frame(name, &mut frame);
     let end = name.len() + 2;
     let mut parts = [0u32; MAX_FRAME];
-    let reached = read_words(image, list, name, &frame[..end], &mut parts);
-    speech::answer(image, list, reached, &parts, phones, numbers)
+    let reached = read_words(rules, list, name, &frame[..end], &mut parts);
+    speech::answer(rules.bytes, list, reached, &parts, phones, numbers)
 }
 
 // The plain reading of a name, for a caller that knows the image to be a ruleset and has no list.
@@ -116,40 +117,40 @@ pub fn read_valid(
     ensures { saying (told_of result) phones.new numbers.new ≡ plain_said image.now no_list name.now phones.old numbers.old }
 {
     rules::judge_name(name)?;
-    read_sound(image, &NO_LIST, name, phones, numbers)
+    read_sound(Ruleset { bytes: image }, &NO_LIST, name, phones, numbers)
 }
 
 // The plain reading of a sound name that may be on the list.
 fn read_listed(
-    image: &[u8],
+    rules: Ruleset<'_>,
     list: &[u32],
     name: &[u8],
     phones: &mut [u8],
     numbers: &mut [u16],
 ) -> Result<Spoken, Refusal>
-    requires { (valid image.now ≡ true) × ((is_list list.now ≡ true) × SoundName name.now) }
-    ensures { saying (told_of result) phones.new numbers.new ≡ delivered (listed_or (phones_for (words_of list.now)) name.now (answered (plain_words (classes_of image.now) (entries_of image.now) name.now (phones_for (words_of list.now))) 0)) phones.old numbers.old }
+    requires { (is_list list.now ≡ true) × SoundName name.now }
+    ensures { saying (told_of result) phones.new numbers.new ≡ delivered (listed_or (phones_for (words_of list.now)) name.now (answered (plain_words (classes_of rules.entry.bytes.now) (entries_of rules.entry.bytes.now) name.now (phones_for (words_of list.now))) 0)) phones.old numbers.old }
 {
     let found = speech::say_listed(list, name, &mut *phones);
     match found {
         Some(said) => said,
-        None => read_sound(image, list, name, phones, numbers),
+        None => read_sound(rules, list, name, phones, numbers),
     }
 }
 
-// The plain reading of a name, for a caller that knows the image to be a ruleset and the list to be one.
+// The plain reading of a name, for a caller that knows the list to be one.
 fn read_known(
-    image: &[u8],
+    rules: Ruleset<'_>,
     list: &[u32],
     name: &[u8],
     phones: &mut [u8],
     numbers: &mut [u16],
 ) -> Result<Spoken, Refusal>
-    requires { (valid image.now ≡ true) × (is_list list.now ≡ true) }
-    ensures { saying (told_of result) phones.new numbers.new ≡ plain_said image.now (listing_of list.now) name.now phones.old numbers.old }
+    requires { is_list list.now ≡ true }
+    ensures { saying (told_of result) phones.new numbers.new ≡ plain_said rules.entry.bytes.now (listing_of list.now) name.now phones.old numbers.old }
 {
     rules::judge_name(name)?;
-    read_listed(image, list, name, phones, numbers)
+    read_listed(rules, list, name, phones, numbers)
 }
 
 // The plain reading of a name: its phones, from the list or by the rules, and the numbers of the rules applied, in lent memory.
@@ -162,11 +163,11 @@ pub fn read_name(
 ) -> Result<Spoken, Refusal>
     ensures { saying (told_of result) phones.new numbers.new ≡ plain_said image.now (listing_of list.now) name.now phones.old numbers.old }
 {
-    if !image::is_ruleset(image) {
+    let Some(rules) = Ruleset::judge(image) else {
         return Err(Refusal::NotRuleset(0));
-    }
+    };
     if !exceptions::is_list(list) {
         return Err(Refusal::BadList(0));
     }
-    read_known(image, list, name, phones, numbers)
+    read_known(rules, list, name, phones, numbers)
 }

@@ -6,6 +6,7 @@ ghost use Rattle.std.specs.Prelude.{◌≡◌, true, ◌<◌, ◌≤◌, length,
 ghost use Rattle.image.specs.Image.{valid};
 
 use file_format::MAX_INPUT;
+use image::ruleset::Ruleset;
 use rules::Refusal;
 use std::io;
 use std::rt::Files;
@@ -20,17 +21,17 @@ fn print_refusal(rt: &impl Print, x: Refusal) {
 // The answer to the line at a place is printed. Where the next line starts.
 fn say_line<'a>(
     rt: &impl Print,
-    image: &[u8],
+    rules: Ruleset<'_>,
     words: &'a [u16],
     sets: &'a [u64],
     text: &[u8],
     at: usize,
 ) -> io::Result<usize>
-    requires { (valid image.now ≡ true) × (at < length text.now) }
+    requires { at < length text.now }
     ensures { IfOk result (λ next. at < next) }
 {
     let mut out = [0u8; answer_lines::LONGEST_LINE];
-    let answered = transcript::answer_name(image, words, sets, text, at, &mut out);
+    let answered = transcript::answer_name(rules, words, sets, text, at, &mut out);
     rt.write_all(&out[..answered.len])?;
     Ok(answered.next)
 }
@@ -38,16 +39,14 @@ fn say_line<'a>(
 // Each line in turn, until no more can be printed.
 fn say_lines<'a>(
     rt: &impl Print,
-    image: &[u8],
+    rules: Ruleset<'_>,
     words: &'a [u16],
     sets: &'a [u64],
     text: &[u8],
-) -> io::Result<()>
-    requires { valid image.now ≡ true }
-{
+) -> io::Result<()> {
     let mut at = 0;
     while at < text.len() {
-        at = say_line(rt, image, words, sets, text, at)?;
+        at = say_line(rt, rules, words, sets, text, at)?;
     }
     Ok(())
 }
@@ -81,15 +80,13 @@ fn load(
 fn say_all<'a>(
     rt: &(impl Input + Print),
     buf: &mut [u8],
-    image: &[u8],
+    rules: Ruleset<'_>,
     words: &'a [u16],
     sets: &'a [u64],
-) -> Result<(), Refusal>
-    requires { valid image.now ≡ true }
-{
+) -> Result<(), Refusal> {
     let n = rules_hex::read_full(&mut rt.reader(), &mut *buf);
     // What cannot be printed is lost.
-    let _ = say_lines(rt, image, words, sets, whole(buf, n)?);
+    let _ = say_lines(rt, rules, words, sets, whole(buf, n)?);
     Ok(())
 }
 
@@ -102,7 +99,7 @@ fn run<'a>(
     sets: &'a mut [u64],
 ) -> Result<(), Refusal> {
     load(rt, &mut *buf, &mut *image, &mut *words, &mut *sets)?;
-    say_all(rt, buf, image, words, sets)
+    say_all(rt, buf, Ruleset { bytes: image }, words, sets)
 }
 
 fn main(rt: HostRuntime) {

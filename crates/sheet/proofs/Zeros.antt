@@ -1,48 +1,49 @@
 -- Memory that is all zero: the test of it, clearing it, and that it is then as it was.
 -- Assumes nothing.
-use mathlib.Core.Path.{◌≡◌, refl, sym, ap, ◌∙◌}
+use mathlib.Core.Path.{◌≡◌, refl, sym, ap, ap₂, ◌∙◌}
 use Prim.Native.Nat.{ℕ, zero, suc, ◌+◌, ◌≤◌, ◌<◌}
 use native.Mathlib.Omega.{arith}
 use native.Mathlib.Numerals.{add-one}
-use mathlib.Core.Bool.{Bool, true, false, ◌&&◌, and-false, and-true}
+use mathlib.Core.Bool.{Bool, true, false, not, ◌&&◌, and-false, and-true, and_assoc}
 use mathlib.Core.List.{List, [], ◌∷◌}
 use lib.Dec.{leb, eqb, eqb→eq}
 use lib.ListN.{length, get_or, take, drop, replicate}
 use lib.Seq.{drop-cons, ext_get_or, drop-length}
 use Rattle.std.proofs.lemmas.List.{get_or-replicate, length-replicate}
-use borrow.Author.Tests.{le-leb, lt-leb, ne_eqb, eq-eqb, leb-true}
+use borrow.Author.Tests.{le-leb, lt-leb, leb-true, not-true, not-false}
 use Rattle.rules.proofs.Cases.{and_l, and_r}
 use Rattle.tables.proofs.Truth.{true_eq}
-use Rattle.sheet.specs.Zeros.{all_zero, zeros, AllZero}
+use Rattle.sheet.specs.Zeros.{all_are, first_are, all_zero, zeros, AllZero}
 
 -- ---- the test
 
-pub zeros-short : (n : ℕ) (s : List ℕ) → length s < n → false ≡ zeros n s
-zeros-short n s h = sym (ap (λ (b : Bool). b && all_zero (take n s)) (lt-leb n (length s) h))
+module _ {A : Type 0} (e : A → A → Bool) (z : A) where
+  pub begins-short : (n : ℕ) (s : List A) → length s < n → false ≡ first_are e z n s
+  begins-short n s h = sym (ap (λ (b : Bool). b && all_are e z (take n s)) (lt-leb n (length s) h))
 
--- what was seen of u and the rest decide the whole
-abbrev pub Zeroing : List ℕ → ℕ → Bool → Type 0
-Zeroing u i so_far = all_zero u ≡ (so_far && all_zero (drop i u))
+  pub begins-as : (n : ℕ) (s : List A) → n ≤ length s → first_are e z n s ≡ all_are e z (take n s)
+  begins-as n s room = ap (λ (b : Bool). b && all_are e z (take n s)) (le-leb n (length s) room)
 
-module _ (u : List ℕ) (i : ℕ) (b : Bool) (z : Zeroing u i b) where
-  split : i < length u → all_zero (drop i u) ≡ (eqb (get_or u i 0) 0 && all_zero (drop (suc i) u))
-  split h = ap all_zero (drop-cons u i 0 h)
+  -- what was seen of u and the rest decide the whole
+  abbrev pub Seen : List A → ℕ → Bool → Type 0
+  Seen u i so_far = all_are e z u ≡ (so_far && all_are e z (drop i u))
 
-  pub zeroing-not : i < length u → (get_or u i 0 ≡ 0 → ⊥) → (c : Bool) → c ≡ false → Zeroing u (i + 1) c
-  zeroing-not h d c e =
-      z ∙ (ap (λ (x : Bool). b && x) (split h ∙ ap (λ (x : Bool). x && all_zero (drop (suc i) u)) (ne_eqb (get_or u i 0) 0 d))
-      ∙ (and-false b ∙ sym (ap (λ (x : Bool). x && all_zero (drop (i + 1) u)) e)))
+  module _ (u : List A) (i : ℕ) (b : Bool) (seen : Seen u i b) where
+    -- the next element, x
+    seen-next : i < length u → (x : A) → x ≡ get_or u i x → (t : Bool) → e x z ≡ t → (c : Bool) → c ≡ (b && t) → Seen u (i + 1) c
+    seen-next h x is t te c ce =
+        seen
+        ∙ (ap (λ (y : Bool). b && y) (ap (all_are e z) (drop-cons u i x h) ∙ ap₂ (λ (y : Bool) (k : ℕ). y && all_are e z (drop k u)) (ap (λ (y : A). e y z) (sym is) ∙ te) (sym (add-one i)))
+        ∙ (sym (and_assoc b t (all_are e z (drop (i + 1) u))) ∙ ap (λ (y : Bool). y && all_are e z (drop (i + 1) u)) (sym ce)))
 
-  pub zeroing-next : i < length u → get_or u i 0 ≡ 0 → (c : Bool) → c ≡ b → Zeroing u (i + 1) c
-  zeroing-next h e c q =
-      z ∙ (ap (λ (x : Bool). b && x) (split h ∙ (ap (λ (x : Bool). x && all_zero (drop (suc i) u)) (eq-eqb (get_or u i 0) 0 e) ∙ ap (λ (k : ℕ). all_zero (drop k u)) (sym (add-one i))))
-      ∙ ap (λ (x : Bool). x && all_zero (drop (i + 1) u)) (sym q))
+    pub seen-other : i < length u → (x : A) → x ≡ get_or u i x → true ≡ not (e x z) → (c : Bool) → c ≡ false → Seen u (i + 1) c
+    seen-other h x is q c ce = seen-next h x is false (not-true (e x z) (sym q)) c (ce ∙ sym (and-false b))
 
-  pub zeroing-end : i ≡ length u → b ≡ all_zero u
-  zeroing-end e = sym (z ∙ (ap (λ (x : Bool). b && x) (ap (λ (k : ℕ). all_zero (drop k u)) e ∙ ap all_zero (drop-length u)) ∙ and-true b))
+    pub seen-same : i < length u → (x : A) → x ≡ get_or u i x → false ≡ not (e x z) → (c : Bool) → c ≡ b → Seen u (i + 1) c
+    seen-same h x is q c ce = seen-next h x is true (not-false (e x z) (sym q)) c (ce ∙ sym (and-true b))
 
-pub zeros-of : (n : ℕ) (s : List ℕ) → n ≤ length s → zeros n s ≡ all_zero (take n s)
-zeros-of n s room = ap (λ (b : Bool). b && all_zero (take n s)) (le-leb n (length s) room)
+    pub seen-all : i ≡ length u → b ≡ all_are e z u
+    seen-all h = sym (seen ∙ (ap (λ (x : Bool). b && x) (ap (λ (k : ℕ). all_are e z (drop k u)) h ∙ ap (all_are e z) (drop-length u)) ∙ and-true b))
 
 -- ---- what it tells
 

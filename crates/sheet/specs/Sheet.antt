@@ -1,13 +1,11 @@
 -- A whole transect in one go: document 02, request 8. What a call that answers a sheet gives: whether it is refused, the one count, how many names were
 -- answered, their replies, and the lent phones and numbers after it.
 -- Assumes nothing.
-use Rattle.std.specs.Prelude.{ℕ, ◌+◌, ◌*◌, ◌≤◌, ◌≡◌, true, cond, List, leb, eqb, length}
+use Rattle.std.specs.Prelude.{ℕ, ◌+◌, ◌*◌, ◌≤◌, ◌≡◌, true, cond, List, leb, length}
 use Rattle.std.proofs.Math.Option.{none, some}
 use Rattle.rules.specs.Memory.{over}
 use Rattle.rules.specs.Limits.{max_names}
 use Rattle.rules.specs.Refusals.{Reply, accepted, declined, reply_of}
-use Rattle.rules.specs.declared.Refusal.{Refusal}
-use Rattle.rules.specs.declared.Refusal.TheVariants.{BadTables, StaleTables}
 use Rattle.exceptions.specs.Judging.{Listing, is_list, listing_of, says_of}
 use Rattle.image.specs.Image.{valid, edits_of, literals_of}
 use Rattle.fitting.specs.Fitting.{Str}
@@ -60,10 +58,6 @@ or_else (declined n p) x replies phones numbers = refused_sheet n p replies phon
 -- the first 16 or 22 that a name alone would get refuses the sheet
 abbrev pub judged_sheet : Compiled → (Str → Outcome) → (Str → Str) → List Str → List ℕ → List ℕ → List ℕ → SheetSaid
 judged_sheet c f m names replies phones numbers = or_else (first_refusal f names) (answered_sheet c f m names replies phones numbers) replies phones numbers
-
--- that refusal, from its number
-abbrev pub tables_refusal : ℕ → Refusal
-tables_refusal n = cond (eqb n 22) (StaleTables 0) (BadTables 0)
 
 -- what a name comes to alone, before the lent memory is looked at
 abbrev pub alone : Compiled → List ℕ → Listing → Str → Outcome

@@ -8,12 +8,12 @@ ghost use Rattle.rules.specs.Limits.{max_names};
 ghost use Rattle.exceptions.specs.Judging.{is_list, listing_of};
 ghost use Rattle.image.specs.Image.{valid, edits_of};
 ghost use Rattle.tables.specs.Words.{compiled_from};
-ghost use Rattle.walk.specs.Walked.{FitsAs, compiled_with};
+ghost use Rattle.walk.specs.Walked.{FitsAs, compiled_in};
 ghost use Rattle.many_names.specs.Names.{names_in};
 ghost use Rattle.sheet.specs.Zeros.{AllZero};
-ghost use Rattle.sheet.specs.Sheet.{sheet_said, tables_refusal, Ready, names_through, with_memory, spoken_sheet};
+ghost use Rattle.sheet.specs.Sheet.{sheet_said, Ready, names_through, with_memory, spoken_sheet};
 
-use compiled::Compiled;
+use passes::Compiled;
 use rules::Refusal;
 
 // The answer to a sheet, the one count of entries looked up, and how many names were answered.
@@ -38,23 +38,10 @@ fn refused(x: Refusal) -> SheetAnswer
 
 // ---- the names
 
-// 16 or 22, which a name alone would get.
-fn tables_refusal(number: u8) -> Refusal
-    ensures { result ≡ tables_refusal number }
-{
-    if number == 22 {
-        return Refusal::StaleTables(0);
-    }
-    Refusal::BadTables(0)
-}
-
 // The names of a sheet are judged, then answered, by tables of which the lengths and the edit count were looked at. The memory of the passes is made once for
 // all names.
-fn answer_fit<'a>(
-    words: &'a [u16],
-    sets: &'a [u64],
-    left_states: usize,
-    right_states: usize,
+fn answer_fit(
+    compiled: &Compiled<'_>,
     fit: bool,
     stale: bool,
     image: &[u8],
@@ -67,19 +54,16 @@ fn answer_fit<'a>(
     tree: &mut [u16],
     kept: &mut [u32],
 ) -> SheetAnswer
-    requires { FitsAs words.now sets.now left_states right_states (edits_of image.now) fit stale × Ready image.now list.now sheet.now limit replies.old tree.old kept.old }
-    ensures { sheet_said result replies.new phones.new numbers.new ≡ names_through (compiled_with words.now sets.now left_states right_states) image.now list.now sheet.now limit replies.old phones.old numbers.old }
+    requires { FitsAs compiled.now.words.now compiled.now.sets.now compiled.now.left_states compiled.now.right_states (edits_of image.now) fit stale × Ready image.now list.now sheet.now limit replies.old tree.old kept.old }
+    ensures { sheet_said result replies.new phones.new numbers.new ≡ names_through (compiled_in compiled.now) image.now list.now sheet.now limit replies.old phones.old numbers.old }
 {
     let mut ends = [0u32; rules::MAX_NAMES];
     let mut starts = [0u32; rules::MAX_NAMES];
     let mut found = [0u16; reading::MAX_FRAME];
     let mut left = [0u16; reading::MAX_FRAME];
     let mut right = [0u16; reading::MAX_FRAME];
-    let p = sheet_judging::judge_sheet(
-        words,
-        sets,
-        left_states,
-        right_states,
+    let judged = sheet_judging::judge_sheet(
+        compiled,
         fit,
         stale,
         image,
@@ -94,9 +78,10 @@ fn answer_fit<'a>(
         &mut left,
         &mut right,
     );
-    if p.refusal != 0 {
-        return refused(tables_refusal(p.refusal));
-    }
+    let p = match judged {
+        Ok(p) => p,
+        Err(x) => return refused(x),
+    };
     let names = sheet_answers::answer_sheet(
         image, list, sheet, limit, &ends, &starts, kept, phones, numbers, replies,
     );
@@ -108,11 +93,8 @@ fn answer_fit<'a>(
 }
 
 // The tables are judged once for the whole sheet.
-fn answer_tables<'a>(
-    words: &'a [u16],
-    sets: &'a [u64],
-    left_states: usize,
-    right_states: usize,
+fn answer_tables(
+    compiled: &Compiled<'_>,
     image: &[u8],
     list: &[u32],
     sheet: &[u8],
@@ -124,66 +106,19 @@ fn answer_tables<'a>(
     kept: &mut [u32],
 ) -> SheetAnswer
     requires { Ready image.now list.now sheet.now limit replies.old tree.old kept.old }
-    ensures { sheet_said result replies.new phones.new numbers.new ≡ names_through (compiled_with words.now sets.now left_states right_states) image.now list.now sheet.now limit replies.old phones.old numbers.old }
+    ensures { sheet_said result replies.new phones.new numbers.new ≡ names_through (compiled_in compiled.now) image.now list.now sheet.now limit replies.old phones.old numbers.old }
 {
-    let long = walk::lengths_fit(words, sets, left_states, right_states);
-    let stale = walk::other_count(words, long, image::edit_count(image));
+    let long = walk::lengths_fit(compiled);
+    let stale = walk::other_count(compiled.words, long, image::edit_count(image));
     let fit = walk::can_pass(long, stale);
     answer_fit(
-        words,
-        sets,
-        left_states,
-        right_states,
-        fit,
-        stale,
-        image,
-        list,
-        sheet,
-        limit,
-        phones,
-        numbers,
-        replies,
-        tree,
-        kept,
+        compiled, fit, stale, image, list, sheet, limit, phones, numbers, replies, tree, kept,
     )
 }
 
 // ---- the compiled ruleset
 
-// The thin entry: the names of a sheet are sent through a compiled ruleset, which is taken apart for the covered functions.
-fn speak<'a>(
-    compiled: Compiled<'a>,
-    image: &[u8],
-    list: &[u32],
-    sheet: &[u8],
-    limit: usize,
-    phones: &mut [u8],
-    numbers: &mut [u16],
-    replies: &mut [usize],
-    tree: &mut [u16],
-    kept: &mut [u32],
-) -> SheetAnswer
-    requires { Ready image.now list.now sheet.now limit replies.old tree.old kept.old }
-    ensures { sheet_said result replies.new phones.new numbers.new ≡ names_through (compiled_with compiled.entry.words.now compiled.entry.sets.now compiled.entry.left_states compiled.entry.right_states) image.now list.now sheet.now limit replies.old phones.old numbers.old }
-{
-    answer_tables(
-        compiled.words,
-        compiled.sets,
-        compiled.left_states,
-        compiled.right_states,
-        image,
-        list,
-        sheet,
-        limit,
-        phones,
-        numbers,
-        replies,
-        tree,
-        kept,
-    )
-}
-
-// Plain parameters only: the words are compiled once, and all names are sent through.
+// The words are compiled once, and all names are sent through.
 fn speak_words<'a>(
     words: &'a [u16],
     sets: &'a [u64],
@@ -201,8 +136,8 @@ fn speak_words<'a>(
     ensures { sheet_said result replies.new phones.new numbers.new ≡ names_through (compiled_from words.now sets.now) image.now list.now sheet.now limit replies.old phones.old numbers.old }
 {
     let compiled = compiled::compile(words, sets);
-    speak(
-        compiled, image, list, sheet, limit, phones, numbers, replies, tree, kept,
+    answer_tables(
+        &compiled, image, list, sheet, limit, phones, numbers, replies, tree, kept,
     )
 }
 
@@ -258,11 +193,11 @@ fn speak_sound<'a>(
 {
     let room = memory::work_room(sheet);
     let nodes = prefix_tree::NODE * (room + 1);
-    if !memory::zero_words(tree, nodes) {
+    if !memory::first_are(tree, nodes, 0) {
         return refused(Refusal::WordsRoom(nodes));
     }
     let parts = room + reading::MAX_FRAME;
-    if !memory::zero_parts(kept, parts) {
+    if !memory::first_are(kept, parts, 0) {
         return refused(Refusal::SetsRoom(parts));
     }
     let size = many_names::REPLY * limit;

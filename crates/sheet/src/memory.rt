@@ -1,7 +1,7 @@
 // Memory to work in, which is zero before and after a call: how much of it a sheet needs, and whether that is zero.
 ghost use Rattle.std.specs.Prelude.{◌≡◌};
 ghost use Rattle.sheet_judging.specs.Sheet.{work_room};
-ghost use Rattle.sheet.specs.Zeros.{zeros};
+ghost use Rattle.sheet.specs.Zeros.{first_are};
 
 // Bytes of a sheet for which nodes and parts are needed.
 pub fn work_room(sheet: &[u8]) -> usize
@@ -14,33 +14,18 @@ pub fn work_room(sheet: &[u8]) -> usize
     sheet.len()
 }
 
-// Whether the first n words are there and are 0. All are looked at, which is faster than to stop at the first that is not.
-pub fn zero_words(s: &[u16], n: usize) -> bool
-    ensures { result ≡ zeros n s.now }
+// Whether the first n elements are there and are `zero`. All are looked at, which is faster than to stop at the first that is not.
+pub fn first_are<T: Copy + PartialEq>(s: &[T], n: usize, zero: T) -> bool
+    ensures { result ≡ first_are T.eq zero n s.now }
 {
     if s.len() < n {
         return false;
     }
-    let mut zero = true;
+    let mut all = true;
     for &x in &s[..n] {
-        if x != 0 {
-            zero = false;
+        if x != zero {
+            all = false;
         }
     }
-    zero
-}
-
-pub fn zero_parts(s: &[u32], n: usize) -> bool
-    ensures { result ≡ zeros n s.now }
-{
-    if s.len() < n {
-        return false;
-    }
-    let mut zero = true;
-    for &x in &s[..n] {
-        if x != 0 {
-            zero = false;
-        }
-    }
-    zero
+    all
 }

@@ -50,7 +50,7 @@ fn answer_name(
     if end == 0 {
         return answer_unsent(list, name, phones);
     }
-    let ended = numbers::wide32(end);
+    let ended = end as usize;
     if ended < sheet_name::UNCOVERED {
         return speech::deliver(image, list, parts, phones, numbers);
     }
@@ -75,10 +75,10 @@ fn answer_next(
 {
     let at = p.at;
     let start = at + 1;
-    let end = start + numbers::wide(sheet[at]);
+    let end = start + usize::from(sheet[at]);
     let i = p.count;
     let ended = ends[i];
-    let first = numbers::wide32(starts[i]);
+    let first = starts[i] as usize;
     let last = first + sheet_name::parts_in(ended);
     let from = p.phones;
     let to = p.numbers;

@@ -7,10 +7,12 @@ use native.Mathlib.Decide.{dec_le}
 use mathlib.Core.Bool.{Bool, true, false}
 use mathlib.Core.List.{List, [], ◌∷◌, ◌++◌, append-nil, append_assoc}
 use lib.Dec.{leb}
-use lib.ListN.{length, get_or, take, drop, length-set, length-drop}
+use lib.ListN.{length, get_or, take, drop, length-drop}
 use lib.Seq.{get_or-set_same, get_or-set_other, get_or-drop, drop-drop, length-take-le}
 use Rattle.rules.specs.Limits.{max_name, max_names}
-use Rattle.rules.specs.Refusals.{Reply, unless}
+use Rattle.std.specs.Prelude.{Result, Ok, Err, IfErr}
+use Rattle.rules.specs.Refusals.{Reply, unless, reply_of}
+use Rattle.rules.specs.declared.Refusal.{Refusal}
 use Rattle.rules.proofs.Cases.{by_bool}
 use Rattle.rule_bytes.proofs.Parts.{part_same}
 use Rattle.exceptions.specs.Judging.{says_of}
@@ -31,10 +33,10 @@ use Rattle.sheet_passes.specs.Passing.{HoldsSome}
 use Rattle.sheet_passes.proofs.InTurn.{hashed_append, rights_append}
 use Rattle.many_names.specs.Names.{names_in, name_at, has_next}
 use Rattle.many_names.proofs.Names as N
-use Rattle.sheet_name.specs.Judging.{outcome_of, parts_in, room_of, table_words, Kept}
+use Rattle.sheet_name.specs.Judging.{outcome_of, sheet_refusal, parts_in, room_of, table_words, Kept}
 use Rattle.sheet_name.proofs.Settling.{room_most}
 use Rattle.sheet_judging.specs.Sheet.{sheet_words, first_refusal, work_room}
-use Rattle.sheet_judging.specs.Kept.{parts_of, Root, NextJudged, SheetJudged}
+use Rattle.sheet_judging.specs.Kept.{parts_of, Root, NameTaken, NextJudged, SheetJudged}
 use Rattle.sheet_judging.specs.declared.Judging.{Judging}
 
 -- ---- the tree before the first word
@@ -83,7 +85,6 @@ module _ (words sets : List ℕ) (l r : ℕ) (fit : Bool) (image list sheet : Li
   out = outcome_of words sets l r image list
 
   pub record JudgedTo (t₀ ends₀ starts₀ kept₀ t ends starts kept : List ℕ) (p : Judging) : Type 0 where
-    pub fine : p.refusal ≡ 0
     pub sized : length t ≡ length t₀
     pub ends-sized : length ends ≡ length ends₀
     pub starts-sized : length starts ≡ length starts₀
@@ -111,12 +112,11 @@ module _ (words sets : List ℕ) (l r : ℕ) (fit : Bool) (image list sheet : Li
     pub held : (j : ℕ) → j < p.count → Kept image list (get_or names j []) (get_or ends j 0) (parts_of ends starts kept j) (out (get_or names j []))
 
   pub judged-begin : (t ends starts kept : List ℕ) → Root t → (fit ≡ true → 0 < l) → node_size ≤ length t
-      → JudgedTo t ends starts kept t ends starts kept (record { at = 0; count = 0; kept = 0; nodes = 1; steps = 0; refusal = 0 })
+      → JudgedTo t ends starts kept t ends starts kept (record { at = 0; count = 0; kept = 0; nodes = 1; steps = 0 })
   judged-begin t ends starts kept pl h room =
       let z : k ≡ k - 0 = omega arith in
       let e : names ≡ names_in (k - 0) sheet = ap (λ (j : ℕ). names_in j sheet) z in
       record {
-        fine = refl;
         sized = refl;
         ends-sized = refl;
         starts-sized = refl;
@@ -194,7 +194,27 @@ module _ {words sets : List ℕ} {l r : ℕ} {fit : Bool} {image list sheet : Li
           omega (arith, kept_within a, g.kept-sized),
         )
 
-    module _ (t' ends' starts' kept' : List ℕ) (p' : Judging) (x : NextJudged words sets l r fit image list sheet t ends starts kept p t' ends' starts' kept' p') where
+    module _ {t' ends' starts' kept' : List ℕ} {y : Result Judging Refusal} (x : NextJudged words sets l r fit image list sheet t ends starts kept p t' ends' starts' kept' y) where
+      pub lengths-kept : (length t' ≡ length t₀) × (length ends' ≡ length ends₀) × (length starts' ≡ length starts₀) × (length kept' ≡ length kept₀)
+      lengths-kept = (x.sized ∙ g.sized, x.ends-sized ∙ g.ends-sized, x.starts-sized ∙ g.starts-sized, x.kept-sized ∙ g.kept-sized)
+
+      pub judged-bad : (e : Refusal) → y ≡ Err e → SheetJudged words sets l r fit image list sheet k t₀ ends₀ starts₀ kept₀ t' ends' starts' kept' (Err e)
+      judged-bad e is =
+          let bad = subst (λ (z : Result Judging Refusal). IfErr z (λ e. sheet_refusal (f name) ≡ reply_of (Err e))) is x.refused in
+          let here = N.names-next sheet p.at p.count k h in
+          record {
+            sized = lengths-kept.0;
+            ends-sized = lengths-kept.1;
+            starts-sized = lengths-kept.2;
+            kept-sized = lengths-kept.3;
+            goes = tt;
+            refused = g.rest ∙ (ap (first_refusal f) here ∙ ap (λ (y : Reply). unless y (first_refusal f (names_in (k - (p.count + 1)) (drop (p.at + 1 + n) sheet)))) bad);
+          }
+
+    module _ {t' ends' starts' kept' : List ℕ} {p' : Judging} (sizes : NextJudged words sets l r fit image list sheet t ends starts kept p t' ends' starts' kept' (Ok p')) where
+      abbrev x : NameTaken words sets l r fit image list sheet t ends starts kept p t' ends' starts' kept' p'
+      x = sizes.taken
+
       left_is : after p ≡ name ∷ after p'
       left_is = N.names-next sheet p.at p.count k h ∙ ap₂ (λ (i j : ℕ). name ∷ names_in (k - i) (drop j sheet)) (sym x.count_next) (sym x.at_next)
 
@@ -205,28 +225,6 @@ module _ {words sets : List ℕ} {l r : ℕ} {fit : Bool} {image list sheet : Li
       name_is =
           let z : p.count ≡ p.count + 0 = omega arith in
           ap (λ (i : ℕ). get_or all i []) z ∙ (sym (get_or-drop p.count all 0 []) ∙ ap (λ (ns : List Str). get_or ns 0 []) over_is)
-
-      pub lengths-kept : (length t' ≡ length t₀) × (length ends' ≡ length ends₀) × (length starts' ≡ length starts₀) × (length kept' ≡ length kept₀)
-      lengths-kept = (
-        x.judged.sized ∙ g.sized,
-        ap length x.ends_now ∙ (length-set ends p.count x.end ∙ g.ends-sized),
-        ap length x.starts-now ∙ (length-set starts p.count p.kept ∙ g.starts-sized),
-        x.kept-sized ∙ g.kept-sized,
-      )
-
-      pub judged-bad : 0 < p'.refusal → SheetJudged words sets l r fit image list sheet k t₀ ends₀ starts₀ kept₀ t' ends' starts' kept' p'
-      judged-bad u =
-          record {
-            sized = lengths-kept.0;
-            ends-sized = lengths-kept.1;
-            starts-sized = lengths-kept.2;
-            kept-sized = lengths-kept.3;
-            refused = λ _. g.rest ∙ (ap (first_refusal f) left_is ∙ ap (λ (y : Reply). unless y (first_refusal f (after p'))) (x.judged.refused u));
-            goes = λ z. absurd (omega arith);
-            steps-are = λ z. absurd (omega arith);
-            placed = λ z. absurd (omega arith);
-            held = λ z. absurd (omega arith);
-          }
 
       -- a name before it: how its reading ended, where its parts begin, and its parts
       module _ (i : ℕ) (b : i < p.count) where
@@ -254,48 +252,47 @@ module _ {words sets : List ℕ} {l r : ℕ} {fit : Bool} {image list sheet : Li
             let e : p.count ≡ i = omega (arith, x.count_next) in
             subst (λ (q : ℕ). get_or starts' q 0 + parts_in (get_or ends' q 0) ≤ p'.kept) e (omega (arith, start_here, ap parts_in end_here, x.kept_next))
 
-        module _ (u : p'.refusal ≡ 0) where
-          held_next : (i : ℕ) → i < p'.count → Dec (i < p.count) → Kept image list (get_or all i []) (get_or ends' i 0) (parts_of ends' starts' kept' i) (f (get_or all i []))
-          held_next i b (yes y) =
-              subst₂ (λ (e : ℕ) (z : List ℕ). Kept image list (get_or all i []) e z (f (get_or all i []))) (sym (end_before i y)) (sym (parts_before i y)) (g.held i y)
-          held_next i b (no y) =
-              let e : p.count ≡ i = omega (arith, x.count_next) in
-              subst (λ (q : ℕ). Kept image list (get_or all q []) (get_or ends' q 0) (parts_of ends' starts' kept' q) (f (get_or all q []))) e
-              (subst (λ (w : Str). Kept image list w (get_or ends' p.count 0) (parts_of ends' starts' kept' p.count) (f w)) (sym name_is)
-              (subst₂ (λ (o s : ℕ). Kept image list name o (take (parts_in o) (drop s kept')) (f name)) (sym end_here) (sym start_here) (x.judged.kept u)))
+        held_next : (i : ℕ) → i < p'.count → Dec (i < p.count) → Kept image list (get_or all i []) (get_or ends' i 0) (parts_of ends' starts' kept' i) (f (get_or all i []))
+        held_next i b (yes y) =
+            subst₂ (λ (e : ℕ) (z : List ℕ). Kept image list (get_or all i []) e z (f (get_or all i []))) (sym (end_before i y)) (sym (parts_before i y)) (g.held i y)
+        held_next i b (no y) =
+            let e : p.count ≡ i = omega (arith, x.count_next) in
+            subst (λ (q : ℕ). Kept image list (get_or all q []) (get_or ends' q 0) (parts_of ends' starts' kept' q) (f (get_or all q []))) e
+            (subst (λ (w : Str). Kept image list w (get_or ends' p.count 0) (parts_of ends' starts' kept' p.count) (f w)) (sym name_is)
+            (subst₂ (λ (o s : ℕ). Kept image list name o (take (parts_in o) (drop s kept')) (f name)) (sym end_here) (sym start_here) (x.goes.kept)))
 
-          pub judged-next : JudgedTo words sets l r fit image list sheet k t₀ ends₀ starts₀ kept₀ t' ends' starts' kept' p'
-          judged-next =
-              let j = x.judged in
-              record {
-                fine = u;
-                sized = lengths-kept.0;
-                ends-sized = lengths-kept.1;
-                starts-sized = lengths-kept.2;
-                kept-sized = lengths-kept.3;
-                at_in = omega (arith, x.at_next, whole);
-                count-in = omega (arith, x.count_next, less);
-                left_over = ap (λ (i : ℕ). drop i all) x.count_next ∙ (sym (drop-drop 1 p.count all) ∙ ap (drop 1) over_is);
-                rest = g.rest ∙ (ap (first_refusal f) left_is ∙ ap (λ (y : Reply). unless y (first_refusal f (after p'))) (j.goes u));
-                tree = j.tree u;
-                strings = g.strings ++ hashed (table_words m name);
-                holds = j.holds u g.strings g.holds;
-                same = g.same ∙ (ap (λ (ns : List Str). g.strings ++ hashed (sheet_words m ns)) left_is
-                    ∙ (ap (λ (y : List Str). g.strings ++ y) (hashed_append (table_words m name) (sheet_words m (after p'))) ∙ sym (append_assoc g.strings (hashed (table_words m name)) (hashed (sheet_words m (after p'))))));
-                few = omega (arith, g.few, j.few u, name_room.0, x.at_next);
-                few-each = omega (arith, g.few-each, j.few u, name_room.1, x.count_next);
-                done = g.done + right_steps (table_words m name);
-                done-few = omega (arith, g.done-few, j.short u, name_room.1, x.count_next);
-                rights = omega (arith, g.rights, ap (λ (ns : List Str). right_steps (sheet_words m ns)) left_is ∙ rights_append (table_words m name) (sheet_words m (after p')));
-                steps-are = omega (arith, g.steps-are, j.steps-are u);
-                kept-few = omega (arith, g.kept-few, j.kept-few, name_room.0, x.at_next, x.kept_next);
-                kept-each = omega (arith, g.kept-each, j.kept-few, name_room.1, x.count_next, x.kept_next);
-                placed = λ i b. placed_next i b (dec_le (suc i) p.count);
-                held = λ i b. held_next i b (dec_le (suc i) p.count);
-              }
+        pub judged-next : JudgedTo words sets l r fit image list sheet k t₀ ends₀ starts₀ kept₀ t' ends' starts' kept' p'
+        judged-next =
+            let j = x.goes in
+            let long = lengths-kept sizes in
+            record {
+              sized = long.0;
+              ends-sized = long.1;
+              starts-sized = long.2;
+              kept-sized = long.3;
+              at_in = omega (arith, x.at_next, whole);
+              count-in = omega (arith, x.count_next, less);
+              left_over = ap (λ (i : ℕ). drop i all) x.count_next ∙ (sym (drop-drop 1 p.count all) ∙ ap (drop 1) over_is);
+              rest = g.rest ∙ (ap (first_refusal f) left_is ∙ ap (λ (y : Reply). unless y (first_refusal f (after p'))) (j.goes));
+              tree = j.tree;
+              strings = g.strings ++ hashed (table_words m name);
+              holds = j.holds g.strings g.holds;
+              same = g.same ∙ (ap (λ (ns : List Str). g.strings ++ hashed (sheet_words m ns)) left_is
+                  ∙ (ap (λ (y : List Str). g.strings ++ y) (hashed_append (table_words m name) (sheet_words m (after p'))) ∙ sym (append_assoc g.strings (hashed (table_words m name)) (hashed (sheet_words m (after p'))))));
+              few = omega (arith, g.few, j.few, name_room.0, x.at_next);
+              few-each = omega (arith, g.few-each, j.few, name_room.1, x.count_next);
+              done = g.done + right_steps (table_words m name);
+              done-few = omega (arith, g.done-few, j.short, name_room.1, x.count_next);
+              rights = omega (arith, g.rights, ap (λ (ns : List Str). right_steps (sheet_words m ns)) left_is ∙ rights_append (table_words m name) (sheet_words m (after p')));
+              steps-are = omega (arith, g.steps-are, j.steps-are);
+              kept-few = omega (arith, g.kept-few, j.kept-few, name_room.0, x.at_next, x.kept_next);
+              kept-each = omega (arith, g.kept-each, j.kept-few, name_room.1, x.count_next, x.kept_next);
+              placed = λ i b. placed_next i b (dec_le (suc i) p.count);
+              held = λ i b. held_next i b (dec_le (suc i) p.count);
+            }
 
   pub judged-end : k ≤ max_names → work_room sheet + frame_size ≤ length kept₀ → has_next sheet p.at p.count k ≡ false
-      → SheetJudged words sets l r fit image list sheet k t₀ ends₀ starts₀ kept₀ t ends starts kept p
+      → SheetJudged words sets l r fit image list sheet k t₀ ends₀ starts₀ kept₀ t ends starts kept (Ok p)
   judged-end most room h =
       let none : after p ≡ [] = N.names-end sheet p.at p.count k h in
       let full : g.strings ≡ hashed (sheet_words m all) = sym (g.same ∙ (ap (λ (ns : List Str). g.strings ++ hashed (sheet_words m ns)) none ∙ append-nil g.strings)) in
@@ -307,9 +304,11 @@ module _ {words sets : List ℕ} {l r : ℕ} {fit : Bool} {image list sheet : Li
         ends-sized = g.ends-sized;
         starts-sized = g.starts-sized;
         kept-sized = g.kept-sized;
-        refused = λ u. absurd (omega (arith, g.fine));
-        goes = λ _. g.rest ∙ ap (first_refusal f) none;
-        steps-are = λ _. omega (arith, g.steps-are, g.rights, ap (λ (ns : List Str). right_steps (sheet_words m ns)) none);
-        placed = λ _ i b. omega (arith, kept_within most, g.kept-sized, g.placed i (omega (arith, length-drop p.count all)));
-        held = λ _ i b. g.held i (omega (arith, length-drop p.count all));
+        goes = record {
+          goes = g.rest ∙ ap (first_refusal f) none;
+          steps-are = omega (arith, g.steps-are, g.rights, ap (λ (ns : List Str). right_steps (sheet_words m ns)) none);
+          placed = λ i b. omega (arith, kept_within most, g.kept-sized, g.placed i (omega (arith, length-drop p.count all)));
+          held = λ i b. g.held i (omega (arith, length-drop p.count all));
+        };
+        refused = tt;
       }

@@ -5,13 +5,16 @@ use Prim.Native.Nat.{ℕ, ◌+◌, ◌-◌, ◌≤◌}
 use native.Mathlib.Omega.{arith}
 use mathlib.Core.Bool.{Bool}
 use mathlib.Core.List.{List, ◌++◌}
-use lib.ListN.{length, get_or, take, drop, set}
+use lib.ListN.{length, get_or, take, drop, set, length-set}
 use lib.Seq.{drop_at, take-append-le, length-take-le}
 use borrow.Rule.Slice.PartMut.{mid_of, post_of, put_mid, same_len_mid, mid_len, take_put}
+use Rattle.std.specs.Prelude.{Result, Ok, Err, IfOk, IfErr}
+use Rattle.rules.specs.Refusals.{reply_of}
+use Rattle.rules.specs.declared.Refusal.{Refusal}
 use Rattle.fitting.specs.Fitting.{Str}
 use Rattle.speech.specs.Places.{frame_size}
 use Rattle.many_names.specs.Names.{name_at}
-use Rattle.sheet_name.specs.Judging.{parts_in, room_of, NameJudged}
+use Rattle.sheet_name.specs.Judging.{parts_in, room_of, outcome_of, sheet_refusal, NameGoes, NameJudged}
 use Rattle.sheet_name.proofs.Settling.{room_most}
 use Rattle.sheet_name.specs.declared.Judgement.{Judgement}
 use Rattle.sheet_judging.specs.Kept.{NextJudged}
@@ -32,31 +35,55 @@ name_here sheet at n e =
 pub frame_here : (kept : List ℕ) (at : ℕ) → at + frame_size ≤ length kept → length (mid_of at (at + frame_size - at) kept) ≡ frame_size
 frame_here kept at room = let e : at + frame_size - at ≡ frame_size = omega arith in mid_len at (at + frame_size) kept room ∙ e
 
-module _ {words sets : List ℕ} {l r : ℕ} {fit : Bool} {image list t t' : List ℕ} {n : ℕ} (sheet parts : List ℕ) (p : Judging) (here : n ≡ get_or sheet p.at 0) (x : Judgement)
-    (j : NameJudged words sets l r fit image list (take (p.at + 1 + n - (p.at + 1)) (drop (p.at + 1) sheet)) t p.nodes p.steps t' (take (parts_in x.end) parts) x)
-    (k : ℕ) (is : k ≡ parts_in x.end) where
-  pub parts_few : k ≤ frame_size
-  parts_few =
-      let few : parts_in x.end ≤ room_of (name_at sheet p.at) = subst (λ (v : Str). parts_in x.end ≤ room_of v) (name_here sheet p.at n here) j.kept-few in
-      omega (arith, few, is, (room_most (name_at sheet p.at)).1)
+module _ {words sets : List ℕ} {l r : ℕ} {fit : Bool} {image list t t' : List ℕ} {n : ℕ} (sheet parts : List ℕ) (p : Judging) (here : n ≡ get_or sheet p.at 0)
+    {x : Result Judgement Refusal} (j : NameJudged words sets l r fit image list (take (p.at + 1 + n - (p.at + 1)) (drop (p.at + 1) sheet)) t p.nodes p.steps t' parts x)
+    (kept : List ℕ) (long : length parts ≡ length (mid_of p.kept (p.kept + frame_size - p.kept) kept)) where
+  abbrev kept' : List ℕ
+  kept' = put_mid p.kept (p.kept + frame_size - p.kept) kept parts
 
-  pub next_judged : (ends starts kept : List ℕ) → length parts ≡ length (mid_of p.kept (p.kept + frame_size - p.kept) kept) → p.kept + frame_size ≤ length kept
-      → NextJudged words sets l r fit image list sheet t ends starts kept p t' (set ends p.count x.end) (set starts p.count p.kept)
-      (put_mid p.kept (p.kept + frame_size - p.kept) kept parts)
-      (record { at = p.at + 1 + n; count = p.count + 1; kept = p.kept + k; nodes = x.nodes; steps = x.steps; refusal = x.refusal })
-  next_judged ends starts kept long room =
-      let w : ℕ = p.kept + frame_size - p.kept in
-      let inside : p.kept ≤ length kept = omega arith in
-      let few : parts_in x.end ≤ length parts = omega (arith, parts_few, is, long ∙ frame_here kept p.kept room) in
+  pub next_refused : (ends starts : List ℕ) (e : Refusal) → x ≡ Err e → NextJudged words sets l r fit image list sheet t ends starts kept p t' ends starts kept' (Err e)
+  next_refused ends starts e is =
       record {
-        end = x.end;
-        at_next = ap (λ (y : ℕ). p.at + 1 + y) here;
-        count_next = refl;
-        kept_next = ap (λ (y : ℕ). p.kept + y) is;
-        ends_now = refl;
-        starts-now = refl;
-        kept-sized = same_len_mid p.kept w kept parts long;
-        kept-before = take_put p.kept w kept parts inside;
-        judged = subst₂ (λ (v : Str) (y : List ℕ). NameJudged words sets l r fit image list v t p.nodes p.steps t' y x) (name_here sheet p.at n here)
-            (sym (put_here p.kept w (parts_in x.end) kept parts inside few)) j;
+        sized = j.sized;
+        ends-sized = refl;
+        starts-sized = refl;
+        kept-sized = same_len_mid p.kept (p.kept + frame_size - p.kept) kept parts long;
+        taken = tt;
+        refused = subst (λ (v : Str). sheet_refusal (outcome_of words sets l r image list v) ≡ reply_of (Err e)) (name_here sheet p.at n here)
+            (subst (λ (y : Result Judgement Refusal). IfErr y (λ e. sheet_refusal (outcome_of words sets l r image list (take (p.at + 1 + n - (p.at + 1)) (drop (p.at + 1) sheet))) ≡ reply_of (Err e))) is j.refused);
       }
+
+  module _ (y : Judgement) (is : x ≡ Ok y) (k : ℕ) (many : k ≡ parts_in y.end) where
+    goes : NameGoes words sets l r fit image list (take (p.at + 1 + n - (p.at + 1)) (drop (p.at + 1) sheet)) t p.nodes p.steps t' (take (parts_in y.end) parts) y
+    goes = subst (λ (z : Result Judgement Refusal). IfOk z (λ y. NameGoes words sets l r fit image list (take (p.at + 1 + n - (p.at + 1)) (drop (p.at + 1) sheet)) t p.nodes p.steps t' (take (parts_in y.end) parts) y)) is j.goes
+
+    pub parts_few : k ≤ frame_size
+    parts_few =
+        let few : parts_in y.end ≤ room_of (name_at sheet p.at) = subst (λ (v : Str). parts_in y.end ≤ room_of v) (name_here sheet p.at n here) goes.kept-few in
+        omega (arith, few, many, (room_most (name_at sheet p.at)).1)
+
+    pub next_judged : (ends starts : List ℕ) → p.kept + frame_size ≤ length kept
+        → NextJudged words sets l r fit image list sheet t ends starts kept p t' (set ends p.count y.end) (set starts p.count p.kept) kept'
+        (Ok (record { at = p.at + 1 + n; count = p.count + 1; kept = p.kept + k; nodes = y.nodes; steps = y.steps }))
+    next_judged ends starts room =
+        let w : ℕ = p.kept + frame_size - p.kept in
+        let inside : p.kept ≤ length kept = omega arith in
+        let few : parts_in y.end ≤ length parts = omega (arith, parts_few, many, long ∙ frame_here kept p.kept room) in
+        record {
+          sized = j.sized;
+          ends-sized = length-set ends p.count y.end;
+          starts-sized = length-set starts p.count p.kept;
+          kept-sized = same_len_mid p.kept w kept parts long;
+          taken = record {
+            end = y.end;
+            at_next = ap (λ (y : ℕ). p.at + 1 + y) here;
+            count_next = refl;
+            kept_next = ap (λ (y : ℕ). p.kept + y) many;
+            ends_now = refl;
+            starts-now = refl;
+            kept-before = take_put p.kept w kept parts inside;
+            goes = subst₂ (λ (v : Str) (z : List ℕ). NameGoes words sets l r fit image list v t p.nodes p.steps t' z y) (name_here sheet p.at n here)
+                (sym (put_here p.kept w (parts_in y.end) kept parts inside few)) goes;
+          };
+          refused = tt;
+        }

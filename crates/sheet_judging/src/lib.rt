@@ -15,8 +15,10 @@ ghost use Rattle.sheet_name.specs.Judging.{room_of};
 ghost use Rattle.sheet_judging.specs.Sheet.{work_room};
 ghost use Rattle.sheet_judging.specs.Kept.{Root, NextJudged, SheetJudged};
 
-// How far the judging has come: the place in the sheet, the names judged, the parts kept, the nodes of the tree, the entries looked up, and the refusal of
-// the sheet, or 0.
+use passes::Compiled;
+use rules::Refusal;
+
+// How far the judging has come: the place in the sheet, the names judged, the parts kept, the nodes of the tree, and the entries looked up.
 #[derive(Clone, Copy)]
 pub struct Judging {
     pub at: usize,
@@ -24,15 +26,11 @@ pub struct Judging {
     pub kept: usize,
     pub nodes: usize,
     pub steps: usize,
-    pub refusal: u8,
 }
 
 // The next name is judged into the place after the parts of the names before, where its own are kept.
-fn judge_next<'a>(
-    words: &'a [u16],
-    sets: &'a [u64],
-    left_states: usize,
-    right_states: usize,
+fn judge_next(
+    compiled: &Compiled<'_>,
     fit: bool,
     stale: bool,
     image: &[u8],
@@ -46,21 +44,18 @@ fn judge_next<'a>(
     found: &mut [u16],
     left: &mut [u16],
     right: &mut [u16],
-) -> Judging
-    requires { FitsAs words.now sets.now left_states right_states (edits_of image.now) fit stale × (valid image.now ≡ true) × KnownList list.now × (p.at + 1 + get_or sheet.now p.at 0 ≤ length sheet.now) × HoldsSome fit (left_rows_of words.now left_states) tree.old p.nodes × Room tree.old (p.nodes + room_of (name_at sheet.now p.at)) × (p.steps + 4 * frame_size ≤ max_steps) × (p.count < max_names) × (p.count < length ends.old) × (p.count < length starts.old) × (p.kept ≤ max_nodes) × (p.kept + frame_size ≤ length kept.old) × Sized (memory found.old left.old right.old) }
-    ensures { NextJudged words.now sets.now left_states right_states fit image.now list.now sheet.now tree.old ends.old starts.old kept.old p tree.new ends.new starts.new kept.new result }
+) -> Result<Judging, Refusal>
+    requires { FitsAs compiled.now.words.now compiled.now.sets.now compiled.now.left_states compiled.now.right_states (edits_of image.now) fit stale × (valid image.now ≡ true) × KnownList list.now × (p.at + 1 + get_or sheet.now p.at 0 ≤ length sheet.now) × HoldsSome fit (left_rows_of compiled.now.words.now compiled.now.left_states) tree.old p.nodes × Room tree.old (p.nodes + room_of (name_at sheet.now p.at)) × (p.steps + 4 * frame_size ≤ max_steps) × (p.count < max_names) × (p.count < length ends.old) × (p.count < length starts.old) × (p.kept ≤ max_nodes) × (p.kept + frame_size ≤ length kept.old) × Sized (memory found.old left.old right.old) }
+    ensures { NextJudged compiled.now.words.now compiled.now.sets.now compiled.now.left_states compiled.now.right_states fit image.now list.now sheet.now tree.old ends.old starts.old kept.old p tree.new ends.new starts.new kept.new result }
 {
     let at = p.at;
     let start = at + 1;
-    let end = start + numbers::wide(sheet[at]);
+    let end = start + usize::from(sheet[at]);
     let i = p.count;
     let from = p.kept;
     let to = from + reading::MAX_FRAME;
-    let x = sheet_name::judge_name(
-        words,
-        sets,
-        left_states,
-        right_states,
+    let judged = sheet_name::judge_name(
+        compiled,
         fit,
         stale,
         image,
@@ -74,25 +69,22 @@ fn judge_next<'a>(
         left,
         right,
     );
+    let x = judged?;
     ends[i] = x.end;
     starts[i] = from as u32;
-    Judging {
+    Ok(Judging {
         at: end,
         count: i + 1,
         kept: from + sheet_name::parts_in(x.end),
         nodes: x.nodes,
         steps: x.steps,
-        refusal: x.refusal,
-    }
+    })
 }
 
 // The names of the sheet are judged in turn, up to the first that refuses it. `found`, `left` and `right` are the memory of the passes, whatever it held:
 // each name writes what it reads there.
-pub fn judge_sheet<'a>(
-    words: &'a [u16],
-    sets: &'a [u64],
-    left_states: usize,
-    right_states: usize,
+pub fn judge_sheet(
+    compiled: &Compiled<'_>,
     fit: bool,
     stale: bool,
     image: &[u8],
@@ -106,9 +98,9 @@ pub fn judge_sheet<'a>(
     found: &mut [u16],
     left: &mut [u16],
     right: &mut [u16],
-) -> Judging
-    requires { FitsAs words.now sets.now left_states right_states (edits_of image.now) fit stale × (valid image.now ≡ true) × KnownList list.now × Root tree.old × (node_size * (work_room sheet.now + 1) ≤ length tree.old) × (work_room sheet.now + frame_size ≤ length kept.old) × (limit ≤ max_names) × (limit ≤ length ends.old) × (limit ≤ length starts.old) × Sized (memory found.old left.old right.old) }
-    ensures { SheetJudged words.now sets.now left_states right_states fit image.now list.now sheet.now limit tree.old ends.old starts.old kept.old tree.new ends.new starts.new kept.new result }
+) -> Result<Judging, Refusal>
+    requires { FitsAs compiled.now.words.now compiled.now.sets.now compiled.now.left_states compiled.now.right_states (edits_of image.now) fit stale × (valid image.now ≡ true) × KnownList list.now × Root tree.old × (node_size * (work_room sheet.now + 1) ≤ length tree.old) × (work_room sheet.now + frame_size ≤ length kept.old) × (limit ≤ max_names) × (limit ≤ length ends.old) × (limit ≤ length starts.old) × Sized (memory found.old left.old right.old) }
+    ensures { SheetJudged compiled.now.words.now compiled.now.sets.now compiled.now.left_states compiled.now.right_states fit image.now list.now sheet.now limit tree.old ends.old starts.old kept.old tree.new ends.new starts.new kept.new result }
 {
     let mut p = Judging {
         at: 0,
@@ -116,14 +108,10 @@ pub fn judge_sheet<'a>(
         kept: 0,
         nodes: 1,
         steps: 0,
-        refusal: 0,
     };
     while many_names::has_next(sheet, p.at, p.count, limit) {
         p = judge_next(
-            words,
-            sets,
-            left_states,
-            right_states,
+            compiled,
             fit,
             stale,
             image,
@@ -137,10 +125,7 @@ pub fn judge_sheet<'a>(
             &mut *found,
             &mut *left,
             &mut *right,
-        );
-        if p.refusal != 0 {
-            return p;
-        }
+        )?;
     }
-    p
+    Ok(p)
 }

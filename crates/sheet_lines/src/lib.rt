@@ -43,7 +43,7 @@ fn name_line(
     ensures { PutName replies.now phones.now numbers.now contested result out.old out.new }
 {
     let code = replies[0];
-    if code == numbers::wide(rules::ACCEPTED) {
+    if code == usize::from(rules::ACCEPTED) {
         let p = replies[1];
         let n = replies[2];
         let c = replies[4];
@@ -52,10 +52,10 @@ fn name_line(
             len,
             phones: p,
             numbers: n,
-            contested: numbers::low(c),
+            contested: (c % 256) as u8,
         };
     }
-    let len = lines::refused_line(numbers::low(code), replies[1], out);
+    let len = lines::refused_line((code % 256) as u8, replies[1], out);
     NamePrinted {
         len,
         phones: 0,

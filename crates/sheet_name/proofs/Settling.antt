@@ -14,7 +14,9 @@ use Rattle.rules.specs.Limits.{max_name}
 use Rattle.rules.proofs.Cases.{by_bool}
 use Rattle.rules.proofs.Names.{sound_judged, Judgement as NameJudgement, sound, refuses, judgement}
 use Rattle.rules.specs.Names.{judged_name, SoundName}
-use Rattle.rules.specs.Refusals.{Reply, accepted, declined}
+use Rattle.rules.specs.Refusals.{Reply, accepted, declined, reply_of}
+use Rattle.rules.specs.declared.Refusal.{Refusal}
+use Rattle.rules.specs.declared.Refusal.TheVariants as R
 use Rattle.exceptions.specs.Judging.{says_of}
 use Rattle.fitting.specs.Fitting.{Str}
 use Rattle.speech.specs.Words.{Word, words_in, unlisted}
@@ -92,29 +94,34 @@ module _ (image list parts : List ℕ) where
 
 -- ---- a name that sends no word through the tables
 
-module _ (words sets : List ℕ) (l r : ℕ) (fit : Bool) (image list : List ℕ) (name : Str) (t : List ℕ) (n steps : ℕ) (g : HoldsSome fit (left_rows_of words l) t n) where
+module _ (words sets : List ℕ) (l r : ℕ) (fit : Bool) (image list : List ℕ) (name : Str) (t : List ℕ) (n steps : ℕ) (g : HoldsSome fit (left_rows_of words l) t n) (parts : List ℕ) where
   abbrev o : Outcome
   o = outcome_of words sets l r image list name
 
-  none_sent : (none : table_words (says_of list) name ≡ []) → Unsent list name o → sheet_refusal o ≡ accepted
-      → NameJudged words sets l r fit image list name t n steps t [] (record { refusal = 0; nodes = n; steps = steps; end = 0 })
+  -- the tree and the counts stay
+  abbrev Stays : Type 0
+  Stays = NameJudged words sets l r fit image list name t n steps t parts (Ok (record { nodes = n; steps = steps; end = 0 }))
+
+  none_sent : (none : table_words (says_of list) name ≡ []) → Unsent list name o → sheet_refusal o ≡ accepted → Stays
   none_sent none u a =
       record {
         sized = refl;
-        refused = λ h. absurd (omega arith);
-        goes = λ _. a;
-        kept = λ _. record { sized = refl; unsent = λ _. u; sent = λ h. absurd (omega arith) };
-        kept-few = omega arith;
-        tree = λ _. g.tree;
-        steps-are = λ _. omega (arith, ap right_steps none);
-        few = λ _. omega arith;
-        more = λ _. omega arith;
-        short = λ _. omega (arith, ap right_steps none);
-        holds = λ _ ws h. subst (λ (x : List Str). Holds (left_rows_of words l) x t n) (sym (ap (λ (v : List Word). ws ++ hashed v) none ∙ append-nil ws)) h;
+        goes = record {
+          goes = a;
+          kept = record { sized = refl; unsent = λ _. u; sent = λ h. absurd (omega arith) };
+          kept-few = omega arith;
+          tree = g.tree;
+          steps-are = omega (arith, ap right_steps none);
+          few = omega arith;
+          more = omega arith;
+          short = omega (arith, ap right_steps none);
+          holds = λ ws h. subst (λ (x : List Str). Holds (left_rows_of words l) x t n) (sym (ap (λ (v : List Word). ws ++ hashed v) none ∙ append-nil ws)) h;
+        };
+        refused = tt;
       }
 
   -- refused with k at p, which is 2 or 1
-  pub sent_refused : (k p : ℕ) → judged_name name ≡ declined k p → k ≤ 2 → NameJudged words sets l r fit image list name t n steps t [] (record { refusal = 0; nodes = n; steps = steps; end = 0 })
+  pub sent_refused : (k p : ℕ) → judged_name name ≡ declined k p → k ≤ 2 → Stays
   sent_refused k p e h =
       none_sent (ap (λ (x : Reply). sent_by x (says_of list name) (unlisted (says_of list) (words_in name))) e)
       (λ q. ap (λ (x : Reply). judged_by x (listed_or (says_of list) name (through_of words sets l r image list name))) e ∙ sym (ap (λ (x : Reply). judged_by x (listed_or (says_of list) name q)) e))
@@ -127,10 +134,10 @@ module _ (words sets : List ℕ) (l r : ℕ) (fit : Bool) (image list : List ℕ
       low (suc (suc (suc k))) h = absurd (omega arith)
 
   -- refused at all
-  pub sent-none : (k p : ℕ) → judged_name name ≡ declined k p → NameJudged words sets l r fit image list name t n steps t [] (record { refusal = 0; nodes = n; steps = steps; end = 0 })
+  pub sent-none : (k p : ℕ) → judged_name name ≡ declined k p → Stays
   sent-none k p e = by (judgement name)
     where
-      by : NameJudgement name → NameJudged words sets l r fit image list name t n steps t [] (record { refusal = 0; nodes = n; steps = steps; end = 0 })
+      by : NameJudgement name → Stays
       by (sound s) = absurd (never (sym (sound_judged name s) ∙ e))
         where
           never : accepted ≡ declined k p → ⊥
@@ -138,10 +145,10 @@ module _ (words sets : List ℕ) (l r : ℕ) (fit : Bool) (image list : List ℕ
       by (refuses m q h f) = sent_refused m q f (omega arith)
 
   -- said from the list
-  pub sent-listed : SoundName name → 1 ≤ length (says_of list name) → NameJudged words sets l r fit image list name t n steps t [] (record { refusal = 0; nodes = n; steps = steps; end = 0 })
+  pub sent-listed : SoundName name → 1 ≤ length (says_of list name) → Stays
   sent-listed s h = go (says_of list name) refl h
     where
-      go : (p : Str) → says_of list name ≡ p → 1 ≤ length p → NameJudged words sets l r fit image list name t n steps t [] (record { refusal = 0; nodes = n; steps = steps; end = 0 })
+      go : (p : Str) → says_of list name ≡ p → 1 ≤ length p → Stays
       go [] e u = absurd (omega arith)
       go (y ∷ p) e u =
           none_sent (ap₂ (λ (x : Reply) (v : Str). sent_by x v (unlisted (says_of list) (words_in name))) (sound_judged name s) e)
@@ -164,72 +171,58 @@ module _ {words sets : List ℕ} {l r : ℕ} {fit stale : Bool} {image list : Li
   words_are : table_words (says_of list) name ≡ unlisted (says_of list) (words_in name)
   words_are = ap₂ (λ (y : Reply) (v : Str). sent_by y v (unlisted (says_of list) (words_in name))) (sound_judged name u.sound) u.absent
 
-  abbrev Settles : Judgement → Type 0
-  Settles y = NameJudged words sets l r fit image list name t n steps t' (take (parts_in y.end) parts') y
+  abbrev Settles : Result Judgement Refusal → Type 0
+  Settles = NameJudged words sets l r fit image list name t n steps t' parts'
 
   room : room_of name ≡ length name + 1
   room = room-short name u.sound.short
 
-  bad_name : (y : Judgement) → 0 < y.refusal → y.end ≡ 0 → sheet_refusal (through_of words sets l r image list name) ≡ declined y.refusal 0 → Settles y
-  bad_name y h z e =
-      record {
-        sized = j.sized;
-        refused = λ _. ap sheet_refusal through_is ∙ e;
-        goes = λ z. absurd (omega arith);
-        kept = λ z. absurd (omega arith);
-        kept-few = omega (arith, ap parts_in z);
-        tree = λ z. absurd (omega arith);
-        steps-are = λ z. absurd (omega arith);
-        few = λ z. absurd (omega arith);
-        more = λ z. absurd (omega arith);
-        short = λ z. absurd (omega arith);
-        holds = λ z. absurd (omega arith);
-      }
+  bad_name : (e : Refusal) → sheet_refusal (through_of words sets l r image list name) ≡ reply_of (Err e) → Settles (Err e)
+  bad_name e h = record { sized = j.sized; goes = tt; refused = ap sheet_refusal through_is ∙ h }
 
 module _ {words sets : List ℕ} {l r : ℕ} {fit stale : Bool} {image list : List ℕ} {name : Str} (u : Unsaid list name) {t : List ℕ} {n steps : ℕ} {t' parts' : List ℕ} where
-  unread_name : FrameJudged words sets l r fit stale image list name t n steps t' parts' None → (b : Bool) → stale ≡ b → NameJudged words sets l r fit image list name t n steps t' (take 0 parts') (record { refusal = cond b 22 16; nodes = 0; steps = 0; end = 0 })
-  unread_name j true s = bad_name u j _ (omega arith) refl (ap sheet_refusal (j.refused ∙ ap (λ (b : Bool). at_once (cond b 22 16) 0) s))
-  unread_name j false s = bad_name u j _ (omega arith) refl (ap sheet_refusal (j.refused ∙ ap (λ (b : Bool). at_once (cond b 22 16) 0) s))
+  unread_name : (j : FrameJudged words sets l r fit stale image list name t n steps t' parts' None) → (b : Bool) → stale ≡ b → Settles u j (Err (cond b (R.StaleTables 0) (R.BadTables 0)))
+  unread_name j true s = bad_name u j _ (ap sheet_refusal (j.refused ∙ ap (λ (b : Bool). at_once (cond b 22 16) 0) s))
+  unread_name j false s = bad_name u j _ (ap sheet_refusal (j.refused ∙ ap (λ (b : Bool). at_once (cond b 22 16) 0) s))
 
   module _ (x : Judged) (j : FrameJudged words sets l r fit stale image list name t n steps t' parts' (Some x)) where
-    abbrev Settled : Judgement → Type 0
-    Settled y = NameJudged words sets l r fit image list name t n steps t' (take (parts_in y.end) parts') y
-
-    good_name : (y : Judgement) → y.refusal ≡ 0 → y.nodes ≡ x.counts.nodes → y.steps ≡ x.counts.steps → y.end ≡ code_of x.reached → 0 < y.end → (x.reached ≡ Err BadTables → ⊥) → Settled y
-    good_name y z a b c h d =
+    good_name : (y : Judgement) → y.nodes ≡ x.counts.nodes → y.steps ≡ x.counts.steps → y.end ≡ code_of x.reached → 0 < y.end → (x.reached ≡ Err BadTables → ⊥) → Settles u j (Ok y)
+    good_name y a b c h d =
         let q = j.read in
         let g = j.grown in
         record {
           sized = j.sized;
-          refused = λ k. absurd (omega arith);
-          goes = λ _. ap sheet_refusal (through_is u j ∙ sym q.says) ∙ answered_goes image list parts' q.taken x.reached d;
-          kept = λ _. record {
-            sized = subst (λ (k : ℕ). length (take (parts_in k) parts') ≡ parts_in k) (sym c) (parts_long image list parts' x.reached q.parted);
-            unsent = λ k. absurd (omega arith);
-            sent = λ _. subst (λ (k : ℕ). Sent image list k (take (parts_in k) parts') (outcome_of words sets l r image list name)) (sym c) (sent-by image list parts' q.taken _ x.reached q.parted (q.says ∙ sym (through_is u j)));
+          goes = record {
+            goes = ap sheet_refusal (through_is u j ∙ sym q.says) ∙ answered_goes image list parts' q.taken x.reached d;
+            kept = record {
+              sized = subst (λ (k : ℕ). length (take (parts_in k) parts') ≡ parts_in k) (sym c) (parts_long image list parts' x.reached q.parted);
+              unsent = λ k. absurd (omega arith);
+              sent = λ _. subst (λ (k : ℕ). Sent image list k (take (parts_in k) parts') (outcome_of words sets l r image list name)) (sym c) (sent-by image list parts' q.taken _ x.reached q.parted (q.says ∙ sym (through_is u j)));
+            };
+            kept-few = subst (λ (k : ℕ). parts_in k ≤ room_of name) (sym c) (parts_few (room_of name) x.reached q.parted.few (λ k e. omega (arith, room u j, q.few k e)));
+            tree = λ f. subst (λ (k : ℕ). Tree t' k l) (sym a) (g.tree f);
+            steps-are = omega (arith, a, b, g.steps-are, ap right_steps (words_are u j));
+            few = omega (arith, a, g.few, room u j);
+            more = omega (arith, a, g.more);
+            short = omega (arith, j.short, ap right_steps (words_are u j), room u j);
+            holds = λ ws o. subst (λ (k : ℕ). Holds (left_rows_of words l) (ws ++ hashed (table_words (says_of list) name)) t' k) (sym a)
+                (subst (λ (v : List Word). Holds (left_rows_of words l) (ws ++ hashed v) t' x.counts.nodes) (sym (words_are u j)) (j.shares ws o));
           };
-          kept-few = subst (λ (k : ℕ). parts_in k ≤ room_of name) (sym c) (parts_few (room_of name) x.reached q.parted.few (λ k e. omega (arith, room u j, q.few k e)));
-          tree = λ _ f. subst (λ (k : ℕ). Tree t' k l) (sym a) (g.tree f);
-          steps-are = λ _. omega (arith, a, b, g.steps-are, ap right_steps (words_are u j));
-          few = λ _. omega (arith, a, g.few, room u j);
-          more = λ _. omega (arith, a, g.more);
-          short = λ _. omega (arith, j.short, ap right_steps (words_are u j), room u j);
-          holds = λ _ ws o. subst (λ (k : ℕ). Holds (left_rows_of words l) (ws ++ hashed (table_words (says_of list) name)) t' k) (sym a)
-              (subst (λ (v : List Word). Holds (left_rows_of words l) (ws ++ hashed v) t' x.counts.nodes) (sym (words_are u j)) (j.shares ws o));
+          refused = tt;
         }
 
     bad_read : x.reached ≡ Err BadTables → sheet_refusal (through_of words sets l r image list name) ≡ declined 16 0
     bad_read z = let q = j.read in ap sheet_refusal (sym q.says ∙ ap (λ (y : Result ℕ Unread). answered (parts_reading image list parts' y) q.taken) z)
 
-    read_name : (y : Result ℕ Unread) → x.reached ≡ y → Settled (settled_as y x.counts.nodes x.counts.steps)
-    read_name (Ok k) h = good_name _ refl refl refl (sym (ap code_of h)) (omega arith) (λ z. let f : ◌≡◌ {A = ℕ} (k + 1) 0 = ap code_of (sym h ∙ z) in omega arith)
-    read_name (Err (Uncovered i)) h = good_name _ refl refl refl (sym (ap code_of h)) (omega arith) (λ z. let f : ◌≡◌ {A = ℕ} (i + uncovered_from) 0 = ap code_of (sym h ∙ z) in omega arith)
-    read_name (Err BadTables) h = bad_name u j _ (omega arith) refl (bad_read h)
+    read_name : (y : Result ℕ Unread) → x.reached ≡ y → Settles u j (settled_as y x.counts.nodes x.counts.steps)
+    read_name (Ok k) h = good_name _ refl refl (sym (ap code_of h)) (omega arith) (λ z. let f : ◌≡◌ {A = ℕ} (k + 1) 0 = ap code_of (sym h ∙ z) in omega arith)
+    read_name (Err (Uncovered i)) h = good_name _ refl refl (sym (ap code_of h)) (omega arith) (λ z. let f : ◌≡◌ {A = ℕ} (i + uncovered_from) 0 = ap code_of (sym h ∙ z) in omega arith)
+    read_name (Err BadTables) h = bad_name u j _ (bad_read h)
 
-  pub settled-name : (x : Option Judged) → FrameJudged words sets l r fit stale image list name t n steps t' parts' x → (y : Judgement) → y ≡ settled x stale
-      → NameJudged words sets l r fit image list name t n steps t' (take (parts_in y.end) parts') y
-  settled-name None j y is = subst (λ (y : Judgement). NameJudged words sets l r fit image list name t n steps t' (take (parts_in y.end) parts') y) (sym is) (unread_name j stale refl)
-  settled-name (Some x) j y is = subst (Settled x j) (sym is) (read_name x j x.reached refl)
+  pub settled-name : (x : Option Judged) → FrameJudged words sets l r fit stale image list name t n steps t' parts' x → (y : Result Judgement Refusal) → y ≡ settled x stale
+      → NameJudged words sets l r fit image list name t n steps t' parts' y
+  settled-name None j y is = subst (Settles u j) (sym is) (unread_name j stale refl)
+  settled-name (Some x) j y is = subst (Settles u j) (sym is) (read_name x j x.reached refl)
 
 -- no more parts than positions
 pub few_parts : {words sets : List ℕ} {l r : ℕ} {fit stale : Bool} {image list : List ℕ} {name : Str} {t : List ℕ} {n steps : ℕ} {t' parts' : List ℕ} (x : Option Judged)

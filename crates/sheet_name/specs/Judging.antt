@@ -1,9 +1,11 @@
 -- What is known of one name of a sheet before anything is written: what it comes to, and the tree with its words.
 -- Assumes nothing.
-use Rattle.std.specs.Prelude.{◌≡◌, ℕ, ◌+◌, ◌-◌, ◌≤◌, ◌<◌, Bool, true, cond, ◌||◌, List, [], ◌∷◌, ◌++◌, eqb, ltb, leb, length, Option, Some, None, IfSome, IfNone, OnSome, Err, Ok, Result}
+use Rattle.std.specs.Prelude.{◌≡◌, ℕ, ◌+◌, ◌-◌, ◌≤◌, ◌<◌, Bool, true, cond, ◌||◌, List, [], ◌∷◌, ◌++◌, eqb, ltb, leb, length, take, Option, Some, None, IfSome, IfNone, OnSome, Err, Ok, Result, IfOk, IfErr}
 use Rattle.rules.specs.Limits.{max_name}
 use Rattle.rules.specs.Names.{judged_name}
-use Rattle.rules.specs.Refusals.{Reply, accepted, declined}
+use Rattle.rules.specs.Refusals.{Reply, accepted, declined, reply_of}
+use Rattle.rules.specs.declared.Refusal.{Refusal}
+use Rattle.rules.specs.declared.Refusal.TheVariants as R
 use Rattle.exceptions.specs.Judging.{says_of}
 use Rattle.image.specs.Image.{edits_of, literals_of}
 use Rattle.fitting.specs.Fitting.{Str}
@@ -102,30 +104,35 @@ pub record Kept (image list : List ℕ) (name : Str) (end : ℕ) (parts : List �
 abbrev pub room_of : Str → ℕ
 room_of name = cond (leb (length name) max_name) (length name + 1) 0
 
--- the number of the refusal, or 0, and what is kept
-abbrev pub settled_as : Result ℕ Unread → ℕ → ℕ → Judgement
-settled_as (Ok k) nodes steps = record { refusal = 0; nodes = nodes; steps = steps; end = k + 1 }
-settled_as (Err (Uncovered i)) nodes steps = record { refusal = 0; nodes = nodes; steps = steps; end = i + uncovered_from }
-settled_as (Err BadTables) nodes steps = record { refusal = 16; nodes = 0; steps = 0; end = 0 }
+-- the refusal of the sheet, or how reading ended
+abbrev pub settled_as : Result ℕ Unread → ℕ → ℕ → Result Judgement Refusal
+settled_as (Ok k) nodes steps = Ok (record { nodes = nodes; steps = steps; end = k + 1 })
+settled_as (Err (Uncovered i)) nodes steps = Ok (record { nodes = nodes; steps = steps; end = i + uncovered_from })
+settled_as (Err BadTables) nodes steps = Err (R.BadTables 0)
 
-abbrev pub settled : Option Judged → Bool → Judgement
-settled None stale = record { refusal = cond stale 22 16; nodes = 0; steps = 0; end = 0 }
+abbrev pub settled : Option Judged → Bool → Result Judgement Refusal
+settled None stale = Err (cond stale (R.StaleTables 0) (R.BadTables 0))
 settled (Some x) stale = settled_as x.reached x.counts.nodes x.counts.steps
 
 abbrev pub HoldsMore : List ℕ → ℕ → List ℕ → Str → List ℕ → ℕ → List ℕ → ℕ → Type 0
 HoldsMore words l list name t n t' k =
     (ws : List Str) → Holds (left_rows_of words l) ws t n → Holds (left_rows_of words l) (ws ++ hashed (table_words (says_of list) name)) t' k
 
--- what judging a name gives, with the parts that are to be kept of it
-pub record NameJudged (words sets : List ℕ) (l r : ℕ) (fit : Bool) (image list : List ℕ) (name : Str) (t : List ℕ) (n steps : ℕ) (t' parts : List ℕ) (x : Judgement) : Type 0 where
-  pub sized : length t' ≡ length t
-  pub refused : 0 < x.refusal → sheet_refusal (outcome_of words sets l r image list name) ≡ declined x.refusal 0
-  pub goes : x.refusal ≡ 0 → sheet_refusal (outcome_of words sets l r image list name) ≡ accepted
-  pub kept : x.refusal ≡ 0 → Kept image list name x.end parts (outcome_of words sets l r image list name)
-  pub kept-few : parts_in x.end ≤ room_of name
-  pub tree : x.refusal ≡ 0 → fit ≡ true → Tree t' x.nodes l
-  pub steps-are : x.refusal ≡ 0 → x.steps + n ≡ steps + x.nodes + right_steps (table_words (says_of list) name)
-  pub few : x.refusal ≡ 0 → x.nodes ≤ n + room_of name
-  pub more : x.refusal ≡ 0 → n ≤ x.nodes
-  pub short : x.refusal ≡ 0 → right_steps (table_words (says_of list) name) ≤ room_of name
-  pub holds : x.refusal ≡ 0 → HoldsMore words l list name t n t' x.nodes
+module _ (words sets : List ℕ) (l r : ℕ) (fit : Bool) (image list : List ℕ) (name : Str) (t : List ℕ) (n steps : ℕ) (t' : List ℕ) where
+  -- a name that does not refuse the sheet, with the parts that are to be kept of it
+  pub record NameGoes (parts : List ℕ) (x : Judgement) : Type 0 where
+    pub goes : sheet_refusal (outcome_of words sets l r image list name) ≡ accepted
+    pub kept : Kept image list name x.end parts (outcome_of words sets l r image list name)
+    pub kept-few : parts_in x.end ≤ room_of name
+    pub tree : fit ≡ true → Tree t' x.nodes l
+    pub steps-are : x.steps + n ≡ steps + x.nodes + right_steps (table_words (says_of list) name)
+    pub few : x.nodes ≤ n + room_of name
+    pub more : n ≤ x.nodes
+    pub short : right_steps (table_words (says_of list) name) ≤ room_of name
+    pub holds : HoldsMore words l list name t n t' x.nodes
+
+  -- what judging a name gives, with the memory where its parts are
+  pub record NameJudged (parts : List ℕ) (x : Result Judgement Refusal) : Type 0 where
+    pub sized : length t' ≡ length t
+    pub goes : IfOk x (λ y. NameGoes (take (parts_in y.end) parts) y)
+    pub refused : IfErr x (λ e. sheet_refusal (outcome_of words sets l r image list name) ≡ reply_of (Err e))

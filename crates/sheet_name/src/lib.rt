@@ -1,7 +1,7 @@
 // What a name of a sheet comes to, judged before anything is written (document 02, request 8).
 #![tactic(auto)]
 
-ghost use Rattle.std.specs.Prelude.{◌≡◌, true, ◌+◌, ◌*◌, ◌≤◌, length, take, IfSome};
+ghost use Rattle.std.specs.Prelude.{◌≡◌, true, ◌+◌, ◌*◌, ◌≤◌, length, IfSome};
 ghost use Rattle.rules.specs.Names.{SoundName};
 ghost use Rattle.exceptions.specs.Judging.{KnownList};
 ghost use Rattle.image.specs.Image.{valid, edits_of};
@@ -13,7 +13,9 @@ ghost use Rattle.prefix_tree.specs.Tree.{Room};
 ghost use Rattle.sheet_passes.specs.Passing.{HoldsSome};
 ghost use Rattle.sheet_name.specs.Judging.{FrameJudged, parts_in, room_of, settled, NameJudged};
 
+use passes::Compiled;
 use prefix_tree::Counts;
+use rules::Refusal;
 use speech::Unread;
 
 // What the words of a name came to: how many nodes the tree has, how many entries have been looked up, and how reading ended.
@@ -25,11 +27,8 @@ struct Judged {
 
 // All passes of a name that is not on the list, then each reached letter; the parts are remembered, and nothing is said. It comes to nothing where a state
 // is out of range. `found`, `left` and `right` are the memory of the passes, whatever it held: a sheet makes it once for all its names.
-fn judge_frame<'a>(
-    words: &'a [u16],
-    sets: &'a [u64],
-    left_states: usize,
-    right_states: usize,
+fn judge_frame(
+    compiled: &Compiled<'_>,
     fit: bool,
     stale: bool,
     image: &[u8],
@@ -44,13 +43,11 @@ fn judge_frame<'a>(
     left: &mut [u16],
     right: &mut [u16],
 ) -> Option<Judged>
-    requires { FitsAs words.now sets.now left_states right_states (edits_of image.now) fit stale × (valid image.now ≡ true) × Unsaid list.now name.now × (frame.now ≡ frame_of name.now) × HoldsSome fit (left_rows_of words.now left_states) tree.old nodes × Room tree.old (nodes + (length name.now + 1)) × (steps + 4 * frame_size ≤ max_steps) × (length parts.old ≡ frame_size) × Sized (memory found.old left.old right.old) }
-    ensures { FrameJudged words.now sets.now left_states right_states fit stale image.now list.now name.now tree.old nodes steps tree.new parts.new result }
+    requires { FitsAs compiled.now.words.now compiled.now.sets.now compiled.now.left_states compiled.now.right_states (edits_of image.now) fit stale × (valid image.now ≡ true) × Unsaid list.now name.now × (frame.now ≡ frame_of name.now) × HoldsSome fit (left_rows_of compiled.now.words.now compiled.now.left_states) tree.old nodes × Room tree.old (nodes + (length name.now + 1)) × (steps + 4 * frame_size ≤ max_steps) × (length parts.old ≡ frame_size) × Sized (memory found.old left.old right.old) }
+    ensures { FrameJudged compiled.now.words.now compiled.now.sets.now compiled.now.left_states compiled.now.right_states fit stale image.now list.now name.now tree.old nodes steps tree.new parts.new result }
 {
     let counts = sheet_passes::pass_words(
-        words,
-        left_states,
-        right_states,
+        compiled,
         fit,
         list,
         name,
@@ -63,8 +60,8 @@ fn judge_frame<'a>(
         &mut *right,
     )?;
     let reached = table_reading::read_words(
-        sets,
-        walk::right_base(fit, left_states),
+        compiled.sets,
+        walk::right_base(fit, compiled.left_states),
         image,
         name,
         frame,
@@ -84,7 +81,7 @@ pub const UNCOVERED: usize = reading::MAX_FRAME + 2;
 pub fn parts_in(end: u32) -> usize
     ensures { result ≡ parts_in end }
 {
-    let n = numbers::wide32(end);
+    let n = end as usize;
     if UNCOVERED <= n {
         return 0;
     }
@@ -94,58 +91,43 @@ pub fn parts_in(end: u32) -> usize
     n - 1
 }
 
-// What a name of the sheet came to: the number of the refusal of the whole sheet, 0 where there is none; the nodes and the steps; how reading ended.
+// What a name that does not refuse the sheet came to: the nodes and the steps; how reading ended.
 #[derive(Clone, Copy)]
 pub struct Judgement {
-    pub refusal: u8,
     pub nodes: usize,
     pub steps: usize,
     pub end: u32,
 }
 
-// How reading ended, settled for the sheet.
-fn settle(x: Option<Judged>, stale: bool) -> Judgement
+// How reading ended, settled for the sheet, which 16 and 22 refuse.
+fn settle(x: Option<Judged>, stale: bool) -> Result<Judgement, Refusal>
     requires { IfSome x (λ j. EndsBy frame_size j.reached) }
     ensures { result ≡ settled x stale }
 {
     let Some(judged) = x else {
-        let refusal: u8 = if stale { 22 } else { 16 };
-        return Judgement {
-            refusal,
-            nodes: 0,
-            steps: 0,
-            end: 0,
+        let refusal = if stale {
+            Refusal::StaleTables(0)
+        } else {
+            Refusal::BadTables(0)
         };
+        return Err(refusal);
     };
     let counts = judged.counts;
-    match judged.reached {
-        Ok(k) => Judgement {
-            refusal: 0,
-            nodes: counts.nodes,
-            steps: counts.steps,
-            end: (k + 1) as u32,
-        },
-        Err(Unread::Uncovered(i)) => Judgement {
-            refusal: 0,
-            nodes: counts.nodes,
-            steps: counts.steps,
-            end: (i + UNCOVERED) as u32,
-        },
-        Err(Unread::BadTables) => Judgement {
-            refusal: 16,
-            nodes: 0,
-            steps: 0,
-            end: 0,
-        },
-    }
+    let end = match judged.reached {
+        Ok(k) => (k + 1) as u32,
+        Err(Unread::Uncovered(i)) => (i + UNCOVERED) as u32,
+        Err(Unread::BadTables) => return Err(Refusal::BadTables(0)),
+    };
+    Ok(Judgement {
+        nodes: counts.nodes,
+        steps: counts.steps,
+        end,
+    })
 }
 
 // A sound name that is not on the list.
-fn judge_words<'a>(
-    words: &'a [u16],
-    sets: &'a [u64],
-    left_states: usize,
-    right_states: usize,
+fn judge_words(
+    compiled: &Compiled<'_>,
     fit: bool,
     stale: bool,
     image: &[u8],
@@ -158,18 +140,15 @@ fn judge_words<'a>(
     found: &mut [u16],
     left: &mut [u16],
     right: &mut [u16],
-) -> Judgement
-    requires { FitsAs words.now sets.now left_states right_states (edits_of image.now) fit stale × (valid image.now ≡ true) × Unsaid list.now name.now × HoldsSome fit (left_rows_of words.now left_states) tree.old nodes × Room tree.old (nodes + (length name.now + 1)) × (steps + 4 * frame_size ≤ max_steps) × (length parts.old ≡ frame_size) × Sized (memory found.old left.old right.old) }
-    ensures { NameJudged words.now sets.now left_states right_states fit image.now list.now name.now tree.old nodes steps tree.new (take (parts_in result.end) parts.new) result }
+) -> Result<Judgement, Refusal>
+    requires { FitsAs compiled.now.words.now compiled.now.sets.now compiled.now.left_states compiled.now.right_states (edits_of image.now) fit stale × (valid image.now ≡ true) × Unsaid list.now name.now × HoldsSome fit (left_rows_of compiled.now.words.now compiled.now.left_states) tree.old nodes × Room tree.old (nodes + (length name.now + 1)) × (steps + 4 * frame_size ≤ max_steps) × (length parts.old ≡ frame_size) × Sized (memory found.old left.old right.old) }
+    ensures { NameJudged compiled.now.words.now compiled.now.sets.now compiled.now.left_states compiled.now.right_states fit image.now list.now name.now tree.old nodes steps tree.new parts.new result }
 {
     let mut frame = [0u8; reading::MAX_FRAME];
     reading::words::lay_frame(name, &mut frame);
     let end = name.len() + 2;
     let x = judge_frame(
-        words,
-        sets,
-        left_states,
-        right_states,
+        compiled,
         fit,
         stale,
         image,
@@ -188,11 +167,8 @@ fn judge_words<'a>(
 }
 
 // A sound name: one that is on the list sends no word through the tables.
-fn judge_sound<'a>(
-    words: &'a [u16],
-    sets: &'a [u64],
-    left_states: usize,
-    right_states: usize,
+fn judge_sound(
+    compiled: &Compiled<'_>,
     fit: bool,
     stale: bool,
     image: &[u8],
@@ -205,45 +181,26 @@ fn judge_sound<'a>(
     found: &mut [u16],
     left: &mut [u16],
     right: &mut [u16],
-) -> Judgement
-    requires { FitsAs words.now sets.now left_states right_states (edits_of image.now) fit stale × (valid image.now ≡ true) × KnownList list.now × SoundName name.now × HoldsSome fit (left_rows_of words.now left_states) tree.old nodes × Room tree.old (nodes + (length name.now + 1)) × (steps + 4 * frame_size ≤ max_steps) × (length parts.old ≡ frame_size) × Sized (memory found.old left.old right.old) }
-    ensures { NameJudged words.now sets.now left_states right_states fit image.now list.now name.now tree.old nodes steps tree.new (take (parts_in result.end) parts.new) result }
+) -> Result<Judgement, Refusal>
+    requires { FitsAs compiled.now.words.now compiled.now.sets.now compiled.now.left_states compiled.now.right_states (edits_of image.now) fit stale × (valid image.now ≡ true) × KnownList list.now × SoundName name.now × HoldsSome fit (left_rows_of compiled.now.words.now compiled.now.left_states) tree.old nodes × Room tree.old (nodes + (length name.now + 1)) × (steps + 4 * frame_size ≤ max_steps) × (length parts.old ≡ frame_size) × Sized (memory found.old left.old right.old) }
+    ensures { NameJudged compiled.now.words.now compiled.now.sets.now compiled.now.left_states compiled.now.right_states fit image.now list.now name.now tree.old nodes steps tree.new parts.new result }
 {
     let ending = exceptions::end_state(list, name);
     match ending {
-        Some(_) => Judgement {
-            refusal: 0,
+        Some(_) => Ok(Judgement {
             nodes,
             steps,
             end: 0,
-        },
+        }),
         None => judge_words(
-            words,
-            sets,
-            left_states,
-            right_states,
-            fit,
-            stale,
-            image,
-            list,
-            name,
-            tree,
-            nodes,
-            steps,
-            parts,
-            found,
-            left,
-            right,
+            compiled, fit, stale, image, list, name, tree, nodes, steps, parts, found, left, right,
         ),
     }
 }
 
 // A name of the sheet: one that is refused with 2 or 1 sends no word through the tables.
-pub fn judge_name<'a>(
-    words: &'a [u16],
-    sets: &'a [u64],
-    left_states: usize,
-    right_states: usize,
+pub fn judge_name(
+    compiled: &Compiled<'_>,
     fit: bool,
     stale: bool,
     image: &[u8],
@@ -256,35 +213,19 @@ pub fn judge_name<'a>(
     found: &mut [u16],
     left: &mut [u16],
     right: &mut [u16],
-) -> Judgement
-    requires { FitsAs words.now sets.now left_states right_states (edits_of image.now) fit stale × (valid image.now ≡ true) × KnownList list.now × HoldsSome fit (left_rows_of words.now left_states) tree.old nodes × Room tree.old (nodes + room_of name.now) × (steps + 4 * frame_size ≤ max_steps) × (length parts.old ≡ frame_size) × Sized (memory found.old left.old right.old) }
-    ensures { NameJudged words.now sets.now left_states right_states fit image.now list.now name.now tree.old nodes steps tree.new (take (parts_in result.end) parts.new) result }
+) -> Result<Judgement, Refusal>
+    requires { FitsAs compiled.now.words.now compiled.now.sets.now compiled.now.left_states compiled.now.right_states (edits_of image.now) fit stale × (valid image.now ≡ true) × KnownList list.now × HoldsSome fit (left_rows_of compiled.now.words.now compiled.now.left_states) tree.old nodes × Room tree.old (nodes + room_of name.now) × (steps + 4 * frame_size ≤ max_steps) × (length parts.old ≡ frame_size) × Sized (memory found.old left.old right.old) }
+    ensures { NameJudged compiled.now.words.now compiled.now.sets.now compiled.now.left_states compiled.now.right_states fit image.now list.now name.now tree.old nodes steps tree.new parts.new result }
 {
     let judged = rules::judge_name(name);
     match judged {
-        Err(_) => Judgement {
-            refusal: 0,
+        Err(_) => Ok(Judgement {
             nodes,
             steps,
             end: 0,
-        },
+        }),
         Ok(()) => judge_sound(
-            words,
-            sets,
-            left_states,
-            right_states,
-            fit,
-            stale,
-            image,
-            list,
-            name,
-            tree,
-            nodes,
-            steps,
-            parts,
-            found,
-            left,
-            right,
+            compiled, fit, stale, image, list, name, tree, nodes, steps, parts, found, left, right,
         ),
     }
 }

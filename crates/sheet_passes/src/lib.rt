@@ -9,13 +9,12 @@ ghost use Rattle.passes.specs.Passes.{max_steps, Symbols, left_rows_of, Rows, me
 ghost use Rattle.prefix_tree.specs.Tree.{Room, Tree};
 ghost use Rattle.sheet_passes.specs.Passing.{HoldsSome, FramePassed, WordShared, NameShared};
 
+use passes::Compiled;
 use prefix_tree::Counts;
 
 // The shared left pass over a frame, then the right pass, whose count goes on from the left's.
 fn pass_frame(
-    words: &[u16],
-    left_states: usize,
-    right_states: usize,
+    compiled: &Compiled<'_>,
     frame: &[u8],
     tree: &mut [u16],
     nodes: usize,
@@ -23,13 +22,13 @@ fn pass_frame(
     left: &mut [u16],
     right: &mut [u16],
 ) -> Option<Counts>
-    requires { (0 < right_states) × (needed_words left_states right_states ≤ length words.now) × (2 ≤ length frame.now) × (length frame.now ≤ frame_size) × Symbols frame.now × (length frame.now ≤ length left.old) × (length frame.now ≤ length right.old) × Tree tree.old nodes left_states × Room tree.old (nodes + (length frame.now - 1)) × (steps + 2 * frame_size ≤ max_steps) }
-    ensures { FramePassed words.now left_states right_states frame.now tree.old nodes steps left.old right.old tree.new left.new right.new result }
+    requires { (0 < compiled.now.right_states) × (needed_words compiled.now.left_states compiled.now.right_states ≤ length compiled.now.words.now) × (2 ≤ length frame.now) × (length frame.now ≤ frame_size) × Symbols frame.now × (length frame.now ≤ length left.old) × (length frame.now ≤ length right.old) × Tree tree.old nodes compiled.now.left_states × Room tree.old (nodes + (length frame.now - 1)) × (steps + 2 * frame_size ≤ max_steps) }
+    ensures { FramePassed compiled.now.words.now compiled.now.left_states compiled.now.right_states frame.now tree.old nodes steps left.old right.old tree.new left.new right.new result }
 {
     let first = prefix_tree::shared_pass(
-        words,
+        compiled.words,
         tables::HEAD,
-        left_states,
+        compiled.left_states,
         frame,
         tree,
         nodes,
@@ -37,9 +36,9 @@ fn pass_frame(
         left,
     )?;
     let steps = passes::right_pass(
-        words,
-        tables::HEAD + tables::ROW * left_states,
-        right_states,
+        compiled.words,
+        tables::HEAD + tables::ROW * compiled.left_states,
+        compiled.right_states,
         frame,
         first.steps,
         right,
@@ -53,9 +52,7 @@ fn pass_frame(
 // The passes of one word, where the list gives no part for it; that part, or 0, goes to `found`. Where the tables are not `fit`, of other lengths or
 // another edit count, no word can pass.
 fn pass_word(
-    words: &[u16],
-    left_states: usize,
-    right_states: usize,
+    compiled: &Compiled<'_>,
     fit: bool,
     list: &[u32],
     name: &[u8],
@@ -69,8 +66,8 @@ fn pass_word(
     left: &mut [u16],
     right: &mut [u16],
 ) -> Option<Counts>
-    requires { (fit ≡ true → Rows (length words.now) left_states right_states) × Unsaid list.now name.now × (frame.now ≡ frame_of name.now) × WordOf name.now from end × Sized (memory found.old left.old right.old) × HoldsSome fit (left_rows_of words.now left_states) tree.old nodes × Room tree.old (nodes + (length (word_at name.now from) + 1)) × (steps + 2 * frame_size ≤ max_steps) }
-    ensures { WordShared words.now left_states right_states fit list.now (word_at name.now from) from (memory found.old left.old right.old) (memory found.new left.new right.new) tree.old nodes steps tree.new result }
+    requires { (fit ≡ true → Rows (length compiled.now.words.now) compiled.now.left_states compiled.now.right_states) × Unsaid list.now name.now × (frame.now ≡ frame_of name.now) × WordOf name.now from end × Sized (memory found.old left.old right.old) × HoldsSome fit (left_rows_of compiled.now.words.now compiled.now.left_states) tree.old nodes × Room tree.old (nodes + (length (word_at name.now from) + 1)) × (steps + 2 * frame_size ≤ max_steps) }
+    ensures { WordShared compiled.now.words.now compiled.now.left_states compiled.now.right_states fit list.now (word_at name.now from) from (memory found.old left.old right.old) (memory found.new left.new right.new) tree.old nodes steps tree.new result }
 {
     let part = reading::words::find_word(list, name, from, end);
     found[from] = part;
@@ -81,9 +78,7 @@ fn pass_word(
         return None;
     }
     pass_frame(
-        words,
-        left_states,
-        right_states,
+        compiled,
         &frame[from..end + 1],
         tree,
         nodes,
@@ -95,9 +90,7 @@ fn pass_word(
 
 // The passes of the words of a name in turn; the count of each word goes on from the one before.
 pub fn pass_words(
-    words: &[u16],
-    left_states: usize,
-    right_states: usize,
+    compiled: &Compiled<'_>,
     fit: bool,
     list: &[u32],
     name: &[u8],
@@ -109,17 +102,15 @@ pub fn pass_words(
     left: &mut [u16],
     right: &mut [u16],
 ) -> Option<Counts>
-    requires { (fit ≡ true → Rows (length words.now) left_states right_states) × Unsaid list.now name.now × (frame.now ≡ frame_of name.now) × Sized (memory found.old left.old right.old) × HoldsSome fit (left_rows_of words.now left_states) tree.old nodes × Room tree.old (nodes + (length name.now + 1)) × (steps + 4 * frame_size ≤ max_steps) }
-    ensures { NameShared words.now left_states right_states fit list.now name.now (memory found.new left.new right.new) tree.old nodes steps tree.new result }
+    requires { (fit ≡ true → Rows (length compiled.now.words.now) compiled.now.left_states compiled.now.right_states) × Unsaid list.now name.now × (frame.now ≡ frame_of name.now) × Sized (memory found.old left.old right.old) × HoldsSome fit (left_rows_of compiled.now.words.now compiled.now.left_states) tree.old nodes × Room tree.old (nodes + (length name.now + 1)) × (steps + 4 * frame_size ≤ max_steps) }
+    ensures { NameShared compiled.now.words.now compiled.now.left_states compiled.now.right_states fit list.now name.now (memory found.new left.new right.new) tree.old nodes steps tree.new result }
 {
     let mut p = Counts { nodes, steps };
     let mut from = 0;
     while from <= name.len() {
         let end = reading::words::word_end(name, from);
         p = pass_word(
-            words,
-            left_states,
-            right_states,
+            compiled,
             fit,
             list,
             name,

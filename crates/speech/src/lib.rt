@@ -14,6 +14,7 @@ ghost use Rattle.speech.specs.Speech.{speaks, answered, phones_in, phones_of, nu
 ghost use Rattle.speech.specs.Places.{part_size, part_of, place_in, fitting_in, frame_size, rules_among, part_at, parts_at, PartIn, PartsIn, PartGiven, AllGiven, parts_reading, Parted, SaysListed};
 
 use exceptions::Lookup;
+use image::ruleset::Ruleset;
 use rules::Refusal;
 
 // What a call that speaks a name gave: how many phones and rule numbers, and at how many reached letters more than one rule fits.
@@ -71,35 +72,35 @@ fn rules_among(parts: &[u32]) -> usize
 }
 
 // How many phones a part has.
-fn part_phones(image: &[u8], list: &[u32], part: u32) -> usize
-    requires { (valid image.now ≡ true) × PartIn image.now list.now part }
-    ensures { (result ≡ length (phones_in (part_at image.now list.now part))) × (result ≤ max_listed_phones) }
+fn part_phones(rules: Ruleset<'_>, list: &[u32], part: u32) -> usize
+    requires { PartIn rules.bytes.now list.now part }
+    ensures { (result ≡ length (phones_in (part_at rules.entry.bytes.now list.now part))) × (result ≤ max_listed_phones) }
 {
     let place = place_in(part);
     if place < rules::MAX_RULES {
-        let said = image::phones_at(image, place);
+        let said = rules.phones_at(place);
         return said.len();
     }
     exceptions::phone_count(list, place - rules::MAX_RULES)
 }
 
 // The phones of the parts, counted.
-fn phone_count(image: &[u8], list: &[u32], parts: &[u32]) -> usize
-    requires { (valid image.now ≡ true) × ((length parts.now ≤ frame_size) × PartsIn image.now list.now parts.now) }
-    ensures { result ≡ length (phones_of (parts_at image.now list.now parts.now)) }
+fn phone_count(rules: Ruleset<'_>, list: &[u32], parts: &[u32]) -> usize
+    requires { (length parts.now ≤ frame_size) × PartsIn rules.bytes.now list.now parts.now }
+    ensures { result ≡ length (phones_of (parts_at rules.entry.bytes.now list.now parts.now)) }
 {
     let mut total = 0;
     for &part in parts {
-        total += part_phones(image, list, part);
+        total += part_phones(rules, list, part);
     }
     total
 }
 
 // Whether there is room for the phones of the parts. No part has more than 64, and a rule no more than four: where there is room for as many, they need
 // not be counted.
-fn phones_fit(image: &[u8], list: &[u32], parts: &[u32], room: usize) -> bool
-    requires { (valid image.now ≡ true) × ((length parts.now ≤ frame_size) × PartsIn image.now list.now parts.now) }
-    ensures { result ≡ leb (length (phones_of (parts_at image.now list.now parts.now))) room }
+fn phones_fit(rules: Ruleset<'_>, list: &[u32], parts: &[u32], room: usize) -> bool
+    requires { (length parts.now ≤ frame_size) × PartsIn rules.bytes.now list.now parts.now }
+    ensures { result ≡ leb (length (phones_of (parts_at rules.entry.bytes.now list.now parts.now))) room }
 {
     if rules::MAX_LISTED_PHONES * parts.len() <= room {
         return true;
@@ -107,7 +108,7 @@ fn phones_fit(image: &[u8], list: &[u32], parts: &[u32], room: usize) -> bool
     if rules::MAX_PHONES * parts.len() <= room && rules_among(parts) == parts.len() {
         return true;
     }
-    phone_count(image, list, parts) <= room
+    phone_count(rules, list, parts) <= room
 }
 
 // Whether there is room for the numbers of the rules among the parts, which are no more than the parts.
@@ -143,21 +144,21 @@ fn put_phones(phones: &mut [u8], at: usize, said: &[u8])
 
 // The phones of a part, and its number where it is a rule, after those given before.
 fn write_part(
-    image: &[u8],
+    rules: Ruleset<'_>,
     list: &[u32],
     part: u32,
     phones: &mut [u8],
     numbers: &mut [u16],
     given: Spoken,
 ) -> Spoken
-    requires { (valid image.now ≡ true) × PartIn image.now list.now part × (given.phones + length (phones_in (part_at image.now list.now part)) ≤ length phones.old) × (given.numbers + length (numbers_in (part_at image.now list.now part)) ≤ length numbers.old) × (given.contested ≤ frame_size) }
-    ensures { PartGiven (part_at image.now list.now part) given phones.old numbers.old result phones.new numbers.new }
+    requires { PartIn rules.bytes.now list.now part × (given.phones + length (phones_in (part_at rules.bytes.now list.now part)) ≤ length phones.old) × (given.numbers + length (numbers_in (part_at rules.bytes.now list.now part)) ≤ length numbers.old) × (given.contested ≤ frame_size) }
+    ensures { PartGiven (part_at rules.entry.bytes.now list.now part) given phones.old numbers.old result phones.new numbers.new }
 {
     let place = place_in(part);
     if place < rules::MAX_RULES {
         let at = given.numbers;
-        numbers[at] = image::number_at(image, place);
-        let said = image::phones_at(image, place);
+        numbers[at] = rules.number_at(place);
+        let said = rules.phones_at(place);
         put_phones(&mut *phones, given.phones, said);
         return Spoken {
             phones: given.phones + said.len(),
@@ -175,16 +176,16 @@ fn write_part(
 
 // The phones and the numbers of the parts, in order.
 fn write_parts(
-    image: &[u8],
+    rules: Ruleset<'_>,
     list: &[u32],
     parts: &[u32],
     phones: &mut [u8],
     numbers: &mut [u16],
 ) -> Spoken
-    requires { (valid image.now ≡ true) × (length parts.now ≤ frame_size) × PartsIn image.now list.now parts.now × (length (phones_of (parts_at image.now list.now parts.now)) ≤ length phones.old) × (length (numbers_of (parts_at image.now list.now parts.now)) ≤ length numbers.old) }
-    ensures given { AllGiven (parts_at image.now list.now parts.now) result }
-    ensures phones { phones.new ≡ over (phones_of (parts_at image.now list.now parts.now)) phones.old }
-    ensures numbers { numbers.new ≡ over (numbers_of (parts_at image.now list.now parts.now)) numbers.old }
+    requires { (length parts.now ≤ frame_size) × PartsIn rules.bytes.now list.now parts.now × (length (phones_of (parts_at rules.bytes.now list.now parts.now)) ≤ length phones.old) × (length (numbers_of (parts_at rules.bytes.now list.now parts.now)) ≤ length numbers.old) }
+    ensures given { AllGiven (parts_at rules.entry.bytes.now list.now parts.now) result }
+    ensures phones { phones.new ≡ over (phones_of (parts_at rules.entry.bytes.now list.now parts.now)) phones.old }
+    ensures numbers { numbers.new ≡ over (numbers_of (parts_at rules.entry.bytes.now list.now parts.now)) numbers.old }
 {
     let mut given = Spoken {
         phones: 0,
@@ -192,7 +193,7 @@ fn write_parts(
         contested: 0,
     };
     for &part in parts {
-        given = write_part(image, list, part, &mut *phones, &mut *numbers, given);
+        given = write_part(rules, list, part, &mut *phones, &mut *numbers, given);
     }
     given
 }
@@ -208,13 +209,14 @@ pub fn deliver(
     requires { (valid image.now ≡ true) × ((length parts.now ≤ frame_size) × PartsIn image.now list.now parts.now) }
     ensures { saying (told_of result) phones.new numbers.new ≡ delivered (speaks (parts_at image.now list.now parts.now) 0) phones.old numbers.old }
 {
-    if !phones_fit(image, list, parts, phones.len()) {
-        return Err(Refusal::PhonesRoom(phone_count(image, list, parts)));
+    let rules = Ruleset { bytes: image };
+    if !phones_fit(rules, list, parts, phones.len()) {
+        return Err(Refusal::PhonesRoom(phone_count(rules, list, parts)));
     }
     if !numbers_fit(parts, numbers.len()) {
         return Err(Refusal::NumbersRoom(rules_among(parts)));
     }
-    let given = write_parts(image, list, parts, phones, numbers);
+    let given = write_parts(rules, list, parts, phones, numbers);
     Ok(given)
 }
 

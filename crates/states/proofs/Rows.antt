@@ -267,19 +267,6 @@ lowered_of ws n q c ws' r k a e i b p s x w ra rt ro =
       below = omega arith;
     }
 
-pub lowered_fits : (ws : List ℕ) (n q a e i b c : ℕ) → AppendAsks ws n q → Placing ws n q a e → Split ws a e c i → b ≡ get_or ws (n + 1) 0
-    → (a + (i - a) ≤ b) × (b + (i - a) ≤ length ws) × (a ≤ i) × (b + (i - a) ≤ 16777216)
-lowered_fits ws n q a e i b c k p s x =
-    let z : n + 1 ≡ suc n = omega arith in
-    let x' : b ≡ get_or ws (suc n) 0 = x ∙ ap (λ (t : ℕ). get_or ws t 0) z in
-    let y1 = s.least in
-    let y2 = s.most in
-    let y3 = p.short in
-    let y4 = p.below in
-    let r = k.room in
-    let m = k.small in
-    (omega arith, omega arith, y1, omega arith)
-
 pub asks_fits : (ws : List ℕ) (n q : ℕ) → Laid ws n → q ≤ n → (q < length ws) × (n + 1 < length ws) × (q + 1 < length ws) × (n < 4190)
 asks_fits ws n q l h =
     let s = l.start in

@@ -54,8 +54,8 @@ pub fn row_cells(words: &[u32], n: usize, q: usize) -> Span
     requires { AsksState words.now n q }
     ensures { Placing words.now n q result.from result.to }
 {
-    let from = numbers::wide32(words[q]);
-    let to = numbers::wide32(words[q + 1]);
+    let from = words[q] as usize;
+    let to = words[q + 1] as usize;
     Span { from: from, to: to }
 }
 
@@ -179,7 +179,7 @@ fn lowered(words: &mut [u32], n: usize, q: usize, c: usize) -> Cut
     let from = s.from;
     let to = s.to;
     let i = first(words, from, to, c);
-    let b = numbers::wide32(words[n + 1]);
+    let b = words[n + 1] as usize;
     copy(words, from, b, i - from);
     Cut {
         at: i,
@@ -258,7 +258,7 @@ fn follow(words: &[u32], n: usize, name: &[u8], path: &mut [u16])
     path[0] = n as u16;
     let mut q = n;
     for (i, &c) in name.iter().enumerate() {
-        q = at(words, n, q, numbers::wide(c));
+        q = at(words, n, q, usize::from(c));
         path[i + 1] = q as u16;
     }
 }
@@ -268,11 +268,11 @@ fn put_along(words: &mut [u32], n: usize, name: &[u8], path: &[u16], groups: &[u
     requires { PutAsks words.old n n name.now 0 groups.now × PathOf words.old n name.now (length name.now) path.now × (length name.now < length path.now) }
     ensures { PutGives words.old n n name.now 0 groups.now words.new result }
 {
-    let last = numbers::wide16(path[name.len()]);
+    let last = usize::from(path[name.len()]);
     let mut placed = intern_with_phones(words, n, last, groups);
     for i in (0..name.len()).rev() {
-        let c = numbers::wide(name[i]);
-        let q = numbers::wide16(path[i]);
+        let c = usize::from(name[i]);
+        let q = usize::from(path[i]);
         let top = placed.top;
         let root = placed.root;
         placed = intern_with_successor(words, top, q, c, root);
@@ -300,7 +300,7 @@ pub fn end_state(words: &[u32], n: usize, name: &[u8]) -> usize
         if q == 0 {
             return 0;
         }
-        q = at(words, n, q, numbers::wide(c));
+        q = at(words, n, q, usize::from(c));
     }
     q
 }

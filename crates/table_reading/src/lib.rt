@@ -147,8 +147,8 @@ fn read_letters(
     let mut count: usize = 0;
     let mut i: usize = 1;
     while i < end {
-        let s = tables::SET * numbers::wide16(left[i]);
-        let t = right_sets + tables::SET * numbers::wide16(right[i]);
+        let s = tables::SET * usize::from(left[i]);
+        let t = right_sets + tables::SET * usize::from(right[i]);
         let Ok(choice) = choose(sets, s, t, image, total, frame, i) else {
             return Err(Unread::BadTables);
         };

@@ -1,27 +1,33 @@
 // What `say` answers: a name's line in and its answer's line out (document 01, "The six rules").
 #![tactic(auto)]
 
-ghost use Rattle.std.specs.Prelude.{◌≡◌, true, ◌≤◌, IfSome, length, drop};
+ghost use Rattle.std.specs.Prelude.{◌≡◌, ◌≤◌, IfSome, length, drop};
 ghost use Rattle.rules.specs.Memory.{over};
 ghost use Rattle.frames.specs.Lines.{sound_line, line_after};
-ghost use Rattle.image.specs.Image.{valid};
 ghost use Rattle.lines.specs.Printed.{printed};
 ghost use Rattle.answer_lines.specs.Answers.{longest_line};
 ghost use Rattle.transcript.specs.Names.{asked, name_line, name_answer, cut, name_in};
 
+use image::ruleset::Ruleset;
 use rules::Refusal;
 
 // ---- names
 
 // A name is walked, with no list, and its answer's line printed.
-fn speak<'a>(image: &[u8], words: &'a [u16], sets: &'a [u64], name: &[u8], out: &mut [u8]) -> usize
-    requires { (valid image.now ≡ true) × (longest_line ≤ length out.old) }
-    ensures len { result ≡ length (name_line image.now words.now sets.now name.now) }
-    ensures bytes { out.new ≡ over (name_line image.now words.now sets.now name.now) out.old }
+fn speak<'a>(
+    rules: Ruleset<'_>,
+    words: &'a [u16],
+    sets: &'a [u64],
+    name: &[u8],
+    out: &mut [u8],
+) -> usize
+    requires { longest_line ≤ length out.old }
+    ensures len { result ≡ length (name_line rules.entry.bytes.now words.now sets.now name.now) }
+    ensures bytes { out.new ≡ over (name_line rules.entry.bytes.now words.now sets.now name.now) out.old }
 {
     let mut phones = [0u8; 256];
     let mut numbers = [0u16; 64];
-    let answer = compiled::speak_valid(image, words, sets, name, &mut phones, &mut numbers);
+    let answer = compiled::speak_valid(rules.bytes, words, sets, name, &mut phones, &mut numbers);
     answer_lines::answer_line(answer, &phones, &numbers, out)
 }
 
@@ -48,17 +54,17 @@ pub struct Answered {
 
 // The answer to the line that starts at `at`, at the front of lent bytes.
 pub fn answer_name<'a>(
-    image: &[u8],
+    rules: Ruleset<'_>,
     words: &'a [u16],
     sets: &'a [u64],
     text: &[u8],
     at: usize,
     out: &mut [u8],
 ) -> Answered
-    requires { (valid image.now ≡ true) × (longest_line ≤ length out.old) }
+    requires { longest_line ≤ length out.old }
     ensures next { result.next ≡ line_after text.now at }
-    ensures len { result.len ≡ length (name_answer image.now words.now sets.now (drop at text.now)) }
-    ensures bytes { out.new ≡ over (name_answer image.now words.now sets.now (drop at text.now)) out.old }
+    ensures len { result.len ≡ length (name_answer rules.entry.bytes.now words.now sets.now (drop at text.now)) }
+    ensures bytes { out.new ≡ over (name_answer rules.entry.bytes.now words.now sets.now (drop at text.now)) out.old }
 {
     let next = frames::next_line(text, at);
     let mut frame = [0u8; 67];
@@ -66,6 +72,6 @@ pub fn answer_name<'a>(
         let len = lines::refusal_line(Refusal::BadLine(0), out);
         return Answered { next, len };
     };
-    let len = speak(image, words, sets, &frame[1..end], out);
+    let len = speak(rules, words, sets, &frame[1..end], out);
     Answered { next, len }
 }

@@ -7,6 +7,7 @@ use Rattle.speech.specs.declared.Unread.{Unread}
 use Rattle.speech.specs.declared.Unread.TheVariants.{Uncovered, BadTables}
 use Rattle.tables.specs.Words.{needed_words, needed_sets, Compiled}
 use Rattle.tables.specs.Walk.{judged_tables, Walked}
+use Rattle.passes.specs.declared.Compiled.{Compiled as Lent}
 use Rattle.walk.specs.declared.WalkAnswer.{WalkAnswer}
 
 -- all that a walk gives: its answer, and the lent phones and numbers after it
@@ -16,6 +17,10 @@ walked_of r phones numbers = record { said = saying (told_of r.speech) phones nu
 -- words and set words with the state counts l and r
 abbrev pub compiled_with : List ℕ → List ℕ → ℕ → ℕ → Compiled
 compiled_with ws ss l r = record { words = ws; sets = ss; «left-states» = l; «right-states» = r }
+
+-- what a struct of them holds
+abbrev pub compiled_in : Lent → Compiled
+compiled_in c = compiled_with c.words.now c.sets.now c.left_states c.right_states
 
 -- the steps that go with how reading ended
 abbrev pub steps_with : Result ℕ Unread → ℕ → ℕ

@@ -1,5 +1,4 @@
-// The walk of a name through lent tables (document 01, "The walk", and refusal 16; document 02, refusal 22): the covered part that the compiled ruleset is taken
-// apart for.
+// The walk of a name through a compiled ruleset, the lent tables (document 01, "The walk", and refusal 16; document 02, refusal 22).
 #![tactic(auto)]
 
 ghost use Rattle.std.specs.Prelude.{◌≡◌, true, cond, not, ◌&&◌, ◌<◌, ◌≤◌, eqb, length};
@@ -9,8 +8,9 @@ ghost use Rattle.speech.specs.Words.{frame_of};
 ghost use Rattle.speech.specs.Places.{Unsaid};
 ghost use Rattle.tables.specs.Words.{head_words, edits_in, right_sets};
 ghost use Rattle.tables.specs.Walk.{lengths_fit, walk_through, walkedAs};
-ghost use Rattle.walk.specs.Walked.{walked_of, compiled_with, steps_with, FitsAs};
+ghost use Rattle.walk.specs.Walked.{walked_of, compiled_in, steps_with, FitsAs};
 
+use passes::Compiled;
 use rules::Refusal;
 use speech::{Spoken, Unread};
 
@@ -55,11 +55,8 @@ pub fn right_base(fit: bool, left_states: usize) -> usize
 
 // The walk over the frame of a name that is not on the list: all passes first, then each reached letter. A word that needs the tables is refused with 22
 // where they are stale, and else with 16.
-fn walk_frame<'a>(
-    words: &'a [u16],
-    sets: &'a [u64],
-    left_states: usize,
-    right_states: usize,
+fn walk_frame(
+    compiled: &Compiled<'_>,
     fit: bool,
     stale: bool,
     image: &[u8],
@@ -69,23 +66,14 @@ fn walk_frame<'a>(
     phones: &mut [u8],
     numbers: &mut [u16],
 ) -> WalkAnswer
-    requires { FitsAs words.now sets.now left_states right_states (edits_of image.now) fit stale × (valid image.now ≡ true) × Unsaid list.now name.now × (frame.now ≡ frame_of name.now) }
-    ensures { walked_of result phones.new numbers.new ≡ walkedAs (walk_through (compiled_with words.now sets.now left_states right_states) (edits_of image.now) (literals_of image.now) name.now (says_of list.now)) phones.old numbers.old }
+    requires { FitsAs compiled.now.words.now compiled.now.sets.now compiled.now.left_states compiled.now.right_states (edits_of image.now) fit stale × (valid image.now ≡ true) × Unsaid list.now name.now × (frame.now ≡ frame_of name.now) }
+    ensures { walked_of result phones.new numbers.new ≡ walkedAs (walk_through (compiled_in compiled.now) (edits_of image.now) (literals_of image.now) name.now (says_of list.now)) phones.old numbers.old }
 {
     let mut found = [0u16; reading::MAX_FRAME];
     let mut left = [0u16; reading::MAX_FRAME];
     let mut right = [0u16; reading::MAX_FRAME];
     let Some(looked_up) = passes::run_words(
-        words,
-        left_states,
-        right_states,
-        fit,
-        list,
-        name,
-        frame,
-        &mut found,
-        &mut left,
-        &mut right,
+        compiled, fit, list, name, frame, &mut found, &mut left, &mut right,
     ) else {
         if stale {
             return at_once(Refusal::StaleTables(0));
@@ -94,8 +82,8 @@ fn walk_frame<'a>(
     };
     let mut parts = [0u32; reading::MAX_FRAME];
     let reached = table_reading::read_words(
-        sets,
-        right_base(fit, left_states),
+        compiled.sets,
+        right_base(fit, compiled.left_states),
         image,
         name,
         frame,
@@ -124,11 +112,8 @@ fn walk_frame<'a>(
 }
 
 // The walk of a sound name that is not on the list.
-fn walk_sound<'a>(
-    words: &'a [u16],
-    sets: &'a [u64],
-    left_states: usize,
-    right_states: usize,
+fn walk_sound(
+    compiled: &Compiled<'_>,
     fit: bool,
     stale: bool,
     image: &[u8],
@@ -137,17 +122,14 @@ fn walk_sound<'a>(
     phones: &mut [u8],
     numbers: &mut [u16],
 ) -> WalkAnswer
-    requires { FitsAs words.now sets.now left_states right_states (edits_of image.now) fit stale × (valid image.now ≡ true) × Unsaid list.now name.now }
-    ensures { walked_of result phones.new numbers.new ≡ walkedAs (walk_through (compiled_with words.now sets.now left_states right_states) (edits_of image.now) (literals_of image.now) name.now (says_of list.now)) phones.old numbers.old }
+    requires { FitsAs compiled.now.words.now compiled.now.sets.now compiled.now.left_states compiled.now.right_states (edits_of image.now) fit stale × (valid image.now ≡ true) × Unsaid list.now name.now }
+    ensures { walked_of result phones.new numbers.new ≡ walkedAs (walk_through (compiled_in compiled.now) (edits_of image.now) (literals_of image.now) name.now (says_of list.now)) phones.old numbers.old }
 {
     let mut frame = [0u8; reading::MAX_FRAME];
     reading::words::lay_frame(name, &mut frame);
     let end = name.len() + 2;
     walk_frame(
-        words,
-        sets,
-        left_states,
-        right_states,
+        compiled,
         fit,
         stale,
         image,
@@ -160,35 +142,30 @@ fn walk_sound<'a>(
 }
 
 // 16 for lengths: whether words and set words are long enough for the state counts, of which none may be 0.
-pub fn lengths_fit<'a>(
-    words: &'a [u16],
-    sets: &'a [u64],
-    left_states: usize,
-    right_states: usize,
-) -> bool
-    ensures { result ≡ lengths_fit (compiled_with words.now sets.now left_states right_states) }
+pub fn lengths_fit(compiled: &Compiled<'_>) -> bool
+    ensures { result ≡ lengths_fit (compiled_in compiled.now) }
 {
-    if words.len() < tables::HEAD {
+    if compiled.words.len() < tables::HEAD {
         return false;
     }
-    if left_states < 1 {
+    if compiled.left_states < 1 {
         return false;
     }
-    if right_states < 1 {
+    if compiled.right_states < 1 {
         return false;
     }
-    let rows = (words.len() - tables::HEAD) / tables::ROW;
-    if rows < left_states {
+    let rows = (compiled.words.len() - tables::HEAD) / tables::ROW;
+    if rows < compiled.left_states {
         return false;
     }
-    if rows - left_states < right_states {
+    if rows - compiled.left_states < compiled.right_states {
         return false;
     }
-    let states = sets.len() / tables::SET;
-    if states < left_states {
+    let states = compiled.sets.len() / tables::SET;
+    if states < compiled.left_states {
         return false;
     }
-    if states - left_states < right_states {
+    if states - compiled.left_states < compiled.right_states {
         return false;
     }
     true
@@ -202,9 +179,9 @@ pub fn other_count(words: &[u16], long: bool, edits: u32) -> bool
     if !long {
         return false;
     }
-    let high = numbers::wide16(words[tables::EDITS_HIGH]);
-    let low = numbers::wide16(words[tables::EDITS_LOW]);
-    65536 * high + low != numbers::wide32(edits)
+    let high = usize::from(words[tables::EDITS_HIGH]);
+    let low = usize::from(words[tables::EDITS_LOW]);
+    65536 * high + low != edits as usize
 }
 
 // Whether names can be sent through tables of these lengths with this count.
@@ -214,13 +191,10 @@ pub fn can_pass(long: bool, stale: bool) -> bool
     long && !stale
 }
 
-// The walk of a sound name, which is not on the list, through lent tables with their state counts, for a caller that knows the image valid and
+// The walk of a sound name, which is not on the list, through a compiled ruleset, for a caller that knows the image valid and
 // the list one, or lends too few words for any; nothing in it grows with the number of rules.
-pub fn walk_tables<'a>(
-    words: &'a [u16],
-    sets: &'a [u64],
-    left_states: usize,
-    right_states: usize,
+pub fn walk_tables(
+    compiled: &Compiled<'_>,
     image: &[u8],
     list: &[u32],
     name: &[u8],
@@ -228,22 +202,10 @@ pub fn walk_tables<'a>(
     numbers: &mut [u16],
 ) -> WalkAnswer
     requires { (valid image.now ≡ true) × Unsaid list.now name.now }
-    ensures { walked_of result phones.new numbers.new ≡ walkedAs (walk_through (compiled_with words.now sets.now left_states right_states) (edits_of image.now) (literals_of image.now) name.now (says_of list.now)) phones.old numbers.old }
+    ensures { walked_of result phones.new numbers.new ≡ walkedAs (walk_through (compiled_in compiled.now) (edits_of image.now) (literals_of image.now) name.now (says_of list.now)) phones.old numbers.old }
 {
-    let long = lengths_fit(words, sets, left_states, right_states);
-    let stale = other_count(words, long, image::edit_count(image));
+    let long = lengths_fit(compiled);
+    let stale = other_count(compiled.words, long, image::edit_count(image));
     let fit = can_pass(long, stale);
-    walk_sound(
-        words,
-        sets,
-        left_states,
-        right_states,
-        fit,
-        stale,
-        image,
-        list,
-        name,
-        phones,
-        numbers,
-    )
+    walk_sound(compiled, fit, stale, image, list, name, phones, numbers)
 }

@@ -1,7 +1,6 @@
 -- `build::build_counted` meets its contract: what is needed is known before a lent word is written; then both sides are filled.
 -- Assumes nothing.
 use native.Mathlib.Omega.{arith}
-use borrow.Author.Rules.{rules}
 use Rattle.build.proofs.Whole.{few_words, few_sets, enough}
 use Rattle.build.proofs.build_counted.Goals as goal
 
@@ -9,7 +8,7 @@ pub count_side-l-requires : goal.count_side-l-requires
 count_side-l-requires c = c.requires
 
 pub count_side-r-requires : goal.count_side-r-requires
-count_side-r-requires c = (c.requires.0, c.requires.1, c.count_side-l.ensures.scratch)
+count_side-r-requires c = (c.requires.0, c.count_side-l.ensures.scratch)
 
 pub overflow_add-needed : goal.overflow_add-needed
 overflow_add-needed c = omega (arith, c.count_side-r.ensures.few, c.count_side-l.ensures.few)
@@ -35,7 +34,7 @@ returns-then-sets-places c = few_sets _ _ _ c.count_side-l.ensures.is c.count_si
 pub fill-requires : goal.fill-requires
 fill-requires c = let a = c.count_side-l.ensures in
     let b = c.count_side-r.ensures in
-    (c.requires.0, c.requires.1, omega (arith, a.is, b.is, c.if-words-needed.false), omega (arith, a.is, b.is, c.if-sets-places.false), b.scratch)
+    (c.requires.0, omega (arith, a.is, b.is, c.if-words-needed.false), omega (arith, a.is, b.is, c.if-sets-places.false), b.scratch)
 
 pub returns : goal.returns
 returns c = let a = c.count_side-l.ensures in

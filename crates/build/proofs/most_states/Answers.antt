@@ -27,19 +27,19 @@ pub loop-i-init : goal.loop-i-init
 loop-i-init c = B.begin _
 
 pub owner_at-place-requires : goal.owner_at-place-requires
-owner_at-place-requires c = (c.requires.0, omega (arith, c.requires.1, c.loop-i-test.true))
+owner_at-place-requires c = omega (arith, c.requires, c.loop-i-test.true)
 
 pub overflow_add-most : goal.overflow_add-most
-overflow_add-most c = omega (arith, (another c.args.image.now c.requires.0 _ _ c.loop-i.invariant (omega (arith, c.requires.1, c.loop-i-test.true)) _ c.owner_at-place.ensures.0 _ _ _ c.left_at-left.ensures c.target_at-target.ensures c.right_at-right.ensures).few, (another c.args.image.now c.requires.0 _ _ c.loop-i.invariant (omega (arith, c.requires.1, c.loop-i-test.true)) _ c.owner_at-place.ensures.0 _ _ _ c.left_at-left.ensures c.target_at-target.ensures c.right_at-right.ensures).reached, total_is _ c.requires.0, literals_few _ c.requires.0)
+overflow_add-most c = omega (arith, (another c.args.rules.bytes.now c.args.rules.sound _ _ c.loop-i.invariant (omega (arith, c.requires, c.loop-i-test.true)) _ c.owner_at-place.ensures.0 _ _ _ c.left_at-left.ensures c.target_at-target.ensures c.right_at-right.ensures).few, (another c.args.rules.bytes.now c.args.rules.sound _ _ c.loop-i.invariant (omega (arith, c.requires, c.loop-i-test.true)) _ c.owner_at-place.ensures.0 _ _ _ c.left_at-left.ensures c.target_at-target.ensures c.right_at-right.ensures).reached, total_is _ c.args.rules.sound, literals_few _ c.args.rules.sound)
 
 pub overflow_add-most-in-loop-i : goal.overflow_add-most-in-loop-i
-overflow_add-most-in-loop-i c = omega (arith, (another c.args.image.now c.requires.0 _ _ c.loop-i.invariant (omega (arith, c.requires.1, c.loop-i-test.true)) _ c.owner_at-place.ensures.0 _ _ _ c.left_at-left.ensures c.target_at-target.ensures c.right_at-right.ensures).few, (another c.args.image.now c.requires.0 _ _ c.loop-i.invariant (omega (arith, c.requires.1, c.loop-i-test.true)) _ c.owner_at-place.ensures.0 _ _ _ c.left_at-left.ensures c.target_at-target.ensures c.right_at-right.ensures).reached, total_is _ c.requires.0, literals_few _ c.requires.0)
+overflow_add-most-in-loop-i c = omega (arith, (another c.args.rules.bytes.now c.args.rules.sound _ _ c.loop-i.invariant (omega (arith, c.requires, c.loop-i-test.true)) _ c.owner_at-place.ensures.0 _ _ _ c.left_at-left.ensures c.target_at-target.ensures c.right_at-right.ensures).few, (another c.args.rules.bytes.now c.args.rules.sound _ _ c.loop-i.invariant (omega (arith, c.requires, c.loop-i-test.true)) _ c.owner_at-place.ensures.0 _ _ _ c.left_at-left.ensures c.target_at-target.ensures c.right_at-right.ensures).reached, total_is _ c.args.rules.sound, literals_few _ c.args.rules.sound)
 
 pub overflow_add-most-in-loop-i-2 : goal.overflow_add-most-in-loop-i-2
-overflow_add-most-in-loop-i-2 c = omega (arith, (another c.args.image.now c.requires.0 _ _ c.loop-i.invariant (omega (arith, c.requires.1, c.loop-i-test.true)) _ c.owner_at-place.ensures.0 _ _ _ c.left_at-left.ensures c.target_at-target.ensures c.right_at-right.ensures).few, (another c.args.image.now c.requires.0 _ _ c.loop-i.invariant (omega (arith, c.requires.1, c.loop-i-test.true)) _ c.owner_at-place.ensures.0 _ _ _ c.left_at-left.ensures c.target_at-target.ensures c.right_at-right.ensures).reached, total_is _ c.requires.0, literals_few _ c.requires.0)
+overflow_add-most-in-loop-i-2 c = omega (arith, (another c.args.rules.bytes.now c.args.rules.sound _ _ c.loop-i.invariant (omega (arith, c.requires, c.loop-i-test.true)) _ c.owner_at-place.ensures.0 _ _ _ c.left_at-left.ensures c.target_at-target.ensures c.right_at-right.ensures).few, (another c.args.rules.bytes.now c.args.rules.sound _ _ c.loop-i.invariant (omega (arith, c.requires, c.loop-i-test.true)) _ c.owner_at-place.ensures.0 _ _ _ c.left_at-left.ensures c.target_at-target.ensures c.right_at-right.ensures).reached, total_is _ c.args.rules.sound, literals_few _ c.args.rules.sound)
 
 pub loop-i-preserved : goal.loop-i-preserved
-loop-i-preserved c = another c.args.image.now c.requires.0 _ _ c.loop-i.invariant (omega (arith, c.requires.1, c.loop-i-test.true)) _ c.owner_at-place.ensures.0 _ _ _ c.left_at-left.ensures c.target_at-target.ensures c.right_at-right.ensures
+loop-i-preserved c = another c.args.rules.bytes.now c.args.rules.sound _ _ c.loop-i.invariant (omega (arith, c.requires, c.loop-i-test.true)) _ c.owner_at-place.ensures.0 _ _ _ c.left_at-left.ensures c.target_at-target.ensures c.right_at-right.ensures
 
 pub returns : goal.returns
-returns c = B.finished _ c.requires.0 _ _ c.loop-i.invariant (omega (arith, c.requires.1, c.loop-i-test.false))
+returns c = B.finished _ c.args.rules.sound _ _ c.loop-i.invariant (omega (arith, c.requires, c.loop-i-test.false))

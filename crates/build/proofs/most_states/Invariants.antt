@@ -4,4 +4,4 @@ use Rattle.build.proofs.Bounding as B
 use Rattle.build.proofs.most_states.Given as goal
 
 abbrev pub invariant-loop-i : goal.invariant-loop-i
-invariant-loop-i l = B.Bounding l.image l.most l.i
+invariant-loop-i l = B.Bounding l.rules.bytes.now l.most l.i

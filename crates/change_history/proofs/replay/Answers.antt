@@ -4,7 +4,6 @@ use Rattle.std.proofs.lemmas.Result.{err_from_is_err_and}
 use Prim.Native.Nat.{◌/◌, min}
 use mathlib.Core.Path.{ap, ◌∙◌}
 use native.Mathlib.Omega.{arith}
-use borrow.Author.Rules.{rules}
 use lib.ListN.{length}
 use Rattle.rules.specs.Refusals.{reply_of}
 use Rattle.change_history.specs.Code.{change_words}
@@ -17,12 +16,12 @@ returns-in_err-clear c = let a = c.args in
 
 pub replay_all-requires : goal.replay_all-requires
 replay_all-requires c = let a = c.args in
-    let n = c.smaller-n.ensures ∙ ap (min (length a.code.now / change_words)) c.smaller-room.ensures in
+    let n = c.min-n.ensures ∙ ap (min (length a.code.now / change_words)) c.min-room.ensures in
     let e = long_empty a.list.now a.code.now a.text.now a.answers.now a.places.now _ _ c.clear.ensures (ap reply_of c.in_ok-clear.was) in
     (omega (arith, n), e.0, e.1)
 
 pub returns : goal.returns
 returns c = let a = c.args in
-    let n = c.smaller-n.ensures ∙ ap (min (length a.code.now / change_words)) c.smaller-room.ensures in
+    let n = c.min-n.ensures ∙ ap (min (length a.code.now / change_words)) c.min-room.ensures in
     long_enough a.list.now a.code.now a.text.now a.answers.now a.places.now _ _ c.clear.ensures (ap reply_of c.in_ok-clear.was)
     _ n _ _ _ c.replay_all.ensures

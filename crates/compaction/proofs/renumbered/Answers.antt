@@ -6,18 +6,10 @@ use lib.ListN.{get_or}
 use mathlib.Core.Path.{sym, ap, ap₂, ◌∙◌}
 use Prim.Native.Nat.{ℕ, ◌<◌}
 use native.Mathlib.Omega.{arith}
-use borrow.Author.Rules.{rules}
-use borrow.Author.Rules.{rules}
 use Rattle.compaction.proofs.renumbered.Goals as goal
 
 pub returns-then-k-ge-PHONES : goal.returns-then-k-ge-PHONES
 returns-then-k-ge-PHONES c = let e = c.key-k.ensures in sym (new_high _ _ (omega arith))
 
-pub bounds-marks-v : goal.bounds-marks-v
-bounds-marks-v c = let e = c.key-k.ensures in let v = c.val-v.ensures.0 in let p = c.requires (omega arith) in omega arith
-
-pub cell-requires : goal.cell-requires
-cell-requires c = let b = c.wide16.ensures.1 in (omega arith, omega arith)
-
 pub returns : goal.returns
-returns c = let e = c.key-k.ensures in let z : key_of c.args.x < 64 = omega arith in c.cell.ensures ∙ (ap₂ cell_of e (c.wide16.ensures.0 ∙ ap (λ (t : ℕ). get_or c.args.marks.now t 0) c.val-v.ensures.0) ∙ sym (new_low _ _ z))
+returns c = let e = c.key-k.ensures in let z : key_of c.args.x < 64 = omega arith in c.cell.ensures ∙ (ap₂ cell_of e (c.from.ensures ∙ ap (λ (t : ℕ). get_or c.args.marks.now t 0) c.val-v.ensures.0) ∙ sym (new_low _ _ z))

@@ -1,9 +1,7 @@
 -- `compiled::speak_compiled` meets its contract: the image's test, the list's, then the name's walk.
 -- Assumes nothing.
 use mathlib.Core.Path.{sym, ◌∙◌}
-use borrow.Author.Tests.{not-true, not-false}
 use Rattle.compiled.proofs.Speaking.{walked_invalid, walked_none}
-use borrow.Author.Rules.{rules}
 use Rattle.compiled.proofs.speak_compiled.Goals as goal
 
 pub returns-then-not-is_ruleset : goal.returns-then-not-is_ruleset

@@ -2,7 +2,6 @@
 -- Assumes nothing.
 use Rattle.speech.proofs.Call.{found_sound, listing_some}
 use Rattle.compiled.proofs.Speaking.{walked_refused, walked_sound}
-use borrow.Author.Rules.{rules}
 use Rattle.compiled.proofs.speak_known.Goals as goal
 
 pub speak_listed-requires : goal.speak_listed-requires

@@ -11,7 +11,6 @@ use Rattle.tables.specs.Walk.{walk_through, walkedAs}
 use Rattle.tables.specs.Words.{compiled_from}
 use Rattle.fitting.specs.Fitting.{Str}
 use Rattle.image.specs.Image.{edits_of, literals_of}
-use borrow.Author.Rules.{rules}
 use Rattle.compiled.proofs.speak_listed.Goals as goal
 
 pub speak_words-requires : goal.speak_words-requires

@@ -13,9 +13,6 @@ use Rattle.edits.proofs.add_rule.Goals as goal
 pub returns-then-not-is_ruleset : goal.returns-then-not-is_ruleset
 returns-then-not-is_ruleset c = invalid c.args.image.now _ (sym c.is_ruleset.ensures ∙ c.if-not-is_ruleset.true)
 
-pub judge_add-requires : goal.judge_add-requires
-judge_add-requires c = sym c.is_ruleset.ensures ∙ c.if-not-is_ruleset.false
-
 pub returns-in_err-judge_add : goal.returns-in_err-judge_add
 returns-in_err-judge_add c = let p = err_from_is_err_and c.from_residual.result c.from_residual.ensures.1 in rw (p.1, p.2) (add_no c.args.image.now (sym c.is_ruleset.ensures ∙ c.if-not-is_ruleset.false) c.args.rule c.args.p _ c.judge_add.ensures _ _ (ap reply_of c.in_err-judge_add.was))
 

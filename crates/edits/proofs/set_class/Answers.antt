@@ -17,9 +17,6 @@ returns-then-symbol-gt-MAX_SYMBOL c = set_high c.args.image.now (sym c.is_rulese
 pub returns-in_default : goal.returns-in_default
 returns-in_default c = set_letters c.args.image.now (sym c.is_ruleset.ensures ∙ c.if-not-is_ruleset.false) c.args.symbol c.args.letters.now c.if-symbol-lt-FIRST_CLASS.false c.if-symbol-gt-MAX_SYMBOL.false (sym c.in_default.is ∙ c.class_mask.ensures)
 
-pub in_use-requires : goal.in_use-requires
-in_use-requires c = sym c.is_ruleset.ensures ∙ c.if-not-is_ruleset.false
-
 pub returns-then-in_use : goal.returns-then-in_use
 returns-then-in_use c = set_used c.args.image.now (sym c.is_ruleset.ensures ∙ c.if-not-is_ruleset.false) c.args.symbol c.args.letters.now c.if-symbol-lt-FIRST_CLASS.false c.if-symbol-gt-MAX_SYMBOL.false _ (sym c.in-Some.is ∙ c.class_mask.ensures) _ c.in_use.ensures c.if-in_use.true
 

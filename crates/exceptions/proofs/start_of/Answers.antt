@@ -1,13 +1,11 @@
 -- `exceptions::start_of` meets its contract.
 -- Assumes nothing.
 use Rattle.exceptions.proofs.Sizes.{size_is, start_is}
-use mathlib.Core.Path.{◌∙◌}
 use native.Mathlib.Omega.{arith}
-use borrow.Author.Rules.{rules}
 use Rattle.exceptions.proofs.start_of.Goals as goal
 
 pub bounds-words-4199 : goal.bounds-words-4199
 bounds-words-4199 c = omega (arith, size_is)
 
 pub returns : goal.returns
-returns c = c.wide32.ensures.0 ∙ start_is _
+returns c = start_is _

@@ -6,4 +6,4 @@ use Rattle.fitting.proofs.Search.{fits_from}
 use Rattle.fitting.proofs.count_fits.Given as goal
 
 abbrev pub invariant-loop-p : goal.invariant-loop-p
-invariant-loop-p l = (l.fitting ≤ l.p) × (l.fitting + fits_from l.image l.frame l.i l.p ≡ fits_from l.image l.frame l.i l.from)
+invariant-loop-p l = (l.fitting ≤ l.p) × (l.fitting + fits_from l.rules.bytes.now l.frame l.i l.p ≡ fits_from l.rules.bytes.now l.frame l.i l.from)

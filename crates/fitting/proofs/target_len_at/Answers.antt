@@ -6,8 +6,5 @@ use lib.ListN.{length}
 use Rattle.image.proofs.Entries.{entry_shaped}
 use Rattle.fitting.proofs.target_len_at.Goals as goal
 
-pub target_at-target-requires : goal.target_at-target-requires
-target_at-target-requires c = (c.requires.0, c.requires.1)
-
 pub returns : goal.returns
 returns c = let s = entry_shaped _ c.requires.0 _ c.requires.1 in let l = ap length c.target_at-target.ensures in (l, (omega (arith, l, s.target-least), omega (arith, l, s.target-most)))

@@ -15,6 +15,6 @@ returns-in_err-clear c = let a = c.args in
 
 pub returns : goal.returns
 returns c = let a = c.args in
-    let n = c.smaller-n.ensures ∙ ap (min (length a.code.now / edit_words)) c.smaller-room.ensures in
+    let n = c.min-n.ensures ∙ ap (min (length a.code.now / edit_words)) c.min-room.ensures in
     long_enough a.image.now a.code.now a.letters.now a.answers.now a.places.now _ _ (ap reply_of c.in_ok-clear.was) c.clear.ensures
     _ n _ _ _ c.replay_all.ensures

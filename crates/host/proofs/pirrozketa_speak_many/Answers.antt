@@ -30,7 +30,7 @@ returns-then-not-is_list c = let a = c.args in
     }
 
 pub speak_all-requires : goal.speak_all-requires
-speak_all-requires c = (sym c.is_ruleset.ensures ∙ c.if-not-is_ruleset.false, sym c.is_list.ensures ∙ c.if-not-is_list.false)
+speak_all-requires c = sym c.is_list.ensures ∙ c.if-not-is_list.false
 
 pub returns : goal.returns
 returns c = let a = c.args in

@@ -20,7 +20,7 @@ put_two-next-requires c = let a = c.args in
 pub loop-n-preserved : goal.loop-n-preserved
 loop-n-preserved c = let a = c.args in
     let l = c.loop-n in
-    sending_next bytes2 a.numbers.now (output a.w a.out.now) _ l.n-index l.invariant c.loop-n-test.true _ (sent_as (ap bytes2 c.wide16.ensures.0) c.put_two-next.ensures.sent)
+    sending_next bytes2 a.numbers.now (output a.w a.out.now) _ l.n-index l.invariant c.loop-n-test.true _ (sent_as (ap bytes2 c.from.ensures) c.put_two-next.ensures.sent)
 
 pub shape_of-out : goal.shape_of-out
 shape_of-out c = let a = c.args in let l = c.loop-n in sending_length bytes2 a.numbers.now (output a.w a.out.now) _ l.n-index l.invariant (omega (arith, c.requires, length_twos a.numbers.now))

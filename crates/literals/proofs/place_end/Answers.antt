@@ -4,12 +4,8 @@ use mathlib.Core.Path.{ap, ◌∙◌}
 use native.Mathlib.Omega.{arith}
 use lib.ListN.{length}
 use Rattle.image.proofs.Entries.{entry_shaped}
-use Rattle.image.proofs.Tests.{valid_long}
 use Rattle.literals.proofs.Places.{masks-room, left-some, right-some, literal-end}
 use Rattle.literals.proofs.place_end.Goals as goal
-
-pub masks-masks-requires : goal.masks-masks-requires
-masks-masks-requires c = valid_long _ c.requires.0
 
 pub literal_end-requires : goal.literal_end-requires
 literal_end-requires c = (

@@ -1,14 +1,8 @@
 -- `many_names::size_of` meets its contract: the names of a sheet are counted, by the loop invariant `Counting`.
 -- Assumes nothing.
 use Prim.Native.Nat.{◌-◌}
-use mathlib.Core.Path.{sym, ◌∙◌}
 use Rattle.rules.specs.Limits.{max_names}
-use Rattle.many_names.proofs.Names.{next-count, next-whole}
 use Rattle.many_names.proofs.Sizes as S
-use lib.ListN.{length}
-use borrow.Author.Tests.{eqb-true}
-use borrow.Author.Rules.{rules}
-use native.Mathlib.Omega.{arith}
 use Rattle.many_names.proofs.size_of.Given as goal
 
 abbrev pub invariant-loop-at : goal.invariant-loop-at

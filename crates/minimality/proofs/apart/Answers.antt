@@ -32,7 +32,7 @@ walk-requires c = let r = c.requires.room in
       laid = laid_upto _ _ _ c.requires.laid (omega arith);
       room = omega arith;
       linked = ch.linked;
-      start = chain_start _ _ _ _ _ ch _ _ c.row_key-h.ensures c.wide16.ensures.0;
+      start = chain_start _ _ _ _ _ ch _ _ c.row_key-h.ensures c.from.ensures;
     }
 
 pub offset_bounds-heads-h-in-loop-t : goal.offset_bounds-heads-h-in-loop-t

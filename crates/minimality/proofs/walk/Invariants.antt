@@ -1,8 +1,6 @@
 -- `minimality::walk` meets its contract.
 -- Assumes nothing.
-use Rattle.minimality.proofs.Keys.{Walking, walk_begin, walk_next, walk_less, walk_no, walk_yes}
-use native.Mathlib.Omega.{arith}
-use borrow.Author.Rules.{rules}
+use Rattle.minimality.proofs.Keys.{Walking}
 use Rattle.minimality.proofs.walk.Given as goal
 
 abbrev pub invariant-loop-i : goal.invariant-loop-i

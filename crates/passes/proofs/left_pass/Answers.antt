@@ -16,12 +16,12 @@ pub look_up-at-requires : goal.look_up-at-requires
 look_up-at-requires c = let l = c.requires.5 c.loop-i.i (omega arith) in
     (omega arith, omega (arith, c.loop-i.invariant.0))
 
-pub returns-then-count-wide16 : goal.returns-then-count-wide16
-returns-then-count-wide16 c = let a = c.args in
+pub returns-then-count-from : goal.returns-then-count-from
+returns-then-count-from c = let a = c.args in
     let k = c.loop-i in
     let r = c.look_up-at in
     let p = k.invariant.1 in
-    let b : a.count ≤ r.result.state = omega (arith, c.wide16.ensures.0) in
+    let b : a.count ≤ r.result.state = omega (arith, c.from.ensures) in
     stop (left_on (rows_at a.words.now a.rows a.count) a.steps a.frame.now) a.count _ _ _ (k.i + 1) r.result.state
     (left_state a.words.now a.rows a.count a.frame.now a.steps k.at k.i p.here p.looked (omega arith) r.result r.ensures)
     (omega arith) (omega arith) b _
@@ -31,7 +31,7 @@ loop-i-preserved c = let a = c.args in
     let k = c.loop-i in
     let r = c.look_up-at in
     let p = k.invariant.1 in
-    let b : r.result.state < a.count = omega (arith, c.wide16.ensures.0) in (
+    let b : r.result.state < a.count = omega (arith, c.from.ensures) in (
       omega (arith, r.ensures.more, k.invariant.0),
       go_on (left_on (rows_at a.words.now a.rows a.count) a.steps a.frame.now) a.count p 1 (k.i + 1) r.result (k.i + 1)
           (left_state a.words.now a.rows a.count a.frame.now a.steps k.at k.i p.here p.looked (omega arith) r.result r.ensures)

@@ -7,4 +7,4 @@ use Rattle.passes.proofs.look_up.Goals as goal
 
 pub returns : goal.returns
 returns c = let a = c.args in
-    record { next = ap (λ (q : ℕ). get_or a.words.now (a.rows + (64 * q + a.c)) 0) c.wide16-q.ensures.0; more = refl }
+    record { next = ap (λ (q : ℕ). get_or a.words.now (a.rows + (64 * q + a.c)) 0) c.from-q.ensures; more = refl }

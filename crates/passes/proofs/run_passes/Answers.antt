@@ -16,8 +16,8 @@ shorter k h = omega arith
 
 pub returns-in_err-steps : goal.returns-in_err-steps
 returns-in_err-steps c = let a = c.args in
-    rw c.from_residual.ensures (both_bad a.words.now a.left_states a.right_states a.frame.now (length a.frame.now - 2) a.steps c.left_pass.new.states a.right.now None
-    (subst (λ (n : ℕ). Passed (left_on (rows_at a.words.now head_words a.left_states) a.steps a.frame.now) a.left_states n n (a.steps + frame_size) c.left_pass.new.states None) (shorter (length a.frame.now) c.requires.3) c.in_err-steps.ensures)
+    rw c.from_residual.ensures (both_bad a.compiled.now.words.now a.compiled.now.left_states a.compiled.now.right_states a.frame.now (length a.frame.now - 2) a.steps c.left_pass.new.states a.right.now None
+    (subst (λ (n : ℕ). Passed (left_on (rows_at a.compiled.now.words.now head_words a.compiled.now.left_states) a.steps a.frame.now) a.compiled.now.left_states n n (a.steps + frame_size) c.left_pass.new.states None) (shorter (length a.frame.now) c.requires.3) c.in_err-steps.ensures)
     refl)
 
 pub right_pass-requires : goal.right_pass-requires
@@ -28,8 +28,8 @@ pub returns : goal.returns
 returns c = let a = c.args in
     let one = c.in_ok-steps in
     let two = c.right_pass in
-    both_good a.words.now a.left_states a.right_states a.frame.now (length a.frame.now - 2) a.steps c.left_pass.new.states two.new.states (Some one.steps)
-    (subst (λ (n : ℕ). Passed (left_on (rows_at a.words.now head_words a.left_states) a.steps a.frame.now) a.left_states n n (a.steps + frame_size) c.left_pass.new.states (Some one.steps)) (shorter (length a.frame.now) c.requires.3) one.ensures)
+    both_good a.compiled.now.words.now a.compiled.now.left_states a.compiled.now.right_states a.frame.now (length a.frame.now - 2) a.steps c.left_pass.new.states two.new.states (Some one.steps)
+    (subst (λ (n : ℕ). Passed (left_on (rows_at a.compiled.now.words.now head_words a.compiled.now.left_states) a.steps a.frame.now) a.compiled.now.left_states n n (a.steps + frame_size) c.left_pass.new.states (Some one.steps)) (shorter (length a.frame.now) c.requires.3) one.ensures)
     refl two.result
-    (subst (λ (n : ℕ). Passed (right_on (rows_at a.words.now (right_rows a.left_states) a.right_states) one.steps a.frame.now) a.right_states n 1 (one.steps + frame_size) two.new.states two.result)
+    (subst (λ (n : ℕ). Passed (right_on (rows_at a.compiled.now.words.now (right_rows a.compiled.now.left_states) a.compiled.now.right_states) one.steps a.frame.now) a.compiled.now.right_states n 1 (one.steps + frame_size) two.new.states two.result)
     (shorter (length a.frame.now) c.requires.3) two.ensures)

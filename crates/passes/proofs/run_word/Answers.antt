@@ -17,13 +17,13 @@ find_word-part-requires c = let p = c.requires in
 pub returns-then-part-ne0 : goal.returns-then-part-ne0
 returns-then-part-ne0 c = let a = c.args in
     let part = c.find_word-part in
-    word-listed a.words.now a.left_states a.right_states a.fit a.list.now (word_at a.name.now a.from) a.from a.steps a.found.now a.left.now a.right.now
+    word-listed a.compiled.now.words.now a.compiled.now.left_states a.compiled.now.right_states a.fit a.list.now (word_at a.name.now a.from) a.from a.steps a.found.now a.left.now a.right.now
     part.result part.ensures c.requires.5 (omega (arith, c.requires.1.sound.short)) (omega arith)
 
 pub returns-then-not-fit : goal.returns-then-not-fit
 returns-then-not-fit c = let a = c.args in
     let part = c.find_word-part in
-    word-unfit a.words.now a.left_states a.right_states a.fit a.list.now (word_at a.name.now a.from) a.from a.steps a.found.now a.left.now a.right.now
+    word-unfit a.compiled.now.words.now a.compiled.now.left_states a.compiled.now.right_states a.fit a.list.now (word_at a.name.now a.from) a.from a.steps a.found.now a.left.now a.right.now
     part.result part.ensures c.requires.5 (omega (arith, c.requires.1.sound.short)) (omega (arith, c.if-part-ne0.false)) (c.if-not-fit.true)
 
 pub overflow_add-end : goal.overflow_add-end
@@ -55,7 +55,7 @@ pub returns : goal.returns
 returns c = let a = c.args in
     let part = c.find_word-part in
     let both = c.run_passes in
-    word-passes a.words.now a.left_states a.right_states a.fit a.list.now (word_at a.name.now a.from) a.from a.steps a.found.now a.left.now a.right.now
+    word-passes a.compiled.now.words.now a.compiled.now.left_states a.compiled.now.right_states a.fit a.list.now (word_at a.name.now a.from) a.from a.steps a.found.now a.left.now a.right.now
     part.result part.ensures c.requires.5 (omega (arith, c.requires.1.sound.short)) (omega (arith, c.if-part-ne0.false)) (c.if-not-fit.false) _
     (part_frame a.name.now a.frame.now c.requires.2 a.from a.end c.requires.3) both.new.left both.new.right _ _
     (put_tail a.from a.left.now _) (put_tail a.from a.right.now _) (search rules) (search rules) _ both.ensures

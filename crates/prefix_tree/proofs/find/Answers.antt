@@ -14,11 +14,11 @@ returns-then-tree-at c = S.hit _ _ _ _ _ c.requires.1 (omega (arith, c.requires.
 pub loop-k-smaller : goal.loop-k-smaller
 loop-k-smaller c = let k = c.loop-k in
     let g = c.requires.1 k.k (omega arith) k.invariant.below in
-    omega (arith, c.wide16-k.ensures.0)
+    omega (arith, c.from-k.ensures)
 
 pub loop-k-preserved : goal.loop-k-preserved
 loop-k-preserved c = let k = c.loop-k in
-    subst (S.Seeking _ _ _ _ _) (sym c.wide16-k.ensures.0)
+    subst (S.Seeking _ _ _ _ _) (sym c.from-k.ensures)
     (S.miss _ _ _ _ _ c.requires.1 (omega (arith, c.requires.0)) _ k.invariant (omega arith) c.if-tree-at.false)
 
 pub returns : goal.returns

@@ -6,7 +6,7 @@ use Rattle.reading.proofs.Plain.{Plainly}
 use Rattle.reading.proofs.read_letters.Given as goal
 
 abbrev pub invariant-loop-i : goal.invariant-loop-i
-invariant-loop-i l = Plainly l.image l.frame l.parts l.k l.i
+invariant-loop-i l = Plainly l.rules.bytes.now l.frame l.parts l.k l.i
 
 abbrev pub decreases-loop-i : goal.decreases-loop-i
 decreases-loop-i l = length l.frame + 3 - l.i

@@ -8,14 +8,13 @@ use Rattle.speech.specs.Speech.{answered, delivered, plain_words}
 use Rattle.fitting.specs.Reading.{Reading}
 use lib.ListN.{length, replicate}
 use mathlib.Core.Path.{refl, sym, ap, ◌∙◌}
-use borrow.Author.Rules.{rules}
 use Rattle.reading.proofs.read_sound.Goals as goal
 
 pub slice_bounds-read_words-end : goal.slice_bounds-read_words-end
 slice_bounds-read_words-end c = sym (ap length (frame_part c.args.name.now (replicate 66 0) c.lay_frame.new.f c.lay_frame.ensures) ∙ frame_length c.args.name.now)
 
 pub read_words-reached-requires : goal.read_words-reached-requires
-read_words-reached-requires c = (c.requires.0, c.requires.1, frame_part c.args.name.now (replicate 66 0) c.lay_frame.new.f c.lay_frame.ensures, refl)
+read_words-reached-requires c = (c.requires, frame_part c.args.name.now (replicate 66 0) c.lay_frame.new.f c.lay_frame.ensures, refl)
 
 pub returns : goal.returns
-returns c = c.answer.ensures ∙ ap (λ (o : Reading). delivered (answered o 0) c.args.phones.now c.args.numbers.now) (c.read_words-reached.ensures.says ∙ after_none (plain_words (classes_of c.args.image.now) (entries_of c.args.image.now) c.args.name.now (says_of c.args.list.now)))
+returns c = c.answer.ensures ∙ ap (λ (o : Reading). delivered (answered o 0) c.args.phones.now c.args.numbers.now) (c.read_words-reached.ensures.says ∙ after_none (plain_words (classes_of c.args.rules.bytes.now) (entries_of c.args.rules.bytes.now) c.args.name.now (says_of c.args.list.now)))

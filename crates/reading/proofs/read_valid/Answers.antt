@@ -12,11 +12,10 @@ use Rattle.exceptions.specs.Judging.{no_list}
 use mathlib.Core.List.{◌∷◌, []}
 use mathlib.Core.Path.{refl, ap, ◌∙◌}
 use native.Mathlib.Omega.{arith}
-use borrow.Author.Rules.{rules}
 use Rattle.reading.proofs.read_valid.Goals as goal
 
 pub read_sound-requires : goal.read_sound-requires
-read_sound-requires c = (c.requires, unsaid_none (0 ∷ []) c.args.name.now (omega (arith, size_is)) (found_sound c.args.name.now _ c.judge_name.ensures c.in_ok-judge_name.was))
+read_sound-requires c = unsaid_none (0 ∷ []) c.args.name.now (omega (arith, size_is)) (found_sound c.args.name.now _ c.judge_name.ensures c.in_ok-judge_name.was)
 
 pub returns-in_err-judge_name : goal.returns-in_err-judge_name
 returns-in_err-judge_name c = let p = err_from_is_err_and c.from_residual.result c.from_residual.ensures.1 in rw (p.1, p.2) (said_refused c.args.image.now c.requires no_list _ refl c.args.name.now c.args.phones.now c.args.numbers.now _ c.judge_name.ensures _ c.in_err-judge_name.was)

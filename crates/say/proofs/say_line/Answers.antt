@@ -11,7 +11,7 @@ slice_bounds-write_all-end g c =
     let a = c.args in
     let n = c.answer_name-answered in
     let l : length n.new.out ≡ longest_line = search rules in
-    sym (length-take-le _ _ (omega (arith, n.ensures.len, answer_short a.image.now a.words.now a.sets.now (drop a.at a.text.now))))
+    sym (length-take-le _ _ (omega (arith, n.ensures.len, answer_short a.rules.bytes.now a.words.now a.sets.now (drop a.at a.text.now))))
 
 pub returns : goal.returns
-returns g c = omega (arith, c.answer_name-answered.ensures.next, onward c.args.text.now c.args.at c.requires.1)
+returns g c = omega (arith, c.answer_name-answered.ensures.next, onward c.args.text.now c.args.at c.requires)

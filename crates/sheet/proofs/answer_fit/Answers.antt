@@ -5,32 +5,26 @@ use native.Mathlib.Omega.{arith}
 use Rattle.sheet.proofs.Answered as A
 use Rattle.sheet.proofs.answer_fit.Goals as goal
 
-pub judge_sheet-p-requires : goal.judge_sheet-p-requires
-judge_sheet-p-requires c = let g = c.requires.1 in
+pub judge_sheet-judged-requires : goal.judge_sheet-judged-requires
+judge_sheet-judged-requires c = let g = c.requires.1 in
     (c.requires.0, g.sound, λ _. g.listed, g.root, omega (arith, g.tree-room), g.kept-room, g.few, omega (arith, g.few), omega (arith, g.few), record { found = refl; left = refl; right = refl })
 
-pub returns-then-p-ne0 : goal.returns-then-p-ne0
-returns-then-p-ne0 c = let a = c.args in
-    let j = c.judge_sheet-p in
-    A.sheet-refused a.words.now a.sets.now a.left_states a.right_states a.fit a.image.now a.list.now a.sheet.now a.limit
-    _ _ _ _ _ _ _ _ j.result j.ensures c.requires.1.sound c.requires.1.listed a.phones.now a.numbers.now a.replies.now (omega (arith, c.if-p-ne0.true)) _ c.tables_refusal.ensures _ c.refused.ensures
+pub returns-in-Err : goal.returns-in-Err
+returns-in-Err c = let a = c.args in
+    A.sheet-refused a.compiled.now.words.now a.compiled.now.sets.now a.compiled.now.left_states a.compiled.now.right_states a.fit a.image.now a.list.now a.sheet.now a.limit _ _ _ _ _ _ _ _ c.judge_sheet-judged.ensures c.requires.1.sound c.requires.1.listed a.phones.now a.numbers.now a.replies.now _ c.in-Err.is _ c.refused.ensures
 
 pub answer_sheet-names-requires : goal.answer_sheet-names-requires
 answer_sheet-names-requires c = let a = c.args in
-    let j = c.judge_sheet-p in
     let g = c.requires.1 in
-    let s = j.ensures in (
+    let s = c.judge_sheet-judged.ensures in (
       g.sound,
       g.listed,
       omega (arith, g.few, s.ends-sized),
       omega (arith, g.few, s.starts-sized),
       g.replies-room,
-      A.all-kept a.words.now a.sets.now a.left_states a.right_states a.fit a.image.now a.list.now a.sheet.now a.limit
-          _ _ _ _ _ _ _ _ j.result j.ensures c.requires.1.sound c.requires.1.listed a.phones.now a.numbers.now a.replies.now (omega (arith, c.if-p-ne0.false)),
+      A.some-kept a.compiled.now.words.now a.compiled.now.sets.now a.compiled.now.left_states a.compiled.now.right_states a.fit a.image.now a.list.now a.sheet.now a.limit _ _ _ _ _ _ _ _ c.judge_sheet-judged.ensures c.requires.1.sound c.requires.1.listed a.phones.now a.numbers.now a.replies.now _ c.in-Ok.is,
     )
 
 pub returns : goal.returns
 returns c = let a = c.args in
-    let j = c.judge_sheet-p in
-    A.sheet-answered a.words.now a.sets.now a.left_states a.right_states a.fit a.image.now a.list.now a.sheet.now a.limit
-    _ _ _ _ _ _ _ _ j.result j.ensures c.requires.1.sound c.requires.1.listed a.phones.now a.numbers.now a.replies.now (omega (arith, c.if-p-ne0.false)) _ _ _ _ c.answer_sheet-names.ensures
+    A.sheet-answered a.compiled.now.words.now a.compiled.now.sets.now a.compiled.now.left_states a.compiled.now.right_states a.fit a.image.now a.list.now a.sheet.now a.limit _ _ _ _ _ _ _ _ c.judge_sheet-judged.ensures c.requires.1.sound c.requires.1.listed a.phones.now a.numbers.now a.replies.now _ c.in-Ok.is _ _ _ _ c.answer_sheet-names.ensures

@@ -1,7 +1,7 @@
 -- `sheet_answers::answer_name` meets its contract: from the list, by its kept parts, or refused with 3.
 -- Assumes nothing.
 use native.Mathlib.Omega.{arith}
-use borrow.Author.Rules.{rules}
+use mathlib.Core.Path.{refl}
 use Rattle.sheet_answers.proofs.OneAnswer as O
 use Rattle.sheet_answers.proofs.answer_name.Goals as goal
 
@@ -14,13 +14,13 @@ returns-then-end-eq0 c = let a = c.args in
 
 pub deliver-requires : goal.deliver-requires
 deliver-requires c = let a = c.args in
-    let k = O.kept-few a.image.now a.list.now a.name.now a.end a.parts.now (omega (arith, c.if-end-eq0.false)) (omega (arith, c.if-ended-lt-UNCOVERED.true, c.wide32-ended.ensures.0)) _ c.requires.2.kept in
+    let k = O.kept-few a.image.now a.list.now a.name.now a.end a.parts.now (omega (arith, c.if-end-eq0.false)) (omega arith) _ c.requires.2.kept in
     (c.requires.0, (k, (c.requires.2.kept.sent (omega (arith, c.if-end-eq0.false))).within))
 
 pub returns-then-ended-lt-UNCOVERED : goal.returns-then-ended-lt-UNCOVERED
 returns-then-ended-lt-UNCOVERED c = let a = c.args in
-    O.kept-said a.image.now a.list.now a.name.now a.end a.parts.now (omega (arith, c.if-end-eq0.false)) (omega (arith, c.if-ended-lt-UNCOVERED.true, c.wide32-ended.ensures.0)) a.phones.now a.numbers.now _ _ c.deliver.result c.deliver.ensures
+    O.kept-said a.image.now a.list.now a.name.now a.end a.parts.now (omega (arith, c.if-end-eq0.false)) (omega arith) a.phones.now a.numbers.now _ _ c.deliver.result c.deliver.ensures
 
 pub returns : goal.returns
 returns c = let a = c.args in
-    O.kept-uncovered a.image.now a.list.now a.name.now a.end a.parts.now (omega (arith, c.if-ended-lt-UNCOVERED.false, c.wide32-ended.ensures.0)) c.wide32-ended.result c.wide32-ended.ensures.0 a.phones.now a.numbers.now
+    O.kept-uncovered a.image.now a.list.now a.name.now a.end a.parts.now (omega arith) _ refl a.phones.now a.numbers.now

@@ -2,7 +2,6 @@
 -- the same lot.
 -- Assumes nothing.
 use mathlib.Core.Path.{sym, ◌∙◌}
-use Prim.Native.Nat.{◌-◌}
 use native.Mathlib.Omega.{arith}
 use Rattle.many_names.proofs.Names.{next-count, next-whole}
 use Rattle.sheet_answers.proofs.NextAnswer as N

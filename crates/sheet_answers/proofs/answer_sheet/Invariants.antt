@@ -1,10 +1,7 @@
 -- `sheet_answers::answer_sheet` meets its contract, by the loop invariant `AnsweredTo`: whatever the names come to, what stands and what is to come make
 -- the same lot.
 -- Assumes nothing.
-use mathlib.Core.Path.{sym, ◌∙◌}
 use Prim.Native.Nat.{◌-◌}
-use native.Mathlib.Omega.{arith}
-use Rattle.many_names.proofs.Names.{next-count, next-whole}
 use Rattle.sheet_answers.proofs.NextAnswer as N
 use Rattle.sheet_answers.proofs.answer_sheet.Given as goal
 

@@ -1,11 +1,10 @@
 -- A name that is refused with 2 or 1, or is on the list.
 -- Assumes nothing.
 use Rattle.std.proofs.lemmas.Result.{err_from_is_err_and}
-use Rattle.std.specs.Prelude.{Err, Ok}
+use Rattle.std.specs.Prelude.{Err}
 use mathlib.Core.Path.{refl}
 use Rattle.speech.proofs.Call.{found_refused, found_sound}
 use Rattle.sheet_answers.proofs.OneAnswer as O
-use borrow.Author.Rules.{rules}
 use Rattle.sheet_answers.proofs.answer_unsent.Goals as goal
 
 pub say_from_list-requires : goal.say_from_list-requires

@@ -1,7 +1,6 @@
 -- A name that is on the list.
 -- Assumes nothing.
 use Rattle.sheet_answers.proofs.OneAnswer as O
-use borrow.Author.Rules.{rules}
 use Rattle.sheet_answers.proofs.say_from_list.Goals as goal
 
 pub returns-in-Some : goal.returns-in-Some

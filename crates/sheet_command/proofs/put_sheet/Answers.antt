@@ -2,7 +2,6 @@
 -- Assumes nothing.
 use mathlib.Core.Path.{ap}
 use native.Mathlib.Omega.{arith}
-use borrow.Author.Rules.{rules}
 use Rattle.rules.specs.Refusals.{reply_of}
 use Rattle.sheet.specs.Sheet.{sheet_said}
 use Rattle.sheet_command.proofs.Sheets.{put_accepted, put_refused}

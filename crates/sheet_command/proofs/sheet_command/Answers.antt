@@ -4,7 +4,6 @@ use Prim.Native.Nat.{ℕ}
 use native.Mathlib.Omega.{arith}
 use lib.Dec.{leb}
 use lib.ListN.{length, length-replicate}
-use borrow.Author.Rules.{rules}
 use borrow.Author.Tests.{le-leb, lt-leb}
 use Rattle.command_parts.proofs.Replies.{speech_not}
 use Rattle.sheet_command.specs.SheetCommand.{tree_words, kept_words, reply_numbers, sheet_by}

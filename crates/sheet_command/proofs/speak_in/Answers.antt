@@ -2,7 +2,6 @@
 -- Assumes nothing.
 use mathlib.Core.Path.{sym}
 use lib.Seq.{length-take-le}
-use borrow.Author.Rules.{rules}
 use Rattle.sheet_command.proofs.Sheets.{sheet-back}
 use Rattle.sheet_command.proofs.speak_in.Goals as goal
 

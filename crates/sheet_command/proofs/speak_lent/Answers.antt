@@ -2,7 +2,6 @@
 -- Assumes nothing.
 use mathlib.Core.Path.{sym}
 use lib.Seq.{length-take-le}
-use borrow.Author.Rules.{rules}
 use Rattle.rules.proofs.Memory.{tail_is}
 use Rattle.sheet_command.proofs.Sheets.{sheet-for, sheet_presentable}
 use Rattle.sheet_command.proofs.speak_lent.Goals as goal

@@ -3,16 +3,17 @@
 use mathlib.Core.Path.{sym, subst}
 use Prim.Native.Nat.{◌+◌}
 use native.Mathlib.Omega.{arith}
+use Rattle.std.proofs.lemmas.Result.{err_from_is_err_and}
 use Rattle.fitting.specs.Fitting.{Str}
 use Rattle.prefix_tree.specs.Tree.{Room}
 use Rattle.sheet_name.specs.Judging.{room_of}
-use Rattle.sheet_judging.proofs.Slots.{name_here, frame_here, parts_few, next_judged}
+use Rattle.sheet_judging.proofs.Slots.{name_here, frame_here, parts_few, next_refused, next_judged}
 use borrow.Author.Rules.{rules}
 use Rattle.sheet_judging.proofs.judge_next.Goals as goal
 
-pub judge_name-x-requires : goal.judge_name-x-requires
-judge_name-x-requires c = let a = c.args in
-    let e = name_here a.sheet.now a.p.at _ c.wide.ensures.0 in
+pub judge_name-judged-requires : goal.judge_name-judged-requires
+judge_name-judged-requires c = let a = c.args in
+    let e = name_here a.sheet.now a.p.at _ c.from.ensures in
     (c.requires.0, c.requires.1, c.requires.2, c.requires.4, subst (λ (v : Str). Room a.tree.now (a.p.nodes + room_of v)) (sym e) c.requires.5, c.requires.6, frame_here a.kept.now a.p.kept c.requires.11, c.requires.12)
 
 pub offset_bounds-ends-i : goal.offset_bounds-ends-i
@@ -35,10 +36,13 @@ overflow_add-result c = search (rules, c.requires.7)
 
 pub overflow_add-result-2 : goal.overflow_add-result-2
 overflow_add-result-2 c = let a = c.args in
-    let x = c.judge_name-x in
-    omega (arith, parts_few a.sheet.now _ a.p c.wide.ensures.0 x.result x.ensures _ c.parts_in.ensures, c.requires.10)
+    omega (arith, parts_few a.sheet.now _ a.p c.from.ensures c.judge_name-judged.ensures a.kept.now c.kept-1.given.0 _ c.in_ok-x.was _ c.parts_in.ensures, c.requires.10)
+
+pub returns-in_err-x : goal.returns-in_err-x
+returns-in_err-x c = let a = c.args in
+    let p = err_from_is_err_and c.from_residual.result c.from_residual.ensures.1 in
+    rw (p.1, p.2) (next_refused a.sheet.now _ a.p c.from.ensures c.judge_name-judged.ensures a.kept.now c.kept-1.given.0 a.ends.now a.starts.now _ c.in_err-x.was)
 
 pub returns : goal.returns
 returns c = let a = c.args in
-    let x = c.judge_name-x in
-    next_judged a.sheet.now _ a.p c.wide.ensures.0 x.result x.ensures _ c.parts_in.ensures a.ends.now a.starts.now a.kept.now c.kept-1.given.0 c.requires.11
+    next_judged a.sheet.now _ a.p c.from.ensures c.judge_name-judged.ensures a.kept.now c.kept-1.given.0 _ c.in_ok-x.was _ c.parts_in.ensures a.ends.now a.starts.now c.requires.11

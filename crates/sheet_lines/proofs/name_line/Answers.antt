@@ -10,30 +10,30 @@ use Rattle.sheet_lines.proofs.name_line.Goals as goal
 
 pub slice_bounds-spoken_line-end : goal.slice_bounds-spoken_line-end
 slice_bounds-spoken_line-end c = let a = c.args in
-    let w = spoken_within a.replies.now _ _ (c.if-code-wide.true ∙ c.wide.ensures.0) c.requires.4 in
+    let w = spoken_within a.replies.now _ _ (c.if-code-from.true ∙ c.from.ensures) c.requires.4 in
     sym (length-take-le (get_or a.replies.now 1 0) a.phones.now w.0)
 
-pub slice_bounds-spoken_line-end-then-code-wide : goal.slice_bounds-spoken_line-end-then-code-wide
-slice_bounds-spoken_line-end-then-code-wide c = let a = c.args in
-    let w = spoken_within a.replies.now _ _ (c.if-code-wide.true ∙ c.wide.ensures.0) c.requires.4 in
+pub slice_bounds-spoken_line-end-then-code-from : goal.slice_bounds-spoken_line-end-then-code-from
+slice_bounds-spoken_line-end-then-code-from c = let a = c.args in
+    let w = spoken_within a.replies.now _ _ (c.if-code-from.true ∙ c.from.ensures) c.requires.4 in
     sym (length-take-le (get_or a.replies.now 2 0) a.numbers.now w.1)
 
 pub spoken_line-len-requires : goal.spoken_line-len-requires
 spoken_line-len-requires c = let a = c.args in
     let h = c.requires in
-    let w = spoken_within a.replies.now _ _ (c.if-code-wide.true ∙ c.wide.ensures.0) h.4 in
+    let w = spoken_within a.replies.now _ _ (c.if-code-from.true ∙ c.from.ensures) h.4 in
     let lp = length-take-le (get_or a.replies.now 1 0) a.phones.now w.0 in
     let ln = length-take-le (get_or a.replies.now 2 0) a.numbers.now w.1 in
     (omega (arith, lp, w.0, h.1), (omega (arith, ln, w.1, h.2), search rules))
 
-pub returns-then-code-wide : goal.returns-then-code-wide
-returns-then-code-wide c = let s = c.spoken_line-len.ensures in
+pub returns-then-code-from : goal.returns-then-code-from
+returns-then-code-from c = let s = c.spoken_line-len.ensures in
     let a = c.args in
     let h = c.requires in
-    name_spoken a.replies.now a.phones.now a.numbers.now a.contested _ _ a.out.now _ (c.if-code-wide.true ∙ c.wide.ensures.0) h.4 h.2 s.len s.bytes c.low.ensures
+    name_spoken a.replies.now a.phones.now a.numbers.now a.contested _ _ a.out.now _ (c.if-code-from.true ∙ c.from.ensures) h.4 h.2 s.len s.bytes refl
 
 pub returns : goal.returns
 returns c = let s = c.refused_line-len.ensures in
     let a = c.args in
     let h = c.requires in
-    name_refused a.replies.now a.phones.now a.numbers.now a.contested _ _ a.out.now _ _ (λ e. c.if-code-wide.false (e ∙ sym c.wide.ensures.0)) h.4 c.low-2.ensures s.len s.bytes refl
+    name_refused a.replies.now a.phones.now a.numbers.now a.contested _ _ a.out.now _ _ (λ e. c.if-code-from.false (e ∙ sym c.from.ensures)) h.4 refl s.len s.bytes refl

@@ -14,4 +14,4 @@ judge_sound-requires c = let a = c.args in
 
 pub returns-in-Err : goal.returns-in-Err
 returns-in-Err c = let a = c.args in
-    S.sent-none a.words.now a.sets.now a.left_states a.right_states a.fit a.image.now a.list.now a.name.now a.tree.now a.nodes a.steps c.requires.3 _ _ (found_refused a.name.now _ c.judge_name-judged.ensures _ c.in-Err.is)
+    S.sent-none a.compiled.now.words.now a.compiled.now.sets.now a.compiled.now.left_states a.compiled.now.right_states a.fit a.image.now a.list.now a.name.now a.tree.now a.nodes a.steps c.requires.3 _ _ _ (found_refused a.name.now _ c.judge_name-judged.ensures _ c.in-Err.is)

@@ -14,4 +14,4 @@ judge_words-requires c = let e = subst (λ (x : Option ℕ). EndsInList c.args.l
 pub returns-in-Some : goal.returns-in-Some
 returns-in-Some c = let a = c.args in
     let e = subst (λ (x : Option ℕ). EndsInList a.list.now a.name.now x) c.in-Some.is c.end_state-ending.ensures in
-    S.sent-listed a.words.now a.sets.now a.left_states a.right_states a.fit a.image.now a.list.now a.name.now a.tree.now a.nodes a.steps c.requires.4 c.requires.3 e.2
+    S.sent-listed a.compiled.now.words.now a.compiled.now.sets.now a.compiled.now.left_states a.compiled.now.right_states a.fit a.image.now a.list.now a.name.now a.tree.now a.nodes a.steps c.requires.4 _ c.requires.3 e.2

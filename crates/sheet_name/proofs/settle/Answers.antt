@@ -11,10 +11,10 @@ use Rattle.sheet_name.proofs.settle.Goals as goal
 ends : {x : Option Judged} {j : Judged} {r : Result ℕ Unread} → IfSome x (λ j. EndsBy frame_size j.reached) → x ≡ Some j → j.reached ≡ r → EndsBy frame_size r
 ends h a b = subst (EndsBy frame_size) b (subst (λ (o : Option Judged). IfSome o (λ j. EndsBy frame_size j.reached)) a h)
 
-pub overflow_add-result : goal.overflow_add-result
-overflow_add-result c = let e = ends c.requires c.in-Some.is c.in-Ok.is in
+pub overflow_add-end : goal.overflow_add-end
+overflow_add-end c = let e = ends c.requires c.in-Some.is c.in-Ok.is in
     omega arith
 
-pub overflow_cast-result : goal.overflow_cast-result
-overflow_cast-result c = let e = ends c.requires c.in-Some.is c.in-Ok.is in
+pub overflow_cast-end : goal.overflow_cast-end
+overflow_cast-end c = let e = ends c.requires c.in-Some.is c.in-Ok.is in
     omega arith

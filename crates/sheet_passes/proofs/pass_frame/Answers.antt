@@ -7,7 +7,7 @@ use Rattle.sheet_passes.proofs.pass_frame.Goals as goal
 
 pub returns-in_err-first : goal.returns-in_err-first
 returns-in_err-first c = let a = c.args in
-    rw c.from_residual.ensures (F.frame-bad a.words.now a.left_states a.right_states a.frame.now c.requires.2 c.in_err-first.ensures)
+    rw c.from_residual.ensures (F.frame-bad a.compiled.now.words.now a.compiled.now.left_states a.compiled.now.right_states a.frame.now c.requires.2 c.in_err-first.ensures)
 
 pub right_pass-requires : goal.right_pass-requires
 right_pass-requires c = let g = c.in_ok-first.ensures.grown in
@@ -15,8 +15,8 @@ right_pass-requires c = let g = c.in_ok-first.ensures.grown in
 
 pub returns-in_err-steps : goal.returns-in_err-steps
 returns-in_err-steps c = let a = c.args in
-    rw c.from_residual-in_err-steps.ensures (F.frame-right_bad a.words.now a.left_states a.right_states a.frame.now c.requires.2 c.in_ok-first.ensures (search rules) c.in_err-steps.ensures)
+    rw c.from_residual-in_err-steps.ensures (F.frame-right_bad a.compiled.now.words.now a.compiled.now.left_states a.compiled.now.right_states a.frame.now c.requires.2 c.in_ok-first.ensures (search rules) c.in_err-steps.ensures)
 
 pub returns : goal.returns
 returns c = let a = c.args in
-    F.frame-good a.words.now a.left_states a.right_states a.frame.now c.requires.2 c.in_ok-first.ensures (search rules) c.in_ok-steps.ensures
+    F.frame-good a.compiled.now.words.now a.compiled.now.left_states a.compiled.now.right_states a.frame.now c.requires.2 c.in_ok-first.ensures (search rules) c.in_ok-steps.ensures

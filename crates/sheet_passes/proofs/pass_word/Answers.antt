@@ -13,11 +13,11 @@ use Rattle.sheet_passes.proofs.pass_word.Goals as goal
 
 pub returns-then-part-ne0 : goal.returns-then-part-ne0
 returns-then-part-ne0 c = let a = c.args in
-    W.shared-listed a.words.now a.left_states a.right_states a.fit a.list.now (word_at a.name.now a.from) a.from a.found.now a.left.now a.right.now c.find_word-part.ensures c.requires.4 (omega (arith, c.requires.3.inside, c.requires.1.sound.short)) a.tree.now a.nodes a.steps c.requires.5 (omega arith)
+    W.shared-listed a.compiled.now.words.now a.compiled.now.left_states a.compiled.now.right_states a.fit a.list.now (word_at a.name.now a.from) a.from a.found.now a.left.now a.right.now c.find_word-part.ensures c.requires.4 (omega (arith, c.requires.3.inside, c.requires.1.sound.short)) a.tree.now a.nodes a.steps c.requires.5 (omega arith)
 
 pub returns-then-not-fit : goal.returns-then-not-fit
 returns-then-not-fit c = let a = c.args in
-    W.shared-unfit a.words.now a.left_states a.right_states a.fit a.list.now (word_at a.name.now a.from) a.from a.found.now a.left.now a.right.now c.find_word-part.ensures c.requires.4 (omega (arith, c.requires.3.inside, c.requires.1.sound.short)) a.tree.now a.nodes a.steps (omega (arith, c.if-part-ne0.false)) (c.if-not-fit.true)
+    W.shared-unfit a.compiled.now.words.now a.compiled.now.left_states a.compiled.now.right_states a.fit a.list.now (word_at a.name.now a.from) a.from a.found.now a.left.now a.right.now c.find_word-part.ensures c.requires.4 (omega (arith, c.requires.3.inside, c.requires.1.sound.short)) a.tree.now a.nodes a.steps (omega (arith, c.if-part-ne0.false)) (c.if-not-fit.true)
 
 pub slice_bounds-pass_frame-end : goal.slice_bounds-pass_frame-end
 slice_bounds-pass_frame-end c = let a = c.args in
@@ -44,5 +44,5 @@ pass_frame-requires c = let a = c.args in
 pub returns : goal.returns
 returns c = let a = c.args in
     let o = c.pass_frame in
-    W.shared-passes a.words.now a.left_states a.right_states a.fit a.list.now (word_at a.name.now a.from) a.from a.found.now a.left.now a.right.now c.find_word-part.ensures c.requires.4 (omega (arith, c.requires.3.inside, c.requires.1.sound.short)) a.tree.now a.nodes a.steps (omega (arith, c.if-part-ne0.false)) (c.if-not-fit.false) (part_frame a.name.now a.frame.now c.requires.2 a.from a.end c.requires.3)
+    W.shared-passes a.compiled.now.words.now a.compiled.now.left_states a.compiled.now.right_states a.fit a.list.now (word_at a.name.now a.from) a.from a.found.now a.left.now a.right.now c.find_word-part.ensures c.requires.4 (omega (arith, c.requires.3.inside, c.requires.1.sound.short)) a.tree.now a.nodes a.steps (omega (arith, c.if-part-ne0.false)) (c.if-not-fit.false) (part_frame a.name.now a.frame.now c.requires.2 a.from a.end c.requires.3)
     (put_tail a.from a.left.now _) (put_tail a.from a.right.now _) (search rules) (search rules) o.ensures

@@ -7,7 +7,7 @@ use Rattle.sheet_passes.proofs.pass_words.Goals as goal
 
 pub loop-from-init : goal.loop-from-init
 loop-from-init c = let a = c.args in
-    T.shared-begin a.words.now a.left_states a.right_states a.fit a.list.now a.name.now a.tree.now a.nodes a.steps (memory a.found.now a.left.now a.right.now) c.requires.3 c.requires.4
+    T.shared-begin a.compiled.now.words.now a.compiled.now.left_states a.compiled.now.right_states a.fit a.list.now a.name.now a.tree.now a.nodes a.steps (memory a.found.now a.left.now a.right.now) c.requires.3 c.requires.4
 
 pub pass_word-requires : goal.pass_word-requires
 pass_word-requires c = let k = c.loop-from in (

@@ -2,8 +2,7 @@
 -- Assumes nothing.
 use Prim.Native.Nat.{ℕ}
 use mathlib.Core.Path.{sym, ap, ◌∙◌}
-use borrow.Author.Tests.{not-true, not-false, leb-true}
-use borrow.Author.Rules.{rules}
+use borrow.Author.Tests.{leb-true}
 use lib.Dec.{leb}
 use lib.ListN.{length}
 use Rattle.speech.specs.Places.{parts_at}
@@ -25,7 +24,6 @@ returns-then-not-numbers_fit c = let a = c.args in
 
 pub write_parts-given-requires : goal.write_parts-given-requires
 write_parts-given-requires c = (
-  c.requires.0,
   c.requires.1.0,
   c.requires.1.1,
   leb-true _ _ (sym c.phones_fit.ensures ∙ c.if-not-phones_fit.false),

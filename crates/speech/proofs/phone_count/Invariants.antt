@@ -6,4 +6,4 @@ use Rattle.speech.proofs.Counted.{phone_count, Counted}
 use Rattle.speech.proofs.phone_count.Given as goal
 
 abbrev pub invariant-loop-part : goal.invariant-loop-part
-invariant-loop-part l = Counted phone_count max_listed_phones (part_at l.image l.list) l.parts l.part-index l.total
+invariant-loop-part l = Counted phone_count max_listed_phones (part_at l.rules.bytes.now l.list) l.parts l.part-index l.total

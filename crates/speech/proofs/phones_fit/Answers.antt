@@ -16,16 +16,16 @@ use Rattle.speech.proofs.phones_fit.Goals as goal
 pub returns-then-parts-room : goal.returns-then-parts-room
 returns-then-parts-room c = let a = c.args in
     let h = c.requires in
-    sym (le-leb _ a.room (omega (arith, phones_few max_listed_phones (part_at a.image.now a.list.now) a.parts.now (λ k u. part_most a.image.now a.list.now h.0 _ (h.1.1 k u)))))
+    sym (le-leb _ a.room (omega (arith, phones_few max_listed_phones (part_at a.rules.bytes.now a.list.now) a.parts.now (λ k u. part_most a.rules.bytes.now a.list.now a.rules.sound _ (h.1 k u)))))
 
 pub returns-then-rules_among-parts : goal.returns-then-rules_among-parts
 returns-then-rules_among-parts c = let a = c.args in
     let h = c.requires in
     sym (le-leb _ a.room (omega (
       arith,
-      phones_few max_phones (part_at a.image.now a.list.now) a.parts.now (λ k u.
+      phones_few max_phones (part_at a.rules.bytes.now a.list.now) a.parts.now (λ k u.
           let r = only_rules a.parts.now (omega (arith, c.rules_among.ensures, c.if-rules_among-parts.true)) k u in
-          omega (arith, ap length (rule_phones a.image.now a.list.now _ _ refl r), (entry_shaped a.image.now h.0 _ ((h.1.1 k u).rule r)).phones-most)),
+          omega (arith, ap length (rule_phones a.rules.bytes.now a.list.now _ _ refl r), (entry_shaped a.rules.bytes.now a.rules.sound _ ((h.1 k u).rule r)).phones-most)),
     )))
 
 pub returns : goal.returns

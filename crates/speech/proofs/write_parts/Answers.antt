@@ -10,7 +10,7 @@ use Rattle.speech.proofs.Counted.{contested_sum, contested_least, counted_begin,
 use Rattle.speech.proofs.write_parts.Goals as goal
 
 pub loop-part-init : goal.loop-part-init
-loop-part-init c = let f = part_at c.args.image.now c.args.list.now in (
+loop-part-init c = let f = part_at c.args.rules.bytes.now c.args.list.now in (
   written_begin phones_of phones_in phones_gather f c.args.parts.now _,
   written_begin numbers_of numbers_in numbers_gather f c.args.parts.now _,
   counted_begin contested_of contested_in contested_sum 1 f c.args.parts.now,
@@ -18,18 +18,17 @@ loop-part-init c = let f = part_at c.args.image.now c.args.list.now in (
 
 pub write_part-given-requires : goal.write_part-given-requires
 write_part-given-requires c = let l = c.loop-part in
-    let f = part_at c.args.image.now c.args.list.now in (
-      c.requires.0,
-      c.requires.2 l.part-index (omega arith),
-      written_room phones_of phones_in phones_gather f c.args.parts.now c.args.phones.now l.phones l.part-index l.given.phones l.invariant.0 c.requires.3 (omega arith),
-      written_room numbers_of numbers_in numbers_gather f c.args.parts.now c.args.numbers.now l.numbers l.part-index l.given.numbers l.invariant.1 c.requires.4 (omega arith),
-      omega (arith, l.invariant.2.small, c.requires.1),
+    let f = part_at c.args.rules.bytes.now c.args.list.now in (
+      c.requires.1 l.part-index (omega arith),
+      written_room phones_of phones_in phones_gather f c.args.parts.now c.args.phones.now l.phones l.part-index l.given.phones l.invariant.0 c.requires.2 (omega arith),
+      written_room numbers_of numbers_in numbers_gather f c.args.parts.now c.args.numbers.now l.numbers l.part-index l.given.numbers l.invariant.1 c.requires.3 (omega arith),
+      omega (arith, l.invariant.2.small, c.requires.0),
     )
 
 pub loop-part-preserved : goal.loop-part-preserved
 loop-part-preserved c = let l = c.loop-part in
     let w = c.write_part-given.ensures in
-    let f = part_at c.args.image.now c.args.list.now in (
+    let f = part_at c.args.rules.bytes.now c.args.list.now in (
       written_next phones_of phones_in phones_gather f c.args.parts.now c.args.phones.now l.phones l.part-index l.given.phones l.invariant.0 (omega arith) _ _ w.phone w.phones-are,
       written_next numbers_of numbers_in numbers_gather f c.args.parts.now c.args.numbers.now l.numbers l.part-index l.given.numbers l.invariant.1 (omega arith) _ _ w.number w.numbers-are,
       counted_next contested_of contested_in contested_sum 1 f c.args.parts.now l.part-index l.given.contested (contested_in (f (get_or c.args.parts.now l.part-index 0))) l.invariant.2 (omega arith) _ w.contested refl (contested_least (f (get_or c.args.parts.now l.part-index 0))),
@@ -37,7 +36,7 @@ loop-part-preserved c = let l = c.loop-part in
 
 pub returns : goal.returns
 returns c = let l = c.loop-part in
-    let f = part_at c.args.image.now c.args.list.now in
+    let f = part_at c.args.rules.bytes.now c.args.list.now in
     record {
       given = record {
         phones = written_count phones_of phones_in phones_gather f c.args.parts.now c.args.phones.now l.phones l.part-index l.given.phones l.invariant.0 (omega arith);

@@ -7,5 +7,5 @@ use Rattle.speech.proofs.Counted.{Counted}
 use Rattle.speech.proofs.write_parts.Given as goal
 
 abbrev pub invariant-loop-part : goal.invariant-loop-part
-invariant-loop-part l = Written phones_of (part_at l.image l.list) l.parts l.initial.phones l.phones l.part-index l.given.phones × Written numbers_of (part_at l.image l.list) l.parts l.initial.numbers l.numbers l.part-index l.given.numbers
-    × Counted contested_of 1 (part_at l.image l.list) l.parts l.part-index l.given.contested
+invariant-loop-part l = Written phones_of (part_at l.rules.bytes.now l.list) l.parts l.initial.phones l.phones l.part-index l.given.phones × Written numbers_of (part_at l.rules.bytes.now l.list) l.parts l.initial.numbers l.numbers l.part-index l.given.numbers
+    × Counted contested_of 1 (part_at l.rules.bytes.now l.list) l.parts l.part-index l.given.contested

@@ -8,4 +8,4 @@ use Rattle.states.proofs.follow.Goals as goal
 
 pub loop-i-preserved : goal.loop-i-preserved
 loop-i-preserved c = let e = c.loop-i.invariant.1 ∙ length-set c.args.path.now 0 c.args.n in
-    (trace_next _ _ _ _ _ _ c.requires.0 c.loop-i.invariant.0 (omega arith) (omega arith) _ _ c.wide.ensures.0 c.at-q.ensures, simp length-set e)
+    (trace_next _ _ _ _ _ _ c.requires.0 c.loop-i.invariant.0 (omega arith) (omega arith) _ _ c.from.ensures c.at-q.ensures, simp length-set e)

@@ -23,33 +23,33 @@ pub bounds-left-i : goal.bounds-left-i
 bounds-left-i c = omega (arith, c.requires.3.left-room)
 
 pub overflow_mul-s : goal.overflow_mul-s
-overflow_mul-s c = omega (arith, c.wide16-s.ensures.0, c.requires.3.lefts c.loop-i.i (omega (arith, c.loop-i.invariant.0.behind)) (omega arith))
+overflow_mul-s c = omega (arith, c.from-s.ensures, c.requires.3.lefts c.loop-i.i (omega (arith, c.loop-i.invariant.0.behind)) (omega arith))
 
 pub bounds-right-i : goal.bounds-right-i
 bounds-right-i c = omega (arith, c.requires.3.right-room)
 
 pub overflow_mul-t : goal.overflow_mul-t
-overflow_mul-t c = omega (arith, c.wide16.ensures.0, c.requires.3.rights c.loop-i.i (omega (arith, c.loop-i.invariant.0.behind)) (omega arith))
+overflow_mul-t c = omega (arith, c.from.ensures, c.requires.3.rights c.loop-i.i (omega (arith, c.loop-i.invariant.0.behind)) (omega arith))
 
 pub overflow_add-t : goal.overflow_add-t
-overflow_add-t c = omega (arith, c.wide16.ensures.0, c.requires.3.rights c.loop-i.i (omega (arith, c.loop-i.invariant.0.behind)) (omega arith))
+overflow_add-t c = omega (arith, c.from.ensures, c.requires.3.rights c.loop-i.i (omega (arith, c.loop-i.invariant.0.behind)) (omega arith))
 
 pub choose-requires : goal.choose-requires
 choose-requires c = let l = c.requires.3.lefts c.loop-i.i (omega (arith, c.loop-i.invariant.0.behind)) (omega arith) in
     let r = c.requires.3.rights c.loop-i.i (omega (arith, c.loop-i.invariant.0.behind)) (omega arith) in
-    (omega (arith, c.wide16-s.ensures.0), omega (arith, c.wide16.ensures.0), c.requires.0, c.literal_total-total.ensures.0, omega (arith, c.loop-i.invariant.0.behind), omega arith)
+    (omega (arith, c.from-s.ensures), omega (arith, c.from.ensures), c.requires.0, c.literal_total-total.ensures.0, omega (arith, c.loop-i.invariant.0.behind), omega arith)
 
 pub returns-in_default : goal.returns-in_default
 returns-in_default c = let a = c.args in
     let k = c.loop-i in
     unusable_here a.image.now a.sets.now a.right_sets a.left.now a.right.now a.frame.now c.requires.0 k.parts k.count k.i k.invariant.0 (omega arith)
-    (sym (by_states a.image.now a.sets.now a.right_sets a.left.now a.right.now a.frame.now k.i _ _ c.wide16-s.ensures.0 c.wide16.ensures.0 _ c.in_default.ensures))
+    (sym (by_states a.image.now a.sets.now a.right_sets a.left.now a.right.now a.frame.now k.i _ _ c.from-s.ensures c.from.ensures _ c.in_default.ensures))
 
 pub returns-in_default-choice : goal.returns-in_default-choice
 returns-in_default-choice c = let a = c.args in
     let k = c.loop-i in
     none_here a.image.now a.sets.now a.right_sets a.left.now a.right.now a.frame.now c.requires.0 k.parts k.count k.i k.invariant.0 (omega arith)
-    (sym (by_states a.image.now a.sets.now a.right_sets a.left.now a.right.now a.frame.now k.i _ _ c.wide16-s.ensures.0 c.wide16.ensures.0 _ c.in-Ok.ensures) ∙ ap (λ (x : Option Chosen). choice_of a.image.now (Ok x)) c.in_default-choice.is)
+    (sym (by_states a.image.now a.sets.now a.right_sets a.left.now a.right.now a.frame.now k.i _ _ c.from-s.ensures c.from.ensures _ c.in-Ok.ensures) ∙ ap (λ (x : Option Chosen). choice_of a.image.now (Ok x)) c.in_default-choice.is)
 
 pub part_of-requires : goal.part_of-requires
 part_of-requires c = let h = c.in-Ok.ensures.inside _ (ap Ok c.in-Some.is) in
@@ -77,7 +77,7 @@ loop-i-preserved c = let a = c.args in
       subst (λ (x : ℕ). Gone a.image.now a.sets.now a.right_sets a.left.now a.right.now a.frame.now (set k.parts k.count c.part_of.result) (k.count + 1) x) (sym h.1.1)
           (next a.image.now a.sets.now a.right_sets a.left.now a.right.now a.frame.now c.requires.0 k.parts k.count k.i k.invariant.0 (omega arith)
           _ _
-          (sym (by_states a.image.now a.sets.now a.right_sets a.left.now a.right.now a.frame.now k.i _ _ c.wide16-s.ensures.0 c.wide16.ensures.0 _ c.in-Ok.ensures) ∙ ap (λ (x : Option Chosen). choice_of a.image.now (Ok x)) c.in-Some.is)
+          (sym (by_states a.image.now a.sets.now a.right_sets a.left.now a.right.now a.frame.now k.i _ _ c.from-s.ensures c.from.ensures _ c.in-Ok.ensures) ∙ ap (λ (x : Option Chosen). choice_of a.image.now (Ok x)) c.in-Some.is)
           h.0 _ c.part_of.ensures _ refl w.target-least w.target-most),
       length-set k.parts k.count _ ∙ k.invariant.1,
     )

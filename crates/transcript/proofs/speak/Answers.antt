@@ -18,13 +18,13 @@ answer_line-requires c = let a = c.args in
     let w = c.speak_valid-answer in
     let lp : length w.new.phones ≡ 256 = search rules in
     let ln : length w.new.numbers ≡ 64 = search rules in
-    (omega arith, (omega arith, (search rules, told_within a.image.now a.words.now a.sets.now a.name.now (told_of w.result.speech) w.result.steps w.new.phones w.new.numbers w.ensures _ _ lp ln)))
+    (omega arith, (omega arith, (search rules, told_within a.rules.bytes.now a.words.now a.sets.now a.name.now (told_of w.result.speech) w.result.steps w.new.phones w.new.numbers w.ensures _ _ lp ln)))
 
 pub returns : goal.returns
 unfolding lent_phones lent_numbers
 returns c = let a = c.args in
     let w = c.speak_valid-answer in
-    let e = name_line_is a.image.now a.words.now a.sets.now a.name.now (told_of w.result.speech) w.result.steps w.new.phones w.new.numbers w.ensures in
+    let e = name_line_is a.rules.bytes.now a.words.now a.sets.now a.name.now (told_of w.result.speech) w.result.steps w.new.phones w.new.numbers w.ensures in
     let s = c.answer_line in
     record {
       len = s.ensures.len ∙ ap length e;

@@ -1,5 +1,6 @@
 -- `walk::other_count` meets its contract.
 -- Assumes nothing.
+use mathlib.Core.Path.{refl}
 use native.Mathlib.Omega.{arith}
 use Rattle.walk.proofs.Walked.{count_differs}
 use Rattle.walk.proofs.other_count.Goals as goal
@@ -14,4 +15,4 @@ pub bounds-words-1 : goal.bounds-words-1
 bounds-words-1 c = let h = c.requires (c.if-not-long.false) in omega (arith, h)
 
 pub returns : goal.returns
-returns c = count_differs c.args.words.now _ _ _ _ c.args.long (c.if-not-long.false) c.wide16-high.ensures.0 c.wide16-low.ensures.0 c.wide32.ensures.0
+returns c = count_differs c.args.words.now _ _ _ _ c.args.long (c.if-not-long.false) c.from-high.ensures c.from-low.ensures refl

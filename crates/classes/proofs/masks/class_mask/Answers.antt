@@ -23,7 +23,7 @@ pub returns-then-c-gt-MAX_LETTER : goal.returns-then-c-gt-MAX_LETTER
 returns-then-c-gt-MAX_LETTER c = none_high c.args.letters.now (omega arith) (omega arith) c.loop-c.low c.loop-c.mask c.loop-c.c-index c.loop-c.invariant (omega arith) _ refl c.if-c-gt-MAX_LETTER.true
 
 pub loop-c-preserved : goal.loop-c-preserved
-loop-c-preserved c = taken_next c.args.letters.now (omega arith) (omega arith) c.loop-c.low c.loop-c.mask c.loop-c.c-index c.loop-c.invariant (omega arith) _ refl c.if-c-low.false c.if-c-gt-MAX_LETTER.false _ (c.with_bit-mask.ensures ∙ ap (λ (n : ℕ). bit_or c.loop-c.mask (2 ^ n)) c.wide64.ensures.0)
+loop-c-preserved c = taken_next c.args.letters.now (omega arith) (omega arith) c.loop-c.low c.loop-c.mask c.loop-c.c-index c.loop-c.invariant (omega arith) _ refl c.if-c-low.false c.if-c-gt-MAX_LETTER.false _ (c.with_bit-mask.ensures ∙ ap (λ (n : ℕ). bit_or c.loop-c.mask (2 ^ n)) c.from.ensures)
 
 pub returns : goal.returns
 returns c = taken_end c.args.letters.now (omega arith) (omega arith) c.loop-c.low c.loop-c.mask c.loop-c.c-index c.loop-c.invariant (omega arith)

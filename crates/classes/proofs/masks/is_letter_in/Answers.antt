@@ -17,10 +17,10 @@ pub returns-then-not-has_bit : goal.returns-then-not-has_bit
 returns-then-not-has_bit c = sym
     (letter_is c.args.mask c.args.letter c.args.d (omega arith) c.requires
     ∙ ap (λ (b : Bool). b && eqb (ones_in c.args.letter c.args.mask) c.args.d)
-    (ap (bit c.args.mask) (sym c.wide64-y.ensures.0) ∙ (sym c.has_bit.ensures ∙ c.if-not-has_bit.true)))
+    (ap (bit c.args.mask) (sym c.from-y.ensures) ∙ (sym c.has_bit.ensures ∙ c.if-not-has_bit.true)))
 
 pub returns : goal.returns
-returns c = let w = c.wide64-y.ensures.0 in
+returns c = let w = c.from-y.ensures in
     sym
     (letter_is c.args.mask c.args.letter c.args.d (omega arith) c.requires
     ∙ ap₂ (λ (b : Bool) (n : ℕ). b && eqb n c.args.d)

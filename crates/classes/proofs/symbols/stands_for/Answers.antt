@@ -14,5 +14,5 @@ returns-then-letter-gt63 c = stands_high c.args.masks.now c.args.symbol c.args.l
 
 pub returns : goal.returns
 returns c = c.has_bit.ensures
-    ∙ (ap (bit c.mask_of-mask.result) c.wide64.ensures.0
+    ∙ (ap (bit c.mask_of-mask.result) c.from.ensures
     ∙ stands_bit c.args.masks.now c.args.symbol c.args.letter c.mask_of-mask.result c.mask_of-mask.ensures (omega arith))

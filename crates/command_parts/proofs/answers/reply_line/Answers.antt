@@ -3,12 +3,11 @@
 use mathlib.Core.Path.{◌∙◌}
 use Rattle.image.specs.Image.{last_of}
 use Rattle.command_parts.proofs.Replies.{gives_last, gives_refusal}
-use borrow.Author.Rules.{rules}
 use Rattle.command_parts.proofs.answers.reply_line.Goals as goal
 
 pub returns-in-Ok : goal.returns-in-Ok
 returns-in-Ok c = let a = c.args in
-    let told = gives_last a.answer (last_of a.image.now) _ a.out.now _ c.in-Ok.is _ (c.wide16.ensures.0 ∙ c.last_issued.ensures) c.last_line.ensures.len c.last_line.ensures.bytes in
+    let told = gives_last a.answer (last_of a.image.now) _ a.out.now _ c.in-Ok.is _ (c.from.ensures ∙ c.last_issued.ensures) c.last_line.ensures.len c.last_line.ensures.bytes in
     record {
       len = told.0;
       bytes = told.1;

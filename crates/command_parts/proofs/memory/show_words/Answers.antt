@@ -1,13 +1,9 @@
 -- `command_parts::memory::show_words` meets its contract: the part that is asked for, where it is inside.
 -- Assumes nothing.
 use mathlib.Core.Path.{sym, ◌∙◌}
-use native.Mathlib.Omega.{arith}
-use borrow.Author.Tests.{not-true, not-false}
-use lib.ListN.{length}
 use Rattle.lines.specs.Printed.{twos}
 use Rattle.command_parts.specs.Memory.{shown_words}
-use Rattle.command_parts.proofs.Shown.{inside_size, inside_end, part_not, part_shown}
-use borrow.Author.Rules.{rules}
+use Rattle.command_parts.proofs.Shown.{part_not, part_shown}
 use Rattle.command_parts.proofs.memory.show_words.Goals as goal
 
 pub returns-then-not-is_inside : goal.returns-then-not-is_inside
@@ -19,19 +15,10 @@ returns-then-not-is_inside c = let a = c.args in
       bytes = told.1;
     }
 
-pub four_at-i-requires : goal.four_at-i-requires
-four_at-i-requires c = omega (arith, inside_size c.args.f.now (length c.args.words.now) (sym c.is_inside.ensures ∙ c.if-not-is_inside.false))
-
-pub bounds-f-5 : goal.bounds-f-5
-bounds-f-5 c = omega (arith, inside_size c.args.f.now (length c.args.words.now) (sym c.is_inside.ensures ∙ c.if-not-is_inside.false))
-
-pub slice_bounds-words_line-end : goal.slice_bounds-words_line-end
-slice_bounds-words_line-end c = omega (arith, c.wide.ensures.0, c.four_at-i.ensures.0, inside_end c.args.f.now (length c.args.words.now) (sym c.is_inside.ensures ∙ c.if-not-is_inside.false))
-
 pub returns : goal.returns
 unfolding shown_words
 returns c = let a = c.args in
-    let told = part_shown twos a.f.now a.words.now _ a.out.now _ (sym c.is_inside.ensures ∙ c.if-not-is_inside.false) _ _ c.four_at-i.ensures.0 c.wide.ensures.0 (c.words_line.ensures.len, c.words_line.ensures.bytes) in
+    let told = part_shown twos a.f.now a.words.now _ a.out.now _ (sym c.is_inside.ensures ∙ c.if-not-is_inside.false) _ _ c.four_at-i.ensures.0 c.from.ensures (c.words_line.ensures.len, c.words_line.ensures.bytes) in
     record {
       len = told.0;
       bytes = told.1;

@@ -1,13 +1,10 @@
 -- `file::class_writing::put_class` meets its contract: the type, the symbol, the letter count, the letters.
 -- Assumes nothing.
-use Prim.Native.Nat.{ℕ, ◌%◌}
-use mathlib.Core.Path.{◌≡◌, ap, ◌∙◌}
+use Prim.Native.Nat.{ℕ}
+use mathlib.Core.Path.{ap}
 use mathlib.Core.List.{[], ◌∷◌}
 use native.Mathlib.Omega.{arith}
-use lib.ListN.{length}
-use Rattle.classes.specs.Masks.{letters_in}
 use Rattle.frames.proofs.Output.{sent_then, sent_as}
-use borrow.Author.Rules.{rules}
 use Rattle.file.proofs.class_writing.put_class.Goals as goal
 
 pub put_from-a-requires : goal.put_from-a-requires
@@ -23,7 +20,7 @@ pub put_letters-requires : goal.put_letters-requires
 put_letters-requires c = let p = c.requires in (omega (arith, p.0, c.put_from-a.ensures.next, c.put_from-b.ensures.next, c.put_from-c.ensures.next), p.1)
 
 pub returns : goal.returns
-returns c = let a = c.args in let t = c.put_from-a.ensures in let s = c.put_from-b.ensures in let m = c.size_in-n.ensures in let n = c.put_from-c.ensures in let z = c.put_letters.ensures in let e : length (letters_in a.mask) % 256 ≡ length (letters_in a.mask) = omega (arith, m.0, m.1) in let f = sent_as (ap (λ (i : ℕ). i ∷ []) (c.low.ensures ∙ (ap (λ (i : ℕ). i % 256) m.0 ∙ e))) n.sent in
+returns c = let a = c.args in let t = c.put_from-a.ensures in let s = c.put_from-b.ensures in let m = c.size_in-n.ensures in let n = c.put_from-c.ensures in let z = c.put_letters.ensures in let f = sent_as (ap (λ (i : ℕ). i ∷ []) m.0) n.sent in
     record {
       next = omega (arith, t.next, s.next, n.next, z.next);
       sent = sent_then (sent_then (sent_then t.sent s.sent) f) z.sent;

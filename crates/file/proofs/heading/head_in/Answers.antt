@@ -14,7 +14,7 @@ pub returns-then-f-ne-FIRST_EDITION : goal.returns-then-f-ne-FIRST_EDITION
 returns-then-f-ne-FIRST_EDITION c = head-edition c.args.next c.args.f.now c.if-f-ne-HEAD.false c.if-f-ne-HEAD_TYPE.false c.if-f-ne-FIRST_EDITION.true
 
 pub returns-then-count-gt-MAX_RULES : goal.returns-then-count-gt-MAX_RULES
-returns-then-count-gt-MAX_RULES c = head_many c.args.next c.args.f.now c.if-f-ne-HEAD.false c.if-f-ne-HEAD_TYPE.false c.if-f-ne-FIRST_EDITION.false c.wide16-count.result (c.wide16-count.ensures.0 ∙ c.two_at.ensures) c.if-count-gt-MAX_RULES.true
+returns-then-count-gt-MAX_RULES c = head_many c.args.next c.args.f.now c.if-f-ne-HEAD.false c.if-f-ne-HEAD_TYPE.false c.if-f-ne-FIRST_EDITION.false c.from-count.result (c.from-count.ensures ∙ c.two_at.ensures) c.if-count-gt-MAX_RULES.true
 
 pub returns : goal.returns
-returns c = head_ok c.args.next c.args.f.now c.if-f-ne-HEAD.false c.if-f-ne-HEAD_TYPE.false c.if-f-ne-FIRST_EDITION.false c.wide16-count.result (c.wide16-count.ensures.0 ∙ c.two_at.ensures) c.if-count-gt-MAX_RULES.false _ c.two_at-last.ensures
+returns c = head_ok c.args.next c.args.f.now c.if-f-ne-HEAD.false c.if-f-ne-HEAD_TYPE.false c.if-f-ne-FIRST_EDITION.false c.from-count.result (c.from-count.ensures ∙ c.two_at.ensures) c.if-count-gt-MAX_RULES.false _ c.two_at-last.ensures

@@ -23,10 +23,10 @@ pub slice_bounds-literal_count-end-2 : goal.slice_bounds-literal_count-end-2
 slice_bounds-literal_count-end-2 c = let nr : length c.args.rule.right ≡ max_context = search rules in sym (length-take-le _ _ (omega (arith, right_few c.args.rule c.requires.1.1)))
 
 pub returns-then-count-lt1 : goal.returns-then-count-lt1
-returns-then-count-lt1 c = let a = c.args in let s = c.requires.1.1 in let nl : length a.rule.left ≡ max_context = search rules in let nr : length a.rule.right ≡ max_context = search rules in total_none a.rule s a.before (classes_in a.masks.now) _ _ c.literal_count-count.result c.wide-l.ensures.0 c.wide-r.ensures.0 nl nr c.literal_count-count.ensures.0 c.if-count-lt1.true
+returns-then-count-lt1 c = let a = c.args in let s = c.requires.1.1 in let nl : length a.rule.left ≡ max_context = search rules in let nr : length a.rule.right ≡ max_context = search rules in total_none a.rule s a.before (classes_in a.masks.now) _ _ c.literal_count-count.result c.from-l.ensures c.from-r.ensures nl nr c.literal_count-count.ensures.0 c.if-count-lt1.true
 
 pub returns-then-before-count-gt-MAX_RULES : goal.returns-then-before-count-gt-MAX_RULES
-returns-then-before-count-gt-MAX_RULES c = let a = c.args in let s = c.requires.1.1 in let nl : length a.rule.left ≡ max_context = search rules in let nr : length a.rule.right ≡ max_context = search rules in total_over a.rule s a.before (classes_in a.masks.now) _ _ c.literal_count-count.result c.wide-l.ensures.0 c.wide-r.ensures.0 nl nr c.literal_count-count.ensures.0 c.if-before-count-gt-MAX_RULES.true
+returns-then-before-count-gt-MAX_RULES c = let a = c.args in let s = c.requires.1.1 in let nl : length a.rule.left ≡ max_context = search rules in let nr : length a.rule.right ≡ max_context = search rules in total_over a.rule s a.before (classes_in a.masks.now) _ _ c.literal_count-count.result c.from-l.ensures c.from-r.ensures nl nr c.literal_count-count.ensures.0 c.if-before-count-gt-MAX_RULES.true
 
 pub returns : goal.returns
-returns c = let a = c.args in let s = c.requires.1.1 in let nl : length a.rule.left ≡ max_context = search rules in let nr : length a.rule.right ≡ max_context = search rules in total_more a.rule s a.before (classes_in a.masks.now) _ _ c.literal_count-count.result c.wide-l.ensures.0 c.wide-r.ensures.0 nl nr c.literal_count-count.ensures.0 c.if-count-lt1.false c.if-before-count-gt-MAX_RULES.false
+returns c = let a = c.args in let s = c.requires.1.1 in let nl : length a.rule.left ≡ max_context = search rules in let nr : length a.rule.right ≡ max_context = search rules in total_more a.rule s a.before (classes_in a.masks.now) _ _ c.literal_count-count.result c.from-l.ensures c.from-r.ensures nl nr c.literal_count-count.ensures.0 c.if-count-lt1.false c.if-before-count-gt-MAX_RULES.false

@@ -9,4 +9,4 @@ use Rattle.file.proofs.FileBytes.{Sized}
 use Rattle.file.proofs.writing.file_size.Given as goal
 
 abbrev pub invariant-loop-i : goal.invariant-loop-i
-invariant-loop-i l = Sized l.image (head_line_size + length (class_lines (classes_of l.image))) l.n l.i
+invariant-loop-i l = Sized l.rules.bytes.now (head_line_size + length (class_lines (classes_of l.rules.bytes.now))) l.n l.i

@@ -1,26 +1,20 @@
 -- `file::writing::write_rules` meets its contract. The loop's invariant: the lines of the rules so far stand from `from` on.
 -- Assumes nothing.
-use Prim.Native.Nat.{◌-◌}
 use native.Mathlib.Omega.{arith}
-use Rattle.image.proofs.Tests.{valid_long}
-use Rattle.file.proofs.FileBytes.{Lined, lined_start, lined_length, lined_end, lined_room, lined_next}
-use borrow.Author.Rules.{rules}
+use Rattle.file.proofs.FileBytes.{lined_start, lined_length, lined_end, lined_room, lined_next}
 use Rattle.file.proofs.writing.write_rules.Goals as goal
 
-pub rule_count-count-requires : goal.rule_count-count-requires
-rule_count-count-requires c = valid_long c.args.image.now c.requires.0
-
 pub loop-i-init : goal.loop-i-init
-loop-i-init c = let a = c.args in let p = c.requires in lined_start a.image.now a.from a.out.now p.1.1
+loop-i-init c = let a = c.args in let p = c.requires in lined_start a.rules.bytes.now a.from a.out.now p.1
 
 pub write_rule-at-requires : goal.write_rule-at-requires
-write_rule-at-requires c = let a = c.args in let p = c.requires in let l = c.loop-i in (p.0, (omega arith, (p.1.0, lined_room a.image.now a.from a.out.now p.1.1 l.out l.at l.i l.invariant (omega arith))))
+write_rule-at-requires c = let a = c.args in let p = c.requires in let l = c.loop-i in (omega arith, (p.0, lined_room a.rules.bytes.now a.from a.out.now p.1 l.out l.at l.i l.invariant (omega arith)))
 
 pub loop-i-preserved : goal.loop-i-preserved
-loop-i-preserved c = let a = c.args in let p = c.requires in let l = c.loop-i in lined_next a.image.now a.from a.out.now p.1.1 l.out l.at l.i l.invariant (omega arith) _ c.write_rule-at.result c.write_rule-at.ensures.bytes c.write_rule-at.ensures.next
+loop-i-preserved c = let a = c.args in let p = c.requires in let l = c.loop-i in lined_next a.rules.bytes.now a.from a.out.now p.1 l.out l.at l.i l.invariant (omega arith) _ c.write_rule-at.result c.write_rule-at.ensures.bytes c.write_rule-at.ensures.next
 
 pub shape_of-out : goal.shape_of-out
-shape_of-out c = let a = c.args in let p = c.requires in let l = c.loop-i in lined_length a.image.now a.from a.out.now p.1.1 l.out l.at l.i l.invariant
+shape_of-out c = let a = c.args in let p = c.requires in let l = c.loop-i in lined_length a.rules.bytes.now a.from a.out.now p.1 l.out l.at l.i l.invariant
 
 pub returns : goal.returns
-returns c = let a = c.args in let p = c.requires in let l = c.loop-i in lined_end a.image.now a.from a.out.now p.1.1 l.out l.at l.i l.invariant (omega arith)
+returns c = let a = c.args in let p = c.requires in let l = c.loop-i in lined_end a.rules.bytes.now a.from a.out.now p.1 l.out l.at l.i l.invariant (omega arith)

@@ -4,4 +4,4 @@ use Rattle.file.proofs.FileBytes.{Lined}
 use Rattle.file.proofs.writing.write_rules.Given as goal
 
 abbrev pub invariant-loop-i : goal.invariant-loop-i
-invariant-loop-i l = Lined l.image l.from l.initial.out l.out l.at l.i
+invariant-loop-i l = Lined l.rules.bytes.now l.from l.initial.out l.out l.at l.i

@@ -1,6 +1,6 @@
 -- `frames::writer::put_from` meets its contract: the table has the byte's digits.
 -- Assumes nothing.
-use Rattle.std.proofs.Common.{ℕ, ◌+◌, ◌*◌, List, length, get_or, ap, ◌∙◌, ap₂, arith, rules}
+use Rattle.std.proofs.Common.{ℕ, ◌+◌, ◌*◌, List, length, get_or, ap, ◌∙◌, ap₂, arith}
 use Rattle.frames.proofs.DigitPairs.{pairs_length, pair_high, pair_low}
 use Rattle.frames.proofs.writer.put_from.Goals as goal
 
@@ -13,7 +13,7 @@ bounds-pairs-i-2 c = let l = ap length c.requires.1 ∙ pairs_length in omega ar
 pub put_digits-requires : goal.put_digits-requires
 put_digits-requires c = let b = c.args.b in
     let p = c.requires in
-    let e = c.wide-i.ensures.0 in (
+    let e = c.from-i.ensures in (
       p.0,
       (
         ap₂ (λ (l : List ℕ) (i : ℕ). get_or l (2 * i) 0) p.1 e ∙ pair_high b (omega arith),

@@ -13,8 +13,8 @@ use Rattle.many_names.proofs.Answering.{Going, begin, next, end-count, end-repli
 use Rattle.host.proofs.Answering.{walk_fits, all_is}
 use Rattle.host.proofs.many.speak_all.Given as goal
 
-abbrev pub invariant-loop-phones : goal.invariant-loop-phones
-invariant-loop-phones l = Going (walk_said l.image (listing_of l.list) l.words l.sets) l.names l.limit l.initial.phones l.initial.numbers l.initial.replies l.phones l.numbers l.replies l.p
+abbrev pub invariant-loop-rules : goal.invariant-loop-rules
+invariant-loop-rules l = Going (walk_said l.rules.bytes.now (listing_of l.list) l.words l.sets) l.names l.limit l.initial.phones l.initial.numbers l.initial.replies l.phones l.numbers l.replies l.p
 
-abbrev pub decreases-loop-phones : goal.decreases-loop-phones
-decreases-loop-phones l = l.limit - l.p.count
+abbrev pub decreases-loop-rules : goal.decreases-loop-rules
+decreases-loop-rules l = l.limit - l.p.count

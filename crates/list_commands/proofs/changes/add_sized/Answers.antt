@@ -2,7 +2,6 @@
 -- Assumes nothing.
 use Prim.Native.Nat.{ℕ, ◌+◌}
 use mathlib.Core.Path.{ap}
-use borrow.Author.Rules.{rules}
 use lib.Dec.{leb}
 use lib.ListN.{length}
 use Rattle.list_commands.proofs.Frames.{add_short}
@@ -12,4 +11,4 @@ pub returns-then-f-lt2 : goal.returns-then-f-lt2
 returns-then-f-lt2 c = add_short c.args.f.now c.if-f-lt2.true
 
 pub returns : goal.returns
-returns c = ap (λ (n : ℕ). leb (2 + n) (length c.args.f.now)) c.wide.ensures.0
+returns c = ap (λ (n : ℕ). leb (2 + n) (length c.args.f.now)) c.from.ensures

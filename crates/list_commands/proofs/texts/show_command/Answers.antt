@@ -3,11 +3,7 @@
 use Prim.Native.Nat.{ℕ}
 use mathlib.Core.Path.{sym, ◌∙◌}
 use mathlib.Core.List.{List}
-use native.Mathlib.Omega.{arith}
-use borrow.Author.Tests.{not-true, not-false}
-use borrow.Author.Rules.{rules}
-use lib.ListN.{length}
-use Rattle.command_parts.proofs.Shown.{inside_size, inside_end, part_not, part_shown}
+use Rattle.command_parts.proofs.Shown.{part_not, part_shown}
 use Rattle.list_commands.specs.ListCommands.{shown_text}
 use Rattle.list_commands.proofs.texts.show_command.Goals as goal
 
@@ -20,19 +16,10 @@ returns-then-not-is_inside c = let a = c.args in
       bytes = told.1;
     }
 
-pub four_at-i-requires : goal.four_at-i-requires
-four_at-i-requires c = omega (arith, inside_size c.args.f.now (length c.args.text.now) (sym c.is_inside.ensures ∙ c.if-not-is_inside.false))
-
-pub bounds-f-5 : goal.bounds-f-5
-bounds-f-5 c = omega (arith, inside_size c.args.f.now (length c.args.text.now) (sym c.is_inside.ensures ∙ c.if-not-is_inside.false))
-
-pub slice_bounds-bytes_line-end : goal.slice_bounds-bytes_line-end
-slice_bounds-bytes_line-end c = omega (arith, c.wide.ensures.0, c.four_at-i.ensures.0, inside_end c.args.f.now (length c.args.text.now) (sym c.is_inside.ensures ∙ c.if-not-is_inside.false))
-
 pub returns : goal.returns
 unfolding shown_text
 returns c = let a = c.args in
-    let told = part_shown (λ (x : List ℕ). x) a.f.now a.text.now _ a.out.now _ (sym c.is_inside.ensures ∙ c.if-not-is_inside.false) _ _ c.four_at-i.ensures.0 c.wide.ensures.0 (c.bytes_line.ensures.len, c.bytes_line.ensures.bytes) in
+    let told = part_shown (λ (x : List ℕ). x) a.f.now a.text.now _ a.out.now _ (sym c.is_inside.ensures ∙ c.if-not-is_inside.false) _ _ c.four_at-i.ensures.0 c.from.ensures (c.bytes_line.ensures.len, c.bytes_line.ensures.bytes) in
     record {
       len = told.0;
       bytes = told.1;

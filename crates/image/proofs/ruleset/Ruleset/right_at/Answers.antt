@@ -1,0 +1,11 @@
+-- `image::ruleset::Ruleset::right_at` meets its contract.
+-- Assumes nothing.
+use mathlib.Core.Path.{◌∙◌}
+use Rattle.image.proofs.Entries.{right_field}
+use Rattle.image.proofs.ruleset.Ruleset.right_at.Goals as goal
+
+pub run_at-requires : goal.run_at-requires
+run_at-requires c = let x = right_field _ c.args.self.sound _ c.requires in (x.len-in, x.run_in)
+
+pub returns : goal.returns
+returns c = c.run_at.ensures ∙ (right_field _ c.args.self.sound _ c.requires).is
