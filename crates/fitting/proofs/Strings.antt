@@ -1,15 +1,15 @@
 -- Laws of strings of symbols: when one starts, ends or equals another, told by runs of the same length, and frames.
 -- Assumes nothing.
 use Prim.Native.Nat.{ℕ, zero, suc, ◌+◌, ◌-◌, ◌≤◌, ◌<◌}
-use mathlib.Core.Path.{◌≡◌, refl, sym, ap, ◌∙◌}
+use mathlib.Core.Path.{◌≡◌, refl, sym, ap, ap₂, ◌∙◌}
 use mathlib.Core.List.{List, [], ◌∷◌, ◌++◌}
 use mathlib.Core.Bool.{Bool, true, false, ◌&&◌, ◌||◌, true≢false}
 use native.Mathlib.Omega.{arith}
-use borrow.Author.Tests.{leb-true, leb-false}
+use native.Mathlib.Numerals.{add-one}
+use borrow.Author.Tests.{leb-true, leb-false, eq-eqb, ne_eqb}
 use lib.Dec.{eqb, leb}
-use lib.ListN.{length, take, drop, length-append, length-drop}
-use lib.Seq.{length-take-le, take-nil}
-use Rattle.std.specs.Cmp.Lexicographic.{pointwise}
+use lib.ListN.{length, get_or, take, drop, length-append, length-drop, drop_of_length-le}
+use lib.Seq.{drop-cons, length-take-le, take-nil}
 use Rattle.rules.proofs.Cases.{by_bool}
 use Rattle.fitting.specs.Fitting.{Str, same, starts, ends, frame}
 
@@ -54,12 +54,6 @@ starts_same [] w h = refl
 starts_same (x ∷ s) [] h = absurd (omega arith)
 starts_same (x ∷ s) (y ∷ w) h = ap (λ (b : Bool). eqb x y && b) (starts_same s w (omega arith))
 
--- what `starts_with` says of two slices
-pub starts_pointwise : (s w : Str) → pointwise eqb s (take (length s) w) ≡ starts s w
-starts_pointwise [] w = refl
-starts_pointwise (x ∷ s) [] = refl
-starts_pointwise (x ∷ s) (y ∷ w) = ap (λ (b : Bool). eqb x y && b) (starts_pointwise s w)
-
 pub starts_most : (s w : Str) → starts s w ≡ true → length s ≤ length w
 starts_most s w e = by_bool (leb (length s) (length w)) (λ q. leb-true (length s) (length w) q) (λ q. clash e (starts_long s w (leb-false (length s) (length w) q)))
 
@@ -85,6 +79,38 @@ ends_same s (y ∷ w) h =
     let l = leb-false (length s) (length w) q in
     let e : suc (length w) - length s ≡ 0 = omega arith in
     rw (ends_long s w l, e) (or-false (same s (y ∷ w))))
+
+-- A loop that compares a with b from q on: after i symbols the rest decides.
+module _ (a b : Str) (q : ℕ) (room : q + length a ≤ length b) where
+  abbrev pub ahead : ℕ → Bool
+  ahead i = same (drop i a) (take (length a - i) (drop (q + i) b))
+
+  front : (i : ℕ) → i < length a
+      → ahead i ≡ (eqb (get_or a i 0) (get_or b (q + i) 0) && ahead (i + 1))
+  front i h =
+      let e : length a - i ≡ suc (length a - (i + 1)) = omega arith in
+      let f : suc (q + i) ≡ q + (i + 1) = omega arith in
+      ap₂ same (drop-cons a i 0 h)
+      (ap₂ (λ (k : ℕ) (l : Str). take k l) e (drop-cons b (q + i) 0 (omega arith))
+      ∙ ap (λ (k : ℕ). get_or b (q + i) 0 ∷ take (length a - (i + 1)) (drop k b)) f)
+      ∙ ap (λ (k : ℕ). eqb (get_or a i 0) (get_or b (q + i) 0) && same (drop k a) (take (length a - (i + 1)) (drop (q + (i + 1)) b))) (sym (add-one i))
+
+  pub run_begin : same a (take (length a) (drop q b)) ≡ ahead 0
+  run_begin =
+      let e : length a - 0 ≡ length a = omega arith in
+      let f : q + 0 ≡ q = omega arith in
+      rw (e, f)
+
+  pub run_on : (i : ℕ) → i < length a → get_or a i 0 ≡ get_or b (q + i) 0 → ahead i ≡ ahead (i + 1)
+  run_on i h e = front i h ∙ ap (λ (t : Bool). t && ahead (i + 1)) (eq-eqb _ _ e)
+
+  pub run_off : (i : ℕ) → i < length a → (get_or a i 0 ≡ get_or b (q + i) 0 → ⊥) → ahead i ≡ false
+  run_off i h e = front i h ∙ ap (λ (t : Bool). t && ahead (i + 1)) (ne_eqb _ _ e)
+
+  pub run_end : (i : ℕ) → length a ≤ i → ahead i ≡ true
+  run_end i h =
+      let e : length a - i ≡ 0 = omega arith in
+      rw (e, drop_of_length-le a {i = i} h)
 
 pub drop_take : (k m j : ℕ) (l : List ℕ) → k + m ≡ j → drop k (take j l) ≡ take m (drop k l)
 drop_take zero m j l e = let z : j ≡ m = omega arith in rw z

@@ -1,14 +1,13 @@
 -- `fitting::starts_at` meets its contract.
 -- Assumes nothing.
-use mathlib.Core.Path.{ap, ◌∙◌}
+use mathlib.Core.Path.{sym, ◌∙◌}
 use native.Mathlib.Omega.{arith}
-use lib.ListN.{drop, length-drop}
-use Rattle.std.proofs.lemmas.List.{take_all}
-use Rattle.fitting.specs.Fitting.{Str, starts}
-use Rattle.fitting.proofs.Strings.{starts_pointwise}
+use Rattle.fitting.proofs.Strings.{starts_past, starts_run}
+use borrow.Author.Rules.{rules}
 use Rattle.fitting.proofs.starts_at.Goals as goal
 
+pub returns-then-frame-i : goal.returns-then-frame-i
+returns-then-frame-i c = sym (starts_past c.args.pattern.now c.args.frame.now c.args.i c.requires c.if-frame-i.true)
+
 pub returns : goal.returns
-returns c = let a = c.args in
-    let f = drop a.i a.frame.now in
-    c.starts_with.ensures.value ∙ (starts_pointwise a.pattern.now _ ∙ ap (λ (w : Str). starts a.pattern.now w) (take_all _ f (omega (arith, length-drop a.i a.frame.now))))
+returns c = c.same_run.ensures ∙ sym (starts_run c.args.pattern.now c.args.frame.now c.args.i c.requires (omega arith))
