@@ -4,10 +4,10 @@ ghost use Rattle.rules.specs.Limits.{max_rules};
 ghost use Rattle.image.specs.Image.{image_size};
 
 use crate::printing::verdict;
-use crate::refused::{Outcome, accepted};
+use crate::refused::{Outcome, Refused, accepted};
 use crate::ruleset::Ruleset;
 use crate::searches::Tried;
-use rules::{MAX_NUMBER, Rule};
+use rules::{MAX_NUMBER, Refusal, Rule};
 
 // Whether the ruleset's file has just these bytes.
 fn writes(image: &[u8], file: &[u8], out: &mut [u8]) -> bool {
@@ -81,8 +81,12 @@ const RULE_FOR_A: Rule = Rule {
 // that.
 #[tactic(auto, using(image::proofs::Tests::valid_long, image::proofs::Tests::valid_count))]
 pub fn edit(rt: &impl Print, image: &mut [u8]) {
-    // Memory that is no ruleset has nothing to edit.
     let Some(judged) = image::ruleset::Ruleset::judge(image) else {
+        // The memory is no ruleset any more, and so no edit of it is accepted.
+        let fault = verdict(false);
+        let came = Refused::from(Refusal::NotRuleset(0));
+        let _ = println!(rt; "{fault} a rule leaves: came {came}");
+        let _ = println!(rt; "{fault} no number is given twice: came {came}");
         return;
     };
     let rules = Ruleset { image: judged };

@@ -1,5 +1,6 @@
 // Standard input, cut into lines: a line is given as soon as its 0A has arrived, and no more is read before that one is asked for.
-ghost use Rattle.std.specs.Prelude.{◌≡◌, ◌≢◌, ℕ, ◌<◌, ◌≤◌, length, slice_index, IfSome, MatchOption, EachIndex};
+ghost use Rattle.std.specs.Prelude.{◌≡◌, ◌≢◌, ℕ, false, ◌<◌, ◌≤◌, length, slice_index, IfSome, MatchOption, EachIndex};
+ghost use Rattle.monitor.specs.Lines.{text_of};
 
 use std::io::Read;
 
@@ -9,7 +10,7 @@ pub const MAX_LINE: usize = 4096;
 const PIECE: usize = 4096;
 
 // The bytes of a line that have arrived. A line that fills the memory is too long: its 0A has no room.
-#[derive(Drop)]
+#[derive(Clone, Copy)]
 struct Line {
     bytes: [u8; MAX_LINE + 1],
     len: usize,
@@ -31,7 +32,8 @@ impl Line {
     // The line has ended: how many bytes are the text to answer, with its 0A. None for a line that is too long, so that it is as unsound as an
     // empty one.
     fn end(&mut self) -> usize
-        ensures { result ≤ 4097 }
+        ensures text { result ≡ text_of self.old.len }
+        ensures begun { self.new.len ≡ 0 }
     {
         let n = self.len;
         self.len = 0;
@@ -64,8 +66,19 @@ fn line_end(arrived: &[u8]) -> Option<usize>
     arrived.iter().position(|&x| x == b'\n')
 }
 
+// What the input ends in: a line that has not ended, which has no text, or nothing more where no byte of one is held.
+fn at_end(held: usize) -> Option<usize>
+    ensures { MatchOption result (held ≡ 0) (λ n. (n ≡ 0) × (held ≢ 0)) }
+{
+    (held != 0).then_some(0)
+}
+
 impl Input {
-    pub fn new() -> Input {
+    // The input before anything is read.
+    pub fn new() -> Input
+        ensures read { (result.at ≡ 0) × ((result.end ≡ 0) × (result.over ≡ false)) }
+        ensures held { result.line.len ≡ 0 }
+    {
         Input {
             piece: [0; PIECE],
             at: 0,
@@ -114,6 +127,6 @@ impl Input {
             }
         }
         *over = true;
-        (line.len != 0).then_some(0)
+        at_end(line.len)
     }
 }

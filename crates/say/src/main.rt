@@ -31,7 +31,7 @@ fn say_line<'a>(
     ensures { IfOk result (λ next. at < next) }
 {
     let mut out = [0u8; answer_lines::LONGEST_LINE];
-    let answered = transcript::answer_name(rules, words, sets, text, at, &mut out);
+    let answered = transcript::answer_name(rules.bytes, words, sets, text, at, &mut out);
     rt.write_all(&out[..answered.len])?;
     Ok(answered.next)
 }

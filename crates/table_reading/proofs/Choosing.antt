@@ -10,7 +10,7 @@ use mathlib.Core.Bool.{Bool, true, false, cond}
 use mathlib.Core.List.{List, [], ◌∷◌}
 use mathlib.Core.Option.{Option as Maybe, none, some}
 use lib.ListN.{length, get_or, set}
-use Rattle.std.specs.Prelude.{Option, Some, None, Result}
+use Rattle.std.specs.Prelude.{Some, None, Result}
 use Rattle.rules.proofs.Cases.{by_bool}
 use Rattle.rules.specs.Limits.{max_target}
 use Rattle.rules.specs.Shape.{Entry}
@@ -106,7 +106,7 @@ module _ (image ss : List ℕ) (base : ℕ) (left right f : List ℕ) where
   choose = choices_by image ss base left right f
 
   -- what is told by the sets of the two states remembered for i is the choice at i
-  pub by_states : (i l r : ℕ) → l ≡ get_or left i 0 → r ≡ get_or right i 0 → (x : Result (Option Chosen) Unusable) → Chooses image (choice_by image ss (set_size * l) (base + set_size * r) f i) i x → choice_of image x ≡ choose i
+  pub by_states : (i l r : ℕ) → l ≡ get_or left i 0 → r ≡ get_or right i 0 → (x : Result Chosen Unusable) → Chooses image (choice_by image ss (set_size * l) (base + set_size * r) f i) i x → choice_of image x ≡ choose i
   by_states i l r el er x c = c.is ∙ ap₂ (λ (y z : ℕ). choice_by image ss (set_size * y) (base + set_size * z) f i) el er
 
   -- the loop has `parts` and `count`, and stands at i

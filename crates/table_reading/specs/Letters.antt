@@ -14,6 +14,7 @@ use Rattle.tables.specs.Words.{set_size}
 use Rattle.tables.specs.Walk.{lookup}
 use Rattle.tables.specs.SetWords.{lowest_from, ones_from, meet_word}
 use Rattle.table_reading.specs.declared.Chosen.{Chosen}
+use Rattle.table_reading.specs.declared.Chosen.TheVariants.{Rule, Nothing}
 use Rattle.table_reading.specs.declared.Unusable.{Unusable}
 
 -- the place found in the words of two sets
@@ -34,15 +35,15 @@ unfoldable pub choice_by : List ℕ → List ℕ → ℕ → ℕ → List ℕ �
 choice_by image ss s t f i = lookup (λ e. fits e.rule f i) (count_shared ss s t) (literals_of image) (lowest_shared ss s t)
 
 -- what the answer says
-abbrev pub choice_of : List ℕ → Result (Option Chosen) Unusable → Choice
-choice_of image (Ok (Some x)) = chosen (apply x.fitting (entry_at image x.rule))
-choice_of image (Ok None) = nothing
+abbrev pub choice_of : List ℕ → Result Chosen Unusable → Choice
+choice_of image (Ok (Rule p n k)) = chosen (apply n (entry_at image p))
+choice_of image (Ok Nothing) = nothing
 choice_of image (Err u) = unusable
 
 -- the answer says the choice at position i, and where reading goes on from there
-pub record Chooses (image : List ℕ) (choice : Choice) (i : ℕ) (r : Result (Option Chosen) Unusable) : Type 0 where
+pub record Chooses (image : List ℕ) (choice : Choice) (i : ℕ) (r : Result Chosen Unusable) : Type 0 where
   pub is : choice_of image r ≡ choice
-  pub inside : (x : Chosen) → r ≡ Ok (Some x) → (x.rule < count_of image) × ((x.fitting ≤ max_rules) × (x.next ≡ i + length (entry_at image x.rule).rule.target))
+  pub inside : (p n k : ℕ) → r ≡ Ok (Rule p n k) → (p < count_of image) × ((n ≤ max_rules) × (k ≡ i + length (entry_at image p).rule.target))
 
 -- the choice at each position, by the remembered states; the right sets begin at set word `base`
 abbrev pub choices_by : List ℕ → List ℕ → ℕ → List ℕ → List ℕ → List ℕ → ℕ → Choice

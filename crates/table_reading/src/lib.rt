@@ -85,12 +85,12 @@ fn count_shared(sets: &[u64], s: usize, t: usize) -> usize
     count
 }
 
-// What is chosen at a reached letter: the place of the numbered rule to apply, how many literal rules fit and where reading goes on.
+// What is chosen at a reached letter: the place of the numbered rule to apply, how many literal rules fit and where reading goes on; or nothing. No Option:
+// document 01's last section names the form `let Chosen::Rule(..) = choice else`.
 #[derive(Clone, Copy)]
-struct Chosen {
-    rule: usize,
-    fitting: usize,
-    next: usize,
+enum Chosen {
+    Rule(usize, usize, usize),
+    Nothing,
 }
 
 // Tables whose sets tell of a literal rule that is not in the list, or does not fit.
@@ -107,12 +107,12 @@ fn choose(
     total: usize,
     frame: &[u8],
     i: usize,
-) -> Result<Option<Chosen>, Unusable>
+) -> Result<Chosen, Unusable>
     requires { (s + set_size ≤ length sets.now) × (t + set_size ≤ length sets.now) × (valid image.now ≡ true) × (total ≡ total_of image.now) × (1 ≤ i) × (i < length frame.now) }
     ensures { Chooses image.now (choice_by image.now sets.now s t frame.now i) i result }
 {
     let Some(place) = lowest_place(sets, s, t, total) else {
-        return Ok(None);
+        return Ok(Chosen::Nothing);
     };
     if total <= place {
         return Err(Unusable);
@@ -122,11 +122,7 @@ fn choose(
         return Err(Unusable);
     }
     let rule = image::table::owner_at(image, place);
-    Ok(Some(Chosen {
-        rule,
-        fitting: count_shared(sets, s, t),
-        next: end,
-    }))
+    Ok(Chosen::Rule(rule, count_shared(sets, s, t), end))
 }
 
 // At each reached letter the rule chosen by its two remembered states is applied, and reading goes on after its target.
@@ -152,12 +148,12 @@ fn read_letters(
         let Ok(choice) = choose(sets, s, t, image, total, frame, i) else {
             return Err(Unread::BadTables);
         };
-        let Some(chosen) = choice else {
+        let Chosen::Rule(rule, fitting, next) = choice else {
             return Err(Unread::Uncovered(i));
         };
-        parts[count] = speech::part_of(chosen.rule, chosen.fitting);
+        parts[count] = speech::part_of(rule, fitting);
         count += 1;
-        i = chosen.next;
+        i = next;
     }
     Ok(count)
 }

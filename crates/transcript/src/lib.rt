@@ -1,8 +1,9 @@
 // What `say` answers: a name's line in and its answer's line out (document 01, "The six rules").
 #![tactic(auto)]
 
-ghost use Rattle.std.specs.Prelude.{◌≡◌, ◌≤◌, IfSome, length, drop};
+ghost use Rattle.std.specs.Prelude.{◌≡◌, true, ◌≤◌, IfSome, length, drop};
 ghost use Rattle.rules.specs.Memory.{over};
+ghost use Rattle.image.specs.Image.{valid};
 ghost use Rattle.frames.specs.Lines.{sound_line, line_after};
 ghost use Rattle.lines.specs.Printed.{printed};
 ghost use Rattle.answer_lines.specs.Answers.{longest_line};
@@ -54,17 +55,17 @@ pub struct Answered {
 
 // The answer to the line that starts at `at`, at the front of lent bytes.
 pub fn answer_name<'a>(
-    rules: Ruleset<'_>,
+    image: &[u8],
     words: &'a [u16],
     sets: &'a [u64],
     text: &[u8],
     at: usize,
     out: &mut [u8],
 ) -> Answered
-    requires { longest_line ≤ length out.old }
+    requires { (valid image.now ≡ true) × (longest_line ≤ length out.old) }
     ensures next { result.next ≡ line_after text.now at }
-    ensures len { result.len ≡ length (name_answer rules.entry.bytes.now words.now sets.now (drop at text.now)) }
-    ensures bytes { out.new ≡ over (name_answer rules.entry.bytes.now words.now sets.now (drop at text.now)) out.old }
+    ensures len { result.len ≡ length (name_answer image.now words.now sets.now (drop at text.now)) }
+    ensures bytes { out.new ≡ over (name_answer image.now words.now sets.now (drop at text.now)) out.old }
 {
     let next = frames::next_line(text, at);
     let mut frame = [0u8; 67];
@@ -72,6 +73,6 @@ pub fn answer_name<'a>(
         let len = lines::refusal_line(Refusal::BadLine(0), out);
         return Answered { next, len };
     };
-    let len = speak(rules, words, sets, &frame[1..end], out);
+    let len = speak(Ruleset { bytes: image }, words, sets, &frame[1..end], out);
     Answered { next, len }
 }

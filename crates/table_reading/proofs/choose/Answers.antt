@@ -1,28 +1,28 @@
 -- `table_reading::choose` meets its contract: the three cases of the literal rule at the place found.
 -- Assumes nothing.
-use Prim.Native.Nat.{ℕ, ◌+◌, ◌<◌, ◌≤◌}
-use mathlib.Core.Path.{◌≡◌, refl, sym, ap, ◌∙◌, subst}
+use Prim.Native.Nat.{ℕ, ◌+◌, ◌<◌}
+use mathlib.Core.Path.{◌≡◌, refl, sym, ap, ◌∙◌}
 use native.Mathlib.Omega.{arith}
 use lib.ListN.{length}
-use Rattle.std.specs.Prelude.{Option, Some, Result, Ok}
-use Rattle.rules.specs.Limits.{max_rules}
-use Rattle.image.specs.Image.{total_of, count_of, entry_at}
+use Rattle.std.specs.Prelude.{Result, Ok}
+use Rattle.image.specs.Image.{total_of, entry_at}
 use Rattle.fitting.specs.Reading.{apply, chosen}
 use Rattle.literals.specs.Places.{literal_entry}
 use Rattle.literals.proofs.Places.{target-long}
 use Rattle.literals.proofs.Ends.{ended_no, ended_yes, ended_at}
 use Rattle.table_reading.specs.declared.Chosen.{Chosen}
+use Rattle.table_reading.specs.declared.Chosen.TheVariants.{Rule}
 use Rattle.table_reading.specs.declared.Unusable.{Unusable}
 use Rattle.table_reading.proofs.Choosing.{found_none, found_some, none_shared, place_past, place_unfit, place_fits}
 use Rattle.table_reading.proofs.choose.Goals as goal
 
-same-chosen : (x y : Chosen) → ◌≡◌ {A = Result (Option Chosen) Unusable} (Ok (Some x)) (Ok (Some y)) → x ≡ y
-same-chosen x y e = cc
+same-rule : (p n k q m l : ℕ) → ◌≡◌ {A = Result Chosen Unusable} (Ok (Rule p n k)) (Ok (Rule q m l)) → (p ≡ q) × ((n ≡ m) × (k ≡ l))
+same-rule p n k q m l e = (cc, (cc, cc))
 
 pub returns-in_default : goal.returns-in_default
 returns-in_default c = record {
   is = sym (none_shared c.args.image.now c.args.sets.now c.args.s c.args.t c.args.frame.now c.args.i (found_none _ (sym c.in_default.ensures)));
-  inside = λ x e. let z : ◌≡◌ {A = ℕ} 0 1 = cc in omega arith;
+  inside = λ p n k e. let z : ◌≡◌ {A = ℕ} 0 1 = cc in omega arith;
 }
 
 pub returns-then-total-place : goal.returns-then-total-place
@@ -30,7 +30,7 @@ returns-then-total-place c = record {
   is =
       sym (place_past c.args.image.now c.args.sets.now c.args.s c.args.t c.args.frame.now c.args.i c.requires.2 c.in-Some.place (found_some _ _ (sym c.in-Some.ensures))
       (omega (arith, c.requires.3)));
-  inside = λ x e. let z : ◌≡◌ {A = ℕ} 0 1 = cc in omega arith;
+  inside = λ p n k e. let z : ◌≡◌ {A = ℕ} 0 1 = cc in omega arith;
 }
 
 pub returns-then-end-eq0 : goal.returns-then-end-eq0
@@ -38,7 +38,7 @@ returns-then-end-eq0 c = record {
   is =
       sym (place_unfit c.args.image.now c.args.sets.now c.args.s c.args.t c.args.frame.now c.args.i c.requires.2 c.in-Some.place (found_some _ _ (sym c.in-Some.ensures))
       (omega (arith, c.requires.3)) (ended_no _ (omega (arith, c.requires.4)) _ _ c.place_end-end.ensures c.if-end-eq0.true));
-  inside = λ x e. let z : ◌≡◌ {A = ℕ} 0 1 = cc in omega arith;
+  inside = λ p n k e. let z : ◌≡◌ {A = ℕ} 0 1 = cc in omega arith;
 }
 
 -- the literal rule at the place found is an expansion of the numbered rule that is told,
@@ -55,8 +55,12 @@ returns c = let owner = c.owner_at-rule in
           ap (λ (n : ℕ). chosen (apply n (entry_at image owner.result))) c.count_shared.ensures.0
           ∙ sym (place_fits image c.args.sets.now c.args.s c.args.t c.args.frame.now c.args.i c.requires.2 c.in-Some.place (found_some _ _ (sym c.in-Some.ensures))
           l fit owner.result owner.ensures.0);
-      inside = λ x e.
-          let d = same-chosen _ x e in
-          subst (λ (y : Chosen). (y.rule < count_of image) × ((y.fitting ≤ max_rules) × (y.next ≡ c.args.i + length (entry_at image y.rule).rule.target))) d
-          (omega (arith, owner.ensures.1), (omega (arith, c.count_shared.ensures.1), ended_at _ _ _ end.ensures fit ∙ ap (λ (m : ℕ). c.args.i + m) long));
+      inside = λ p n k e.
+          let d = same-rule _ _ _ p n k e in (
+            omega (arith, d.0, owner.ensures.1),
+            (
+              omega (arith, d.1.0, c.count_shared.ensures.1),
+              sym d.1.1 ∙ (ended_at _ _ _ end.ensures fit ∙ ap (λ (m : ℕ). c.args.i + m) (long ∙ ap (λ (q : ℕ). length (entry_at image q).rule.target) d.0)),
+            ),
+          );
     }

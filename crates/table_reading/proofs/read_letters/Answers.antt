@@ -1,16 +1,24 @@
 -- `table_reading::read_letters` meets its contract, by the loop invariant `Gone`: the rules applied so far, then the reading from i, are the whole reading.
 -- Assumes nothing.
 use Prim.Native.Nat.{ℕ, ◌+◌}
-use mathlib.Core.Path.{refl, sym, ap, ◌∙◌, subst}
+use mathlib.Core.Path.{◌≡◌, refl, sym, ap, ◌∙◌, subst}
+use mathlib.Core.List.{List}
 use native.Mathlib.Omega.{arith}
 use lib.ListN.{set, length-set}
 use Rattle.image.proofs.Tests.{valid_long, valid_count}
 use Rattle.image.proofs.Entries.{entry_shaped}
-use Rattle.std.specs.Prelude.{Option, Ok}
+use Rattle.std.specs.Prelude.{Ok}
+use Rattle.fitting.specs.Reading.{nothing}
 use Rattle.table_reading.specs.Letters.{choice_of}
 use Rattle.table_reading.specs.declared.Chosen.{Chosen}
+use Rattle.table_reading.specs.declared.Chosen.TheVariants.{Rule, Nothing}
 use Rattle.table_reading.proofs.Choosing.{Gone, begin, by_states, next, unusable_here, none_here, done}
 use Rattle.table_reading.proofs.read_letters.Goals as goal
+
+-- an answer that is no rule
+none_left : (image : List ℕ) (x : Chosen) → ((p n k : ℕ) → x ≡ Rule p n k → ⊥) → choice_of image (Ok x) ≡ nothing
+none_left image (Rule p n k) r = absurd (r p n k refl)
+none_left image Nothing r = refl
 
 pub literal_total-total-requires : goal.literal_total-total-requires
 literal_total-total-requires c = valid_long c.args.image.now c.requires.0
@@ -49,10 +57,10 @@ pub returns-in_default-choice : goal.returns-in_default-choice
 returns-in_default-choice c = let a = c.args in
     let k = c.loop-i in
     none_here a.image.now a.sets.now a.right_sets a.left.now a.right.now a.frame.now c.requires.0 k.parts k.count k.i k.invariant.0 (omega arith)
-    (sym (by_states a.image.now a.sets.now a.right_sets a.left.now a.right.now a.frame.now k.i _ _ c.from-s.ensures c.from.ensures _ c.in-Ok.ensures) ∙ ap (λ (x : Option Chosen). choice_of a.image.now (Ok x)) c.in_default-choice.is)
+    (sym (by_states a.image.now a.sets.now a.right_sets a.left.now a.right.now a.frame.now k.i _ _ c.from-s.ensures c.from.ensures _ c.in-Ok.ensures) ∙ none_left a.image.now _ c.in_default-choice.not-Rule)
 
 pub part_of-requires : goal.part_of-requires
-part_of-requires c = let h = c.in-Ok.ensures.inside _ (ap Ok c.in-Some.is) in
+part_of-requires c = let h = c.in-Ok.ensures.inside _ _ _ (ap Ok c.in-Rule.is) in
     (omega (arith, h.0, valid_count c.args.image.now c.requires.0), omega (arith, h.1.0))
 
 pub offset_bounds-parts-count : goal.offset_bounds-parts-count
@@ -65,19 +73,19 @@ pub overflow_add-count : goal.overflow_add-count
 overflow_add-count c = omega (arith, c.loop-i.invariant.0.behind)
 
 pub loop-i-smaller : goal.loop-i-smaller
-loop-i-smaller c = let h = c.in-Ok.ensures.inside _ (ap Ok c.in-Some.is) in
+loop-i-smaller c = let h = c.in-Ok.ensures.inside _ _ _ (ap Ok c.in-Rule.is) in
     let w = entry_shaped c.args.image.now c.requires.0 _ h.0 in
     omega (arith, h.1.1, w.target-least, c.loop-i.invariant.0.near)
 
 pub loop-i-preserved : goal.loop-i-preserved
 loop-i-preserved c = let a = c.args in
     let k = c.loop-i in
-    let h = c.in-Ok.ensures.inside _ (ap Ok c.in-Some.is) in
+    let h = c.in-Ok.ensures.inside _ _ _ (ap Ok c.in-Rule.is) in
     let w = entry_shaped a.image.now c.requires.0 _ h.0 in (
       subst (λ (x : ℕ). Gone a.image.now a.sets.now a.right_sets a.left.now a.right.now a.frame.now (set k.parts k.count c.part_of.result) (k.count + 1) x) (sym h.1.1)
           (next a.image.now a.sets.now a.right_sets a.left.now a.right.now a.frame.now c.requires.0 k.parts k.count k.i k.invariant.0 (omega arith)
           _ _
-          (sym (by_states a.image.now a.sets.now a.right_sets a.left.now a.right.now a.frame.now k.i _ _ c.from-s.ensures c.from.ensures _ c.in-Ok.ensures) ∙ ap (λ (x : Option Chosen). choice_of a.image.now (Ok x)) c.in-Some.is)
+          (sym (by_states a.image.now a.sets.now a.right_sets a.left.now a.right.now a.frame.now k.i _ _ c.from-s.ensures c.from.ensures _ c.in-Ok.ensures) ∙ ap (λ (x : Chosen). choice_of a.image.now (Ok x)) c.in-Rule.is)
           h.0 _ c.part_of.ensures _ refl w.target-least w.target-most),
       length-set k.parts k.count _ ∙ k.invariant.1,
     )

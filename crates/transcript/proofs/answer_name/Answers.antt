@@ -14,7 +14,7 @@ use Rattle.transcript.proofs.answer_name.Goals as goal
 pub returns-in_default : goal.returns-in_default
 returns-in_default c = let a = c.args in
     let h = c.name_in in
-    let e = ap (λ o. answer_to a.rules.bytes.now a.words.now a.sets.now (name_in o h.new.frame)) (sym c.in_default.is) ∙ answered a.rules.bytes.now a.words.now a.sets.now (drop a.at a.text.now) h.new.frame a.rules.sound h.result h.ensures.name in
+    let e = ap (λ o. answer_to a.image.now a.words.now a.sets.now (name_in o h.new.frame)) (sym c.in_default.is) ∙ answered a.image.now a.words.now a.sets.now (drop a.at a.text.now) h.new.frame c.requires.0 h.result h.ensures.name in
     let s = c.refusal_line-len in
     record {
       next = c.next_line-next.ensures;
@@ -25,7 +25,7 @@ returns-in_default c = let a = c.args in
 pub returns : goal.returns
 returns c = let a = c.args in
     let h = c.name_in in
-    let e = ap (λ o. answer_to a.rules.bytes.now a.words.now a.sets.now (name_in o h.new.frame)) (sym c.in-Some.is) ∙ answered a.rules.bytes.now a.words.now a.sets.now (drop a.at a.text.now) h.new.frame a.rules.sound h.result h.ensures.name in
+    let e = ap (λ o. answer_to a.image.now a.words.now a.sets.now (name_in o h.new.frame)) (sym c.in-Some.is) ∙ answered a.image.now a.words.now a.sets.now (drop a.at a.text.now) h.new.frame c.requires.0 h.result h.ensures.name in
     let s = c.speak-len in
     record {
       next = c.next_line-next.ensures;

@@ -21,6 +21,11 @@ returns-then-stale c = ap (λ (x : WalkAnswer). walked_of x c.args.phones.now c.
 pub returns-in_default : goal.returns-in_default
 returns-in_default c = ap (λ (x : WalkAnswer). walked_of x c.args.phones.now c.args.numbers.now) c.at_once-in_default.ensures ∙ ap (λ (o : Outcome). walkedAs o c.args.phones.now c.args.numbers.now) (through-unusable c.args.image.now c.args.compiled.now.words.now c.args.compiled.now.sets.now c.args.compiled.now.left_states c.args.compiled.now.right_states c.args.fit c.args.stale c.requires.0 c.args.list.now c.args.name.now c.requires.2.sound _ None c.in_default.ensures refl c.if-stale.false)
 
+-- All words that need the tables have passed: what follows reads by the states that the passes left, gives what
+-- was read, and tells how many entries were looked up. Where no word needs them, nothing is asked of the tables,
+-- which may then be of other lengths or of another edit count: `through_read` takes what the passes gave, whether
+-- the tables are fit or not.
+
 pub right_base-requires : goal.right_base-requires
 right_base-requires c = λ e. let f = (c.requires.0.facts e).sets-room in search rules
 
