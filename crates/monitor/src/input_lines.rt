@@ -47,7 +47,7 @@ impl Line {
 
 // The input: the piece that was read last, whose bytes before `end` have arrived, and those before `at` are in lines already; and the line that
 // has not ended. Once the input is over, nothing is read any more.
-#[derive(Drop)]
+#[derive(Clone, Copy)]
 pub struct Input {
     piece: [u8; PIECE],
     at: usize,

@@ -9,7 +9,7 @@ use mathlib.Core.Option.{Option as Maybe}
 use lib.Dec.{ltb, leb, eqb}
 use lib.ListN.{length, get_or, take, drop}
 use lib.Seq.{get_or-drop}
-use borrow.Author.Tests.{ltb-false, ltb-true, leb-true}
+use borrow.Author.Tests.{ltb-false, ltb-true, leb-true, le-leb, lt-ltb}
 use Rattle.std.specs.Prelude.{Option, is_some, unwrap_or, Err, Ok, Result}
 use Rattle.rules.proofs.Cases.{by_bool, and_l, and_r}
 use Rattle.rules.specs.Names.{SoundName}
@@ -206,6 +206,13 @@ module _ (ws ss : List ℕ) (l r : ℕ) where
         rows = leb-true (needed_words l r) (length ws) (and_l _ _ c);
         sets-room = leb-true (needed_sets l r) (length ss) (and_r (leb (needed_words l r) (length ws)) _ c);
       }
+
+  pub fits_not : (Fit (length ws) (length ss) l r → ⊥) → false ≡ lengths_fit (compiled_with ws ss l r)
+  fits_not h = sym (by_bool (lengths_fit (compiled_with ws ss l r)) (λ e. absurd (h (fit_true e))) (λ e. e))
+
+  pub fits_so : Fit (length ws) (length ss) l r → true ≡ lengths_fit (compiled_with ws ss l r)
+  fits_so f =
+      rw (le-leb head_words (length ws) (omega (arith, f.rows)), lt-ltb 0 l f.left, lt-ltb 0 r f.right, le-leb (needed_words l r) (length ws) f.rows, le-leb (needed_sets l r) (length ss) f.sets-room)
 
   -- so the tests of the lengths and of the edit count say whether names can be sent through
   pub tests_fit : (edits : ℕ) (long stale fit : Bool) → long ≡ lengths_fit (compiled_with ws ss l r) → stale ≡ (long && not (eqb (edits_in ws) edits)) → fit ≡ (long && not stale)
