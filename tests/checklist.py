@@ -3,10 +3,12 @@
 
     python3 tests/checklist.py crates/checklist/out/checklist --count 40 --seed 1
 
-The rulesets are the examples, the empty one and random ones; files that are refused must give one line that says FAULT.
+The rulesets are the examples, the empty one and random ones; files that are refused must give one line that says FAULT. Where the standard
+output takes no more than some bytes, each piece of a line for which there is room must come, whatever was lost before it.
 """
 
 import argparse
+import fcntl
 import os
 import re
 import subprocess
@@ -18,6 +20,18 @@ import reference as ref
 
 ROOT = os.path.dirname(os.path.dirname(os.path.abspath(__file__)))
 NAMED = re.compile(r"tried (\S+?),? (?:where rules (\d+) and (\d+) fit at (\d+), )?came (?:rules ([\d ]+)|refused (\d+) at (\d+))$")
+
+# What the checklist prints on examples/six.hex, a write each.
+PIECES = (
+    "ok     |the rule file read back: tried rules.hex|, came the same |145| bytes\n|"
+    "ok     |the last letter is silent: |tried |k|e|, came rules| |2| |3|\n|"
+    "ok     |two rules fit, the first in order is applied: |tried |k|n|, where rules |1| and |2| fit at |1|, came rules| |1| |6|\n|"
+    "none   |the last letters of classes: |none in this ruleset\n|"
+    "ok     |a letter that no rule covers: |tried |a|, came |refused |3| at |1|\n|"
+    "ok     |a rule leaves: tried number |6|, came |accepted|, the last number is |6|\n|"
+    "ok     |no number is given twice: tried a rule at place |5| after number |6|, came |accepted|, the last number is |7|\n|"
+    "ok     |the ruleset as it was: tried rules.hex again|, came the same |145| bytes\n"
+).split("|")
 
 
 def spelling(text):
@@ -36,6 +50,30 @@ def printed(program, rules_hex):
         with open(path, "rb") as file:
             assert file.read() == rules_hex, "rules.hex has changed"
     return done.stdout.decode("ascii").splitlines()
+
+
+def came_through(program, rules_hex, room):
+    """What is printed on a pipe that does not block and has room for so many bytes."""
+    with tempfile.TemporaryDirectory() as folder:
+        with open(os.path.join(folder, "rules.hex"), "wb") as file:
+            file.write(rules_hex)
+        reader, writer = os.pipe()
+        full = fcntl.fcntl(writer, fcntl.F_SETPIPE_SZ, 4096)
+        os.set_blocking(writer, False)
+        before = os.write(writer, bytes(full - room))
+        subprocess.run([program], cwd=folder, stdin=subprocess.DEVNULL, stdout=writer, timeout=60, check=True)
+        os.close(writer)
+        with open(reader, "rb") as pipe:
+            return pipe.read()[before:].decode("ascii")
+
+
+def that_fit(pieces, room):
+    """The pieces that come through: each for which there is room."""
+    through = ""
+    for piece in pieces:
+        if len(through) + len(piece) <= room:
+            through += piece
+    return through
 
 
 def agrees(line, ruleset):
@@ -90,7 +128,14 @@ def main():
         if wrong:
             sys.exit(f"checklist: {wrong}\nwith rules.hex\n{rules_hex.decode('latin-1')}")
         read += not isinstance(ref.read_file(rules_hex), ref.Refusal)
-    print(f"checklist: {len(files)} files, {read} of them rulesets, every line as the reference has it")
+    with open(os.path.join(ROOT, "examples", "six.hex"), "rb") as file:
+        six = file.read()
+    rooms = range(0, len("".join(PIECES)) + 1, 7)
+    for room in rooms:
+        through, wanted = came_through(program, six, room), that_fit(PIECES, room)
+        if through != wanted:
+            sys.exit(f"checklist: with room for {room} bytes\n{through!r}\ncomes in place of\n{wanted!r}")
+    print(f"checklist: {len(files)} files, {read} of them rulesets, every line as the reference has it, and each piece for which there is room, in {len(rooms)} rooms")
 
 
 main()

@@ -1,13 +1,14 @@
-// The items on the file and the edits. What cannot be printed is lost.
+// The items on the file and the edits.
 ghost use Rattle.std.specs.Prelude.{◌<◌, ◌≤◌, length};
 ghost use Rattle.rules.specs.Limits.{max_rules};
 ghost use Rattle.image.specs.Image.{image_size};
 
-use crate::printing::verdict;
+use crate::printing::{Output, verdict};
 use crate::refused::{Outcome, Refused, accepted};
 use crate::ruleset::Ruleset;
 use crate::searches::Tried;
 use rules::{MAX_NUMBER, Refusal, Rule};
+use std::fmt::Write;
 
 // Whether the ruleset's file has just these bytes.
 fn writes(image: &[u8], file: &[u8], out: &mut [u8]) -> bool {
@@ -18,7 +19,11 @@ fn writes(image: &[u8], file: &[u8], out: &mut [u8]) -> bool {
 }
 
 fn same(ok: bool) -> &'static str {
-    if ok { "the same" } else { "other than its" }
+    if ok {
+        ", came the same "
+    } else {
+        ", came other than its "
+    }
 }
 
 // Catches a ruleset that is not held as its file says.
@@ -27,8 +32,9 @@ pub fn read_back(rt: &impl Print, image: &[u8], file: &[u8], out: &mut [u8]) {
     let verdict = verdict(ok);
     let same = same(ok);
     let n = file.len();
-    let _ = println!(rt;
-        "{verdict} the rule file read back: tried rules.hex, came {same} {n} bytes"
+    let _ = writeln!(
+        Output { rt },
+        "{verdict}the rule file read back: tried rules.hex{same}{n} bytes"
     );
 }
 
@@ -40,8 +46,9 @@ fn drop_one(rt: &impl Print, image: &mut [u8], number: u16, last: u16)
     let now = image::last_issued(image);
     let verdict = verdict(answer.is_ok() && now == last);
     let came = Outcome(answer);
-    let _ = println!(rt;
-        "{verdict} a rule leaves: tried number {number}, came {came}, the last number is {now}"
+    let _ = writeln!(
+        Output { rt },
+        "{verdict}a rule leaves: tried number {number}, came {came}, the last number is {now}"
     );
 }
 
@@ -60,8 +67,9 @@ fn add_one(rt: &impl Print, image: &mut [u8], rule: Rule, place: usize, last: u1
     };
     let verdict = verdict(ok);
     let came = Outcome(answer);
-    let _ = println!(rt;
-        "{verdict} no number is given twice: tried a rule at place {place} after number {last}, came {came}, the last number is {now}"
+    let _ = writeln!(
+        Output { rt },
+        "{verdict}no number is given twice: tried a rule at place {place} after number {last}, came {came}, the last number is {now}"
     );
 }
 
@@ -85,14 +93,17 @@ pub fn edit(rt: &impl Print, image: &mut [u8]) {
         // The memory is no ruleset any more, and so no edit of it is accepted.
         let fault = verdict(false);
         let came = Refused::from(Refusal::NotRuleset(0));
-        let _ = println!(rt; "{fault} a rule leaves: came {came}");
-        let _ = println!(rt; "{fault} no number is given twice: came {came}");
+        let _ = writeln!(Output { rt }, "{fault}a rule leaves: came {came}");
+        let _ = writeln!(
+            Output { rt },
+            "{fault}no number is given twice: came {came}"
+        );
         return;
     };
     let rules = Ruleset { image: judged };
     let last = rules.last_issued();
     let Some(place) = rules.newest() else {
-        let _ = println!(rt; "none   a rule leaves: {}", Tried(0));
+        let _ = write!(Output { rt }, "none   a rule leaves: {}", Tried(0));
         add_one(rt, image, RULE_FOR_A, 0, last);
         return;
     };
@@ -109,7 +120,8 @@ pub fn restore(rt: &impl Print, image: &mut [u8], file: &[u8], out: &mut [u8]) {
     let verdict = verdict(ok);
     let same = same(ok);
     let n = file.len();
-    let _ = println!(rt;
-        "{verdict} the ruleset as it was: tried rules.hex again, came {same} {n} bytes"
+    let _ = writeln!(
+        Output { rt },
+        "{verdict}the ruleset as it was: tried rules.hex again{same}{n} bytes"
     );
 }

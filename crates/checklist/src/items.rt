@@ -1,10 +1,11 @@
 // The items on names: each finds its name in the ruleset, sends it through the walk and beside that through the plain reading.
 use crate::names::MAX_FRAME;
-use crate::printing::verdict;
+use crate::printing::{Output, verdict};
 use crate::ruleset::Ruleset;
 use crate::searches::{Found, Tried, UNCOVERED};
 use crate::speaking::{Came, Tables};
 use std::fmt;
+use std::fmt::Write;
 
 // What each catches: a walk that stops before the last letter, which its phones do not show where that letter is silent; one that applies
 // another than the first of the rules that fit, as the longest; one that takes a class for fewer letters than it has; one that skips or guesses
@@ -20,10 +21,10 @@ pub enum Item {
 impl Item {
     fn title(self) -> &'static str {
         match self {
-            Item::SilentEnd => "the last letter is silent",
-            Item::TwoFitting => "two rules fit, the first in order is applied",
-            Item::LastLetters => "the last letters of classes",
-            Item::Uncovered => "a letter that no rule covers",
+            Item::SilentEnd => "the last letter is silent: ",
+            Item::TwoFitting => "two rules fit, the first in order is applied: ",
+            Item::LastLetters => "the last letters of classes: ",
+            Item::Uncovered => "a letter that no rule covers: ",
         }
     }
 
@@ -65,12 +66,13 @@ impl fmt::Display for Found {
     }
 }
 
+// With the words that stand before it.
 impl fmt::Display for Came {
     fn fmt<W: fmt::Write>(&self, f: &mut fmt::Formatter<W>) -> fmt::Result {
         if let Err(x) = self.spoken {
-            return write!(f, "{x}");
+            return write!(f, ", came {x}");
         }
-        write!(f, "rules")?;
+        write!(f, ", came rules")?;
         for number in self.applied() {
             write!(f, " {number}")?;
         }
@@ -84,7 +86,7 @@ pub fn try_item(rt: &impl Print, item: Item, tables: Tables<'_>) {
     let title = item.title();
     let mut tried = Tried(0);
     let Some(found) = item.find(rules, &mut tried) else {
-        let _ = println!(rt; "none   {title}: {tried}");
+        let _ = write!(Output { rt }, "none   {title}{tried}");
         return;
     };
     let came = tables.walk(&found.name);
@@ -95,5 +97,5 @@ pub fn try_item(rt: &impl Print, item: Item, tables: Tables<'_>) {
     } else {
         ", unlike the plain reading"
     };
-    let _ = println!(rt; "{ok} {title}: tried {found}, came {came}{unlike}");
+    let _ = writeln!(Output { rt }, "{ok}{title}tried {found}{came}{unlike}");
 }

@@ -17,11 +17,12 @@ ghost use Rattle.image.specs.Image.{valid};
 
 use file_format::MAX_INPUT;
 use items::Item;
-use printing::verdict;
+use printing::{Output, verdict};
 use refused::{Refused, accepted};
 use rules::Refusal;
 use ruleset::Ruleset;
 use speaking::Tables;
+use std::fmt::Write;
 use std::rt::Files;
 
 // The rule file is read, then its tables are built.
@@ -63,7 +64,7 @@ fn run(
     let n = rules_hex::read(rt, &mut *buf);
     let file = &buf[..n];
     if let Err(x) = prepare(file, &mut *image, &mut *words, &mut *sets) {
-        let _ = println!(rt; "{} rules.hex: {x}", verdict(false));
+        let _ = writeln!(Output { rt }, "{}rules.hex: {x}", verdict(false));
         return;
     }
     editing::read_back(rt, image, file, &mut *out);

@@ -58,8 +58,8 @@ impl Tried {
 impl fmt::Display for Tried {
     fn fmt<W: fmt::Write>(&self, f: &mut fmt::Formatter<W>) -> fmt::Result {
         match self.0 {
-            0 => write!(f, "none in this ruleset"),
-            n => write!(f, "none found, names tried: {n}"),
+            0 => writeln!(f, "none in this ruleset"),
+            n => writeln!(f, "none found, names tried: {n}"),
         }
     }
 }
