@@ -21,17 +21,48 @@ import reference as ref
 ROOT = os.path.dirname(os.path.dirname(os.path.abspath(__file__)))
 NAMED = re.compile(r"tried (\S+?),? (?:where rules (\d+) and (\d+) fit at (\d+), )?came (?:rules ([\d ]+)|refused (\d+) at (\d+))$")
 
-# What the checklist prints on examples/six.hex, a write each.
-PIECES = (
-    "ok     |the rule file read back: tried rules.hex|, came the same |145| bytes\n|"
-    "ok     |the last letter is silent: |tried |k|e|, came rules| |2| |3|\n|"
-    "ok     |two rules fit, the first in order is applied: |tried |k|n|, where rules |1| and |2| fit at |1|, came rules| |1| |6|\n|"
-    "none   |the last letters of classes: |none in this ruleset\n|"
-    "ok     |a letter that no rule covers: |tried |a|, came |refused |3| at |1|\n|"
-    "ok     |a rule leaves: tried number |6|, came |accepted|, the last number is |6|\n|"
-    "ok     |no number is given twice: tried a rule at place |5| after number |6|, came |accepted|, the last number is |7|\n|"
-    "ok     |the ruleset as it was: tried rules.hex again|, came the same |145| bytes\n"
-).split("|")
+
+def example(name):
+    with open(os.path.join(ROOT, "examples", name), "rb") as file:
+        return file.read()
+
+
+# Two rules for a letter that has no sign of its own, the second silent and never applied; no number is left to give.
+NO_NUMBER_LEFT = ref.Ruleset(
+    (ref.Numbered(2, ref.Rule(target=b"\x1B", phones=b"\x61")), ref.Numbered(65535, ref.Rule(target=b"\x1B"))), last=65535)
+
+# Files, and what the checklist prints on each, a write for each piece.
+WRITES = [
+    (example("six.hex"),
+     "ok     |the rule file read back: tried rules.hex|, came the same |145| bytes\n|"
+     "ok     |the last letter is silent: |tried |k|e|, came rules| |2| |3|\n|"
+     "ok     |two rules fit, the first in order is applied: |tried |k|n|, where rules |1| and |2| fit at |1|, came rules| |1| |6|\n|"
+     "none   |the last letters of classes: |none in this ruleset\n|"
+     "ok     |a letter that no rule covers: |tried |a|, came |refused |3| at |1|\n|"
+     "ok     |a rule leaves: tried number |6|, came |accepted|, the last number is |6|\n|"
+     "ok     |no number is given twice: tried a rule at place |5| after number |6|, came |accepted|, the last number is |7|\n|"
+     "ok     |the ruleset as it was: tried rules.hex again|, came the same |145| bytes\n"),
+    (ref.file_text(ref.EMPTY),
+     "ok     |the rule file read back: tried rules.hex|, came the same |15| bytes\n|"
+     "none   |the last letter is silent: |none in this ruleset\n|"
+     "none   |two rules fit, the first in order is applied: |none in this ruleset\n|"
+     "none   |the last letters of classes: |none in this ruleset\n|"
+     "ok     |a letter that no rule covers: |tried |a|, came |refused |3| at |1|\n|"
+     "none   a rule leaves: |none in this ruleset\n|"
+     "ok     |no number is given twice: tried a rule at place |0| after number |0|, came |accepted|, the last number is |1|\n|"
+     "ok     |the ruleset as it was: tried rules.hex again|, came the same |15| bytes\n"),
+    (ref.file_text(NO_NUMBER_LEFT),
+     "ok     |the rule file read back: tried rules.hex|, came the same |55| bytes\n|"
+     "none   |the last letter is silent: |none found, names tried: |3|\n|"
+     "ok     |two rules fit, the first in order is applied: |tried |1B|, where rules |2| and |65535| fit at |1|, came rules| |2|\n|"
+     "none   |the last letters of classes: |none in this ruleset\n|"
+     "ok     |a letter that no rule covers: |tried |a|, came |refused |3| at |1|\n|"
+     "ok     |a rule leaves: tried number |65535|, came |accepted|, the last number is |65535|\n|"
+     "ok     |no number is given twice: tried a rule at place |1| after number |65535|, came |refused |10| at |0|"
+     ", the last number is |65535|\n|"
+     "ok     |the ruleset as it was: tried rules.hex again|, came the same |55| bytes\n"),
+    (b"", "FAULT  |rules.hex: |refused |13| at |0|\n"),
+]
 
 
 def spelling(text):
@@ -118,9 +149,7 @@ def main():
     given = arguments.parse_args()
     program = os.path.abspath(given.program)
     files = [ref.file_text(ref.EMPTY), b"", b"01\n"]
-    for name in ("six.hex", "basque.hex", "basque_classes.hex", "silent_e.hex"):
-        with open(os.path.join(ROOT, "examples", name), "rb") as file:
-            files.append(file.read())
+    files += [example(name) for name in ("six.hex", "basque.hex", "basque_classes.hex", "silent_e.hex")]
     files += [generate.say_case(f"{given.seed} {k}")[0] or b"" for k in range(given.count)]
     read = 0
     for rules_hex in files:
@@ -128,14 +157,16 @@ def main():
         if wrong:
             sys.exit(f"checklist: {wrong}\nwith rules.hex\n{rules_hex.decode('latin-1')}")
         read += not isinstance(ref.read_file(rules_hex), ref.Refusal)
-    with open(os.path.join(ROOT, "examples", "six.hex"), "rb") as file:
-        six = file.read()
-    rooms = range(0, len("".join(PIECES)) + 1, 7)
-    for room in rooms:
-        through, wanted = came_through(program, six, room), that_fit(PIECES, room)
-        if through != wanted:
-            sys.exit(f"checklist: with room for {room} bytes\n{through!r}\ncomes in place of\n{wanted!r}")
-    print(f"checklist: {len(files)} files, {read} of them rulesets, every line as the reference has it, and each piece for which there is room, in {len(rooms)} rooms")
+    rooms = 0
+    for rules_hex, writes in WRITES:
+        pieces = writes.split("|")
+        for room in range(len("".join(pieces)) + 1):
+            through, wanted = came_through(program, rules_hex, room), that_fit(pieces, room)
+            if through != wanted:
+                sys.exit(f"checklist: with room for {room} bytes comes\n{through!r}\nin place of\n{wanted!r}")
+            rooms += 1
+    print(f"checklist: {len(files)} files, {read} of them rulesets, every line as the reference has it; "
+          f"in {rooms} rooms, each piece of a line that fits")
 
 
 main()

@@ -1,8 +1,8 @@
 // How a line of the checklist is printed.
 use std::fmt;
 
-// The standard output, to which each piece of a line (a text of its format string, a letter, a number) is written by itself. A piece that
-// cannot be written is lost, and the next is tried: there is nowhere else to say so.
+// The standard output, to which each piece of a line is written by itself: a text between the holes of a format string; a text, a letter or a
+// number in a hole. What of a piece cannot be written is lost, and the next is tried: there is nowhere else to say so.
 #[derive(Drop)]
 pub struct Output<'a, R> {
     pub rt: &'a R,
