@@ -71,31 +71,33 @@ def spelling(text):
                  for c in re.findall(r"[a-z]|[0-9A-F]{2}", text))
 
 
-def printed(program, rules_hex):
-    """The lines for a rules.hex, which must be as it was afterwards."""
+def run(program, rules_hex, stdout):
+    """What was captured of a run on a rules.hex, which must be as it was afterwards."""
     with tempfile.TemporaryDirectory() as folder:
         path = os.path.join(folder, "rules.hex")
         with open(path, "wb") as file:
             file.write(rules_hex)
-        done = subprocess.run([program], cwd=folder, stdin=subprocess.DEVNULL, stdout=subprocess.PIPE, timeout=60, check=True)
+        done = subprocess.run([program], cwd=folder, stdin=subprocess.DEVNULL, stdout=stdout, timeout=60, check=True)
         with open(path, "rb") as file:
             assert file.read() == rules_hex, "rules.hex has changed"
-    return done.stdout.decode("ascii").splitlines()
+    return done.stdout
+
+
+def printed(program, rules_hex):
+    """The lines for a rules.hex."""
+    return run(program, rules_hex, subprocess.PIPE).decode("ascii").splitlines()
 
 
 def came_through(program, rules_hex, room):
     """What is printed on a pipe that does not block and has room for so many bytes."""
-    with tempfile.TemporaryDirectory() as folder:
-        with open(os.path.join(folder, "rules.hex"), "wb") as file:
-            file.write(rules_hex)
-        reader, writer = os.pipe()
-        full = fcntl.fcntl(writer, fcntl.F_SETPIPE_SZ, 4096)
-        os.set_blocking(writer, False)
-        before = os.write(writer, bytes(full - room))
-        subprocess.run([program], cwd=folder, stdin=subprocess.DEVNULL, stdout=writer, timeout=60, check=True)
-        os.close(writer)
-        with open(reader, "rb") as pipe:
-            return pipe.read()[before:].decode("ascii")
+    reader, writer = os.pipe()
+    full = fcntl.fcntl(writer, fcntl.F_SETPIPE_SZ, 4096)
+    os.set_blocking(writer, False)
+    before = os.write(writer, bytes(full - room))
+    run(program, rules_hex, writer)
+    os.close(writer)
+    with open(reader, "rb") as pipe:
+        return pipe.read()[before:].decode("ascii")
 
 
 def that_fit(pieces, room):

@@ -1,4 +1,6 @@
 // How a line of the checklist is printed.
+ghost use Rattle.std.specs.Prelude.{IsOk};
+
 use std::fmt;
 
 // The standard output, to which each piece of a line is written by itself: a text between the holes of a format string; a text, a letter or a
@@ -9,7 +11,10 @@ pub struct Output<'a, R> {
 }
 
 impl<R: Print> fmt::Write for Output<'_, R> {
-    fn write_str(&mut self, s: &str) -> fmt::Result {
+    // Never fails: after a failure nothing more of the line would be written.
+    fn write_str(&mut self, s: &str) -> fmt::Result
+        ensures { IsOk result }
+    {
         let _ = self.rt.write_all(s.as_bytes());
         Ok(())
     }
